@@ -1,0 +1,4 @@
+pub mod Point
+pub mod Triangle
+pub mod Interior
+pub mod Box

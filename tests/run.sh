@@ -1,0 +1,42 @@
+#!/usr/bin/env bash
+# Every test of the project. The last line is 'N passed, M failed', over rt ci and the project's own tests.
+set -u
+cd "$(dirname "$0")/.."
+passed=0
+failed=0
+log=$(mktemp)
+trap 'rm -f "$log"' EXIT
+
+# runs a test by name; it passes when its command exits with 0
+check() {
+    local name=$1
+    shift
+    echo "== $name"
+    if "$@"; then
+        passed=$((passed + 1))
+    else
+        failed=$((failed + 1))
+        echo "FAILED: $name"
+    fi
+}
+
+echo "== rt ci: prove every crate, try the must-fail edits, run the programs"
+rt ci 2>&1 | tee "$log"
+verdict=${PIPESTATUS[0]}
+last=$(tail -n 1 "$log")
+if [[ $last =~ ^([0-9]+)\ passed,\ ([0-9]+)\ failed$ ]]; then
+    passed=$((passed + BASH_REMATCH[1]))
+    failed=$((failed + BASH_REMATCH[2]))
+    if [ "$verdict" -ne 0 ] && [ "${BASH_REMATCH[2]}" -eq 0 ]; then
+        failed=$((failed + 1))
+        echo "FAILED: rt ci exited with $verdict"
+    fi
+else
+    failed=$((failed + 1))
+    echo "FAILED: rt ci printed no verdict"
+fi
+
+check "layout of the sources (rt fmt --check)" rt fmt --check
+
+echo "$passed passed, $failed failed"
+[ "$failed" -eq 0 ]
