@@ -1,0 +1,89 @@
+-- Document 01, "Chart buffers": the lists that a caller lends, the chain rule, and what a filed chart holds.
+-- Assumes nothing.
+use mathlib.Core.Bool.{Bool, true, false, _&&_, _||_}
+use mathlib.Core.List.{List, [], _∷_, _++_, map}
+use Prim.Native.Nat.{ℕ, _-_}
+use lib.Dec.{leb, ltb, eqb}
+use lib.ListN.{length, take, drop, replicate}
+use Rattle.lists.specs.Lists.{all}
+use Rattle.orthtree.specs.Entries.{Entry, sameCell, chain}
+use Rattle.plane.specs.Triangle.{proper}
+use Rattle.squares.specs.Square.{arity, depth}
+use Rattle.chart_spec.specs.Table.{Table, tableOf, tableNumbers, tableLength, maxTriangles}
+use Rattle.chart_spec.specs.Cells.{entriesOf, maxEntries}
+
+-- "table of 3,072 numbers, three entry lists of 16,384", and the two counts that the caller also passes
+pub record Chart : Type 0 where
+  pub table : List ℕ
+  pub keys : List ℕ
+  pub levels : List ℕ
+  pub items : List ℕ
+  pub triangleCount : ℕ
+  pub entryCount : ℕ
+
+-- "pairs of 8,192 (16-bit, i then j for each pair)"
+abbrev pub pairsLength : ℕ
+pairsLength = 8192
+
+-- refusal 1 of a chart: "a lent buffer is shorter than above"
+unfoldable pub tooShort : Chart → Bool
+tooShort c =
+    ltb (length (c .table)) tableLength
+    || ltb (length (c .keys)) maxEntries
+    || ltb (length (c .levels)) maxEntries
+    || ltb (length (c .items)) maxEntries
+
+-- "each written list holds 0 after its last used place, up to the lengths above"; "more is allowed and stays untouched"
+unfoldable pub padded : ℕ → List ℕ → List ℕ → List ℕ
+padded n used before = used ++ replicate (n - length used) 0 ++ drop n before
+
+-- entries from their keys, levels and triangle numbers
+unfoldable pub zipEntries : List ℕ → List ℕ → List ℕ → List Entry
+zipEntries [] ls is = []
+zipEntries (k ∷ ks) [] is = []
+zipEntries (k ∷ ks) (l ∷ ls) [] = []
+zipEntries (k ∷ ks) (l ∷ ls) (i ∷ is) = record { key = k; level = l; item = i } ∷ zipEntries ks ls is
+
+-- the triangles that the chart's table and count hold
+unfoldable pub chartTable : Chart → Table
+chartTable c = tableOf (c .table) (c .triangleCount)
+
+-- the entries that the chart's entry lists and count hold
+unfoldable pub chartEntries : Chart → List Entry
+chartEntries c = take (c .entryCount) (zipEntries (c .keys) (c .levels) (c .items))
+
+-- "The chain rule: triangle count ≤ 512, every triangle with D > 0; entry count 1 to 16,384; .."; the rest is `chain`
+unfoldable pub chainRule : Chart → Bool
+chainRule c =
+    leb (c .triangleCount) maxTriangles
+    && all (λ t. proper t) (chartTable c)
+    && leb 1 (c .entryCount)
+    && leb (c .entryCount) maxEntries
+    && chain arity depth (c .triangleCount) (chartEntries c)
+
+-- the two lists of entries are the same
+unfoldable pub sameEntries : List Entry → List Entry → Bool
+sameEntries [] [] = true
+sameEntries [] (f ∷ fs) = false
+sameEntries (e ∷ es) [] = false
+sameEntries (e ∷ es) (f ∷ fs) =
+    elim (sameCell e f && eqb (e .item) (f .item)) [ true ↦ sameEntries es fs | false ↦ false ]
+
+-- the entries are those of the table; refusal 3 when they are not
+unfoldable pub filed : Chart → Bool
+filed c = sameEntries (chartEntries c) (entriesOf (chartTable c))
+
+-- the chart that holds the table and the given entries, in the buffers of c
+unfoldable pub chartWith : Chart → Table → List Entry → Chart
+chartWith c t es = record {
+  table = padded tableLength (tableNumbers t) (c .table);
+  keys = padded maxEntries (map (λ e. e .key) es) (c .keys);
+  levels = padded maxEntries (map (λ e. e .level) es) (c .levels);
+  items = padded maxEntries (map (λ e. e .item) es) (c .items);
+  triangleCount = length t;
+  entryCount = length es;
+}
+
+-- the chart that an accepted load or edit leaves: the table with its own entries
+unfoldable pub filedChart : Chart → Table → Chart
+filedChart c t = chartWith c t (entriesOf t)

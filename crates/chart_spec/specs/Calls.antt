@@ -1,0 +1,138 @@
+-- The public calls: for each one function from everything at entry to everything at exit, refusals included
+-- (document 01, "Chart buffers", "Reading", "Overlay", "Numbers a call can give"). What a result does not name, a call
+-- does not touch.
+-- Assumes nothing.
+use mathlib.Core.Bool.{Bool, true, false, not, _||_}
+use mathlib.Core.List.{List, [], _∷_, flatMap}
+use mathlib.Core.Option.{Option, none, some}
+use Prim.Native.Nat.{ℕ}
+use lib.Dec.{ltb}
+use lib.ListN.{length}
+use Rattle.plane.specs.declared.Point.{Point}
+use Rattle.chart_spec.specs.Table.{Table}
+use Rattle.chart_spec.specs.Refusals.{Refusal, shortBuffer, brokenChain, staleEntries, tooManyPairs, numberOf, valueOf, Outcome, refused, done, refuseIf, outcomeNumber, doneOr}
+use Rattle.chart_spec.specs.Edits.{Event, load, split, takeOut, flip, eventOn}
+use Rattle.chart_spec.specs.Overlay.{Pair, Hatch, overlayOf}
+use Rattle.chart_spec.specs.Buffers.{Chart, tooShort, chainRule, filed, filedChart, chartTable, chartEntries, padded, pairsLength}
+use Rattle.chart_spec.specs.Reading.{located, listing, sound, totalArea}
+
+-- Load and the edits
+
+-- what a load or an edit gives back: the number, the triangle of refusal 5 or else 0, and the chart's lists and counts
+pub record Changed : Type 0 where
+  pub number : ℕ
+  pub value : ℕ
+  pub chart : Chart
+
+-- "Buffers and counts keep their former contents" at a refusal; else they hold the new table and its entries
+unfoldable pub changedBy : Chart → Outcome Table → Changed
+changedBy c (refused r) = record { number = numberOf r; value = valueOf r; chart = c }
+changedBy c (done t) = record { number = 0; value = 0; chart = filedChart c t }
+
+-- the table given is not one of the lent buffers; 2 and 3 are not judged
+unfoldable pub loadCall : List ℕ → Chart → Changed
+loadCall ns c = changedBy c (refuseIf (tooShort c) shortBuffer (eventOn (load ns) (chartTable c)))
+
+-- split, take-out and flip: 1, 2 and 3, then what the event comes to on the chart's table
+unfoldable pub editCall : Event → Chart → Changed
+editCall e c =
+    changedBy c
+    (refuseIf (tooShort c) shortBuffer
+    (refuseIf (not (chainRule c)) brokenChain (refuseIf (not (filed c)) staleEntries (eventOn e (chartTable c)))))
+
+unfoldable pub splitCall : ℕ → Point → Chart → Changed
+splitCall t p = editCall (split t p)
+
+unfoldable pub takeOutCall : Point → Chart → Changed
+takeOutCall p = editCall (takeOut p)
+
+unfoldable pub flipCall : ℕ → ℕ → Chart → Changed
+flipCall i j = editCall (flip i j)
+
+-- Readers
+
+-- 1 and 2, then what is read
+unfoldable pub reading : {A : Type 0} → Chart → A → Outcome A
+reading c a = refuseIf (tooShort c) shortBuffer (refuseIf (not (chainRule c)) brokenChain (done a))
+
+-- the number, and the triangle found; none is nowhere
+pub record Located : Type 0 where
+  pub number : ℕ
+  pub found : Option ℕ
+
+-- "locate's answer is nowhere" at a refusal
+unfoldable pub locateCall : Chart → Point → Located
+locateCall c p =
+    let o : Outcome (Option ℕ) = reading c (located (chartTable c) (chartEntries c) p) in
+    record { number = outcomeNumber o; found = doneOr none o }
+
+-- "an empty part for .. refusals 1 and 2. It returns that part alone, without a number"
+unfoldable pub listingCall : Chart → Point → List ℕ
+listingCall c p = doneOr [] (reading c (listing (chartEntries c) p))
+
+-- the number, and whether the chart is sound
+pub record Soundness : Type 0 where
+  pub number : ℕ
+  pub isSound : Bool
+
+-- "soundness is no" at a refusal
+unfoldable pub soundCall : Chart → Soundness
+soundCall c =
+    let o : Outcome Bool = reading c (sound (chartTable c)) in
+    record { number = outcomeNumber o; isSound = doneOr false o }
+
+-- the number, and the doubled area
+pub record Area : Type 0 where
+  pub number : ℕ
+  pub area : ℕ
+
+-- "Other numbers returned are 0" at a refusal
+unfoldable pub areaCall : Chart → Area
+areaCall c =
+    let o : Outcome ℕ = reading c (totalArea (chartTable c)) in
+    record { number = outcomeNumber o; area = doneOr 0 o }
+
+-- Overlay
+
+-- the number, the pair count, the meetings, and the pairs list
+pub record Overlaid : Type 0 where
+  pub number : ℕ
+  pub pairCount : ℕ
+  pub meets : ℕ
+  pub pairs : List ℕ
+
+-- "i then j for each pair"
+unfoldable pub pairNumbers : List Pair → List ℕ
+pairNumbers ps = flatMap (λ p. p .i ∷ p .j ∷ []) ps
+
+-- at refusals the pairs keep their contents, "except at 12": "12, and 8,192 zeros in pairs"
+unfoldable pub pairsRefused : Refusal → List ℕ → List ℕ
+pairsRefused tooManyPairs before = padded pairsLength [] before
+pairsRefused shortBuffer before = before
+pairsRefused brokenChain before = before
+pairsRefused staleEntries before = before
+pairsRefused Refusal.badLength before = before
+pairsRefused (Refusal.faultyTriangle i) before = before
+pairsRefused Refusal.noSuchTriangle before = before
+pairsRefused Refusal.notInside before = before
+pairsRefused Refusal.notThreeAround before = before
+pairsRefused Refusal.noFlip before = before
+pairsRefused Refusal.tableFull before = before
+pairsRefused Refusal.tooManyEntries before = before
+
+unfoldable pub overlaidBy : List ℕ → Outcome Hatch → Overlaid
+overlaidBy before (refused r) = record { number = numberOf r; pairCount = 0; meets = 0; pairs = pairsRefused r before }
+overlaidBy before (done h) = record {
+  number = 0;
+  pairCount = length (h .pairs);
+  meets = h .meets;
+  pairs = padded pairsLength (pairNumbers (h .pairs)) before;
+}
+
+-- 1 judges the buffers of both charts and the pairs, then 2 both charts
+unfoldable pub overlayCall : Chart → Chart → List ℕ → Overlaid
+overlayCall c d pairs =
+    overlaidBy pairs
+    (refuseIf (tooShort c || tooShort d || ltb (length pairs) pairsLength) shortBuffer
+    (refuseIf (not (chainRule c) || not (chainRule d)) brokenChain
+    (overlayOf (chartTable c) (chartEntries c) (chartTable d) (chartEntries d))))

@@ -1,0 +1,1 @@
+// Lists: definitions and laws for the crates above. No code.

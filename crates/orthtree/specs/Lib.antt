@@ -1,0 +1,3 @@
+pub mod Morton
+pub mod Leaves
+pub mod Entries

@@ -1,0 +1,1 @@
+// Orthtrees of any arity and depth: keys, leaves, entries and chains. No code.
