@@ -1,25 +1,130 @@
+-- Document 01, "Marked cases": one table of rows, each what the definitions give beside what the document states, and one
+-- statement that covers the rows, by computation. Numbers, points, entries and triangles are written out as numbers.
+-- Assumes nothing.
 use mathlib.Core.Path.{_≡_, refl}
-use mathlib.Core.List.{List, [], _∷_, map}
+use mathlib.Core.Bool.{Bool, true, false}
+use mathlib.Core.List.{List, [], _∷_, _++_, map, flatMap}
+use mathlib.Core.Option.{Option, none, some}
 use Prim.Native.Nat.{ℕ, _+_, _*_}
+use lib.ListN.{length}
+use Rattle.orthtree.specs.Entries.{Entry}
 use Rattle.plane.specs.declared.Point.{Point}
 use Rattle.plane.specs.Triangle.{Triangle}
-use Rattle.orthtree.specs.Entries.{Entry}
-use Rattle.chart_spec.specs.Cells.{entriesOf}
-use Rattle.chart_spec.specs.Edits.{triangle}
-use Rattle.chart_spec.specs.Log.{logOf}
+use Rattle.squares.specs.declared.Square.{Square}
+use Rattle.squares.specs.Square.{zOrder, squareKey}
+use Rattle.chart_spec.specs.Table.{Table, tableNumbers}
+use Rattle.chart_spec.specs.Cells.{cells, cellEntries, entriesOf}
+use Rattle.chart_spec.specs.Refusals.{Outcome, refused, done, numberOf, valueOf}
+use Rattle.chart_spec.specs.Edits.{Event, load, split, takeOut, flip, eventOn, triangle}
+use Rattle.chart_spec.specs.Overlay.{Hatch, overlayOf}
+use Rattle.chart_spec.specs.Calls.{pairNumbers}
+use Rattle.chart_spec.specs.Reading.{located, totalArea}
+use Rattle.chart_spec.specs.History.{plainTable}
 use Rattle.chart_spec.proofs.Evaluate.{evaluate}
 
-pt : ℕ → ℕ → Point
-pt x y = record { x = x; y = y }
+-- Ways to write results as numbers
 
-U : Triangle
-unfolding evaluate pt
-U = triangle (pt 0 0) (pt 65535 0) (pt 0 65535)
+-- the point x, y
+abbrev pub at : ℕ → ℕ → Point
+at x y = record { x = x; y = y }
 
-t1 : map (λ e. e .key) (entriesOf (U ∷ [])) ≡ 0 ∷ 268435456 ∷ 536870912 ∷ 805306368 ∷ 1073741824 ∷ 2147483648 ∷ 3221225472 ∷ []
-unfolding evaluate pt U
-t1 = refl
+-- key, level and triangle of each entry
+abbrev pub entryNumbers : List Entry → List ℕ
+entryNumbers es = flatMap (λ e. e .key ∷ e .level ∷ e .item ∷ []) es
 
-log1 : logOf (1 ∷ 0 ∷ 0 ∷ 0 ∷ 0 ∷ 255 ∷ 255 ∷ 0 ∷ 0 ∷ 0 ∷ 0 ∷ 255 ∷ 255 ∷ 2 ∷ 0 ∷ []) ≡ 111 ∷ 118 ∷ 101 ∷ 114 ∷ 108 ∷ 97 ∷ 121 ∷ 32 ∷ 108 ∷ 111 ∷ 103 ∷ 10 ∷ 50 ∷ 32 ∷ 48 ∷ 32 ∷ 55 ∷ 10 ∷ []
+-- key and level of each cell
+abbrev pub cellNumbers : List Square → List ℕ
+cellNumbers ss = flatMap (λ s. squareKey s ∷ s .level ∷ []) ss
+
+-- 1 and the triangle, or 0 for nowhere
+abbrev pub foundNumbers : Option ℕ → List ℕ
+foundNumbers none = 0 ∷ []
+foundNumbers (some i) = 1 ∷ i ∷ []
+
+-- 0 and the table's numbers, or the refusal's number and value
+abbrev pub outcomeNumbers : Outcome Table → List ℕ
+outcomeNumbers (refused r) = numberOf r ∷ valueOf r ∷ []
+outcomeNumbers (done t) = 0 ∷ tableNumbers t
+
+-- 0, pair count, meetings and pairs, or the refusal's number
+abbrev pub hatchNumbers : Outcome Hatch → List ℕ
+hatchNumbers (refused r) = numberOf r ∷ []
+hatchNumbers (done h) = 0 ∷ length (h .pairs) ∷ h .meets ∷ pairNumbers (h .pairs)
+
+-- locate in a table, filed
+abbrev pub locatedIn : Table → Point → List ℕ
+locatedIn t p = foundNumbers (located t (entriesOf t) p)
+
+-- overlay of two tables, filed
+abbrev pub overlaid : Table → Table → List ℕ
+overlaid s t = hatchNumbers (overlayOf s (entriesOf s) t (entriesOf t))
+
+-- The rows
+
+-- what the definitions give, and what document 01 states
+pub record Row : Type 0 where
+  pub given : List ℕ
+  pub stated : List ℕ
+
+-- "U is (0,0) (65535,0) (0,65535)"
+abbrev U : Triangle
+U = record { a = at 0 0; b = at 65535 0; c = at 0 65535 }
+
+-- "V is (65535,65535) (0,65535) (65535,0)"
+abbrev Vt : Triangle
+Vt = record { a = at 65535 65535; b = at 0 65535; c = at 65535 0 }
+
+-- "UV has U as 0, V as 1"
+abbrev UV : Table
+UV = U ∷ Vt ∷ []
+
+-- "q = 268,435,456"
+abbrev q : ℕ
+q = 268435456
+
+-- cases 1 to 10, in order
+abbrev markedCases : List Row
+markedCases =
+    record { given = zOrder (at 3 1) ∷ zOrder (at 2 3) ∷ zOrder (at 0 32768) ∷ []; stated = 7 ∷ 14 ∷ 2147483648 ∷ [] }
+    ∷ record { given = entryNumbers (entriesOf []); stated = 0 ∷ 0 ∷ 65535 ∷ [] }
+    ∷ record {
+      given = entryNumbers (entriesOf (U ∷ []));
+      stated = 0 ∷ 2 ∷ 0 ∷ q ∷ 2 ∷ 0 ∷ 2 * q ∷ 2 ∷ 0 ∷ 3 * q ∷ 2 ∷ 0 ∷ 4 * q ∷ 1 ∷ 0 ∷ 8 * q ∷ 1 ∷ 0 ∷ 12 * q ∷ 1 ∷ 65535 ∷ [];
+    }
+    ∷ record {
+      given = entryNumbers (entriesOf (Vt ∷ []));
+      stated = 0 ∷ 1 ∷ 0 ∷ 4 * q ∷ 1 ∷ 0 ∷ 8 * q ∷ 1 ∷ 0 ∷ 12 * q ∷ 1 ∷ 0 ∷ [];
+    }
+    ∷ record { given = cellNumbers (cells UV); stated = cellNumbers (cells (U ∷ [])) }
+    ∷ record { given = map (λ s. length (cellEntries UV s)) (cells UV); stated = 1 ∷ 1 ∷ 1 ∷ 2 ∷ 2 ∷ 2 ∷ 1 ∷ [] }
+    ∷ record { given = locatedIn (U ∷ []) (at 32768 32767); stated = 1 ∷ 0 ∷ [] }
+    ∷ record { given = locatedIn (U ∷ []) (at 32768 32768); stated = 0 ∷ [] }
+    ∷ record { given = locatedIn UV (at 65535 0); stated = 1 ∷ 0 ∷ [] }
+    ∷ record { given = overlaid (U ∷ []) (Vt ∷ []); stated = 0 ∷ 0 ∷ 7 ∷ [] }
+    ∷ record { given = overlaid (U ∷ []) (U ∷ []); stated = 0 ∷ 1 ∷ 7 ∷ 0 ∷ 0 ∷ [] }
+    ∷ record {
+      given = outcomeNumbers (eventOn (flip 0 1) UV);
+      stated = 0 ∷ 65535 ∷ 0 ∷ 65535 ∷ 65535 ∷ 0 ∷ 0 ∷ 65535 ∷ 65535 ∷ 0 ∷ 65535 ∷ 0 ∷ 0 ∷ [];
+    }
+    ∷ record {
+      given = totalArea UV ∷ totalArea (plainTable (load (tableNumbers UV) ∷ flip 0 1 ∷ [])) ∷ [];
+      stated = 8589672450 ∷ 8589672450 ∷ [];
+    }
+    ∷ record { given = outcomeNumbers (eventOn (flip 0 0) UV); stated = 9 ∷ 0 ∷ [] }
+    ∷ record {
+      given = tableNumbers (plainTable (load (tableNumbers (U ∷ [])) ∷ split 0 (at 10000 10000) ∷ takeOut (at 10000 10000) ∷ []));
+      stated = tableNumbers (U ∷ []);
+    }
+    ∷ record {
+      given = outcomeNumbers (eventOn (takeOut (at 10000 10000)) (plainTable (load (tableNumbers (U ∷ [])) ∷ split 0 (at 10000 10000) ∷ [])));
+      stated = 0 ∷ tableNumbers (U ∷ []);
+    }
+    ∷ record { given = outcomeNumbers (eventOn (split 0 (at 32768 32767)) (U ∷ [])); stated = 7 ∷ 0 ∷ [] }
+    ∷ record { given = outcomeNumbers (eventOn (load (0 ∷ 0 ∷ 5 ∷ 5 ∷ 9 ∷ 9 ∷ [])) []); stated = 5 ∷ 0 ∷ [] }
+    ∷ record { given = outcomeNumbers (eventOn (load (0 ∷ 0 ∷ 5 ∷ 5 ∷ 9 ∷ 9 ∷ 1 ∷ [])) []); stated = 4 ∷ 0 ∷ [] }
+    ∷ []
+
+-- every row gives what document 01 states
+pub marked-cases : map (λ r. r .given) markedCases ≡ map (λ r. r .stated) markedCases
 unfolding evaluate
-log1 = refl
+marked-cases = refl
