@@ -1,0 +1,556 @@
+//! Marked cases of document 01, the readings on raw buffers, and the model's
+//! means checked against plainer ones.
+
+use crate::gen::{stream, Rng};
+use crate::model::*;
+use crate::run_calls;
+
+const U: [u16; 6] = [0, 0, 65535, 0, 0, 65535];
+const V: [u16; 6] = [65535, 65535, 0, 65535, 65535, 0];
+const Q: u32 = 268_435_456;
+
+fn uv() -> Vec<u16> {
+    [U, V].concat()
+}
+
+fn loaded(numbers: &[u16]) -> Chart {
+    let mut c = Chart::blank();
+    assert_eq!(c.load(numbers).number, 0);
+    c
+}
+
+fn list(c: &Chart) -> Vec<(u32, u8, u16)> {
+    c.used_entries().iter().map(|e| (e.key, e.level, e.tri)).collect()
+}
+
+fn numbers(c: &Chart) -> Vec<u16> {
+    c.table[..6 * c.n as usize].to_vec()
+}
+
+fn over(a: &Chart, b: &Chart) -> (u8, Vec<u16>, u64) {
+    let mut pairs = vec![9; PAIRS_LEN + 3];
+    let r = overlay(a, b, &mut pairs);
+    assert_eq!(&pairs[PAIRS_LEN..], [9, 9, 9]);
+    assert!(r.number == 1 || r.number == 2 || pairs[2 * r.pairs as usize..PAIRS_LEN].iter().all(|&v| v == 0));
+    (r.number, pairs[..2 * r.pairs as usize].to_vec(), r.meetings)
+}
+
+// ------------------------------------------------------------ marked cases
+
+#[test]
+fn case_1() {
+    assert_eq!((z(3, 1), z(2, 3), z(0, 32768)), (7, 14, 2_147_483_648));
+}
+
+#[test]
+fn case_2() {
+    assert_eq!(list(&loaded(&[])), [(0, 0, 65535)]);
+}
+
+#[test]
+fn case_3() {
+    assert_eq!(
+        list(&loaded(&U)),
+        [(0, 2, 0), (Q, 2, 0), (2 * Q, 2, 0), (3 * Q, 2, 0), (4 * Q, 1, 0), (8 * Q, 1, 0), (12 * Q, 1, MARK)]
+    );
+}
+
+#[test]
+fn case_4() {
+    assert_eq!(list(&loaded(&V)), [(0, 1, 0), (4 * Q, 1, 0), (8 * Q, 1, 0), (12 * Q, 1, 0)]);
+}
+
+#[test]
+fn case_5() {
+    let (u, both) = (loaded(&U), loaded(&uv()));
+    let sizes: Vec<usize> = cells_of(&both.used_entries()).iter().map(|c| c.tris.len()).collect();
+    assert_eq!(sizes, [1, 1, 1, 2, 2, 2, 1]);
+    let ranges = |c: &Chart| cells_of(&c.used_entries()).iter().map(|c| (c.start, c.end)).collect::<Vec<_>>();
+    assert_eq!(ranges(&u), ranges(&both));
+}
+
+#[test]
+fn case_6() {
+    let u = loaded(&U);
+    assert_eq!(u.locate(32768, 32767), (0, Some(0)));
+    assert_eq!(u.locate(32768, 32768), (0, None));
+    assert_eq!(loaded(&uv()).locate(65535, 0), (0, Some(0)));
+}
+
+#[test]
+fn case_7() {
+    let (u, v) = (loaded(&U), loaded(&V));
+    assert_eq!(over(&u, &v), (0, vec![], 7));
+    assert_eq!(over(&u, &u), (0, vec![0, 0], 7));
+}
+
+#[test]
+fn case_8() {
+    let mut c = loaded(&uv());
+    assert_eq!(c.area(), (0, 8_589_672_450));
+    assert_eq!(c.clone().flip(0, 0).number, 9);
+    assert_eq!(c.flip(0, 1).number, 0);
+    assert_eq!(numbers(&c), [65535, 0, 65535, 65535, 0, 0, 65535, 65535, 0, 65535, 0, 0]);
+    assert_eq!(c.area(), (0, 8_589_672_450));
+    assert_eq!(c.flip(0, 0).number, 9);
+}
+
+#[test]
+fn case_9() {
+    let mut c = loaded(&U);
+    let before = c.clone();
+    assert_eq!(c.split(0, pt(32768, 32767)).number, 7);
+    assert!(c == before);
+    assert_eq!(c.split(0, pt(10000, 10000)).number, 0);
+    assert_eq!(c.n, 3);
+    assert_eq!(c.take_out(pt(10000, 10000)).number, 0);
+    assert!(c == before);
+}
+
+#[test]
+fn case_10() {
+    let mut c = Chart::blank();
+    let r = c.load(&[0, 0, 5, 5, 9, 9]);
+    assert_eq!((r.number, r.triangle), (5, 0));
+    assert_eq!(c.load(&[0; 7]).number, 4);
+    assert!(c == Chart::blank());
+}
+
+#[test]
+fn the_shown_log() {
+    let mut s = Vec::new();
+    for (t, c) in [(U, 0), (V, 1)] {
+        s.push(1);
+        t.iter().for_each(|v| s.extend(v.to_le_bytes()));
+        s.extend([2, c]);
+    }
+    s.push(7);
+    assert_eq!(run_log(&s), "overlay log\n2 0 7\n2 0 4\n7 0 0 7\n");
+}
+
+// -------------------------------------------------------------- readings
+
+fn said(script: &str) -> Vec<String> {
+    let (out, ok) = run_calls(script);
+    assert!(ok, "{out}");
+    // Without the hash.
+    out.lines()
+        .map(|l| if l.starts_with("dump") { l.into() } else { l.rsplit_once(' ').unwrap().0.to_string() })
+        .collect()
+}
+
+#[test]
+fn filed_or_not() {
+    // 5.1: table U with the mark alone passes 2 but not 3.
+    let got = said(
+        "load 0 0 0 65535 0 0 65535\nset keys0 0 0\nset levels0 0 0\nset tris0 0 65535\ncounts 0 1 1\n\
+         locate 0 5 5\noverlay 0 0\nlisting 0 5 5\nsplit 0 0 5 5\ntakeout 0 5 5\nflip 0 0 0\nsound 0\narea 0",
+    );
+    assert_eq!(
+        got,
+        [
+            "load 0 0 1 7",
+            "locate 0 nowhere",
+            "overlay 0 0 1",
+            "listing 0",
+            "split 3 0 1 1",
+            "takeout 3 0 1 1",
+            "flip 3 0 1 1",
+            "sound 0 yes",
+            "area 0 4294836225"
+        ]
+    );
+}
+
+#[test]
+fn behind_the_counts() {
+    // 5.3, 5.5, 5.6
+    let (a, b, c, p) = (pt(0, 0), pt(65535, 0), pt(0, 65535), pt(1, 1));
+    let mut bare = Vec::new();
+    cells_bare(&Square::WHOLE, &[[a, b, p], [b, c, p], [c, a, p]], &mut bare);
+    let split = format!("split 0 0 3 {}", bare.len());
+    let got = said(
+        "len table0 3080 7\nlen pairs 8200 5\nlen keys0 16390 6\nfill keys0 77\nfill levels0 99\nfill tris0 3\nfill table0 8\n\
+         load 0 0 0 65535 0 0 65535\ndump table0 5 8\ndump table0 3071 3073\ndump keys0 6 8\ndump keys0 16383 16385\n\
+         set table0 9 500\nset levels0 7 200\nset tris0 7 1\nlocate 0 1 1\nsplit 0 0 1 1\ndump table0 16 20\ntakeout 0 1 1\n\
+         dump levels0 0 9\n\
+         counts 0 2 7\narea 0\ncounts 0 0 7\narea 0\ncounts 0 1 6\narea 0\ncounts 0 1 8\narea 0\ncounts 0 1 0\nlocate 0 0 0\n\
+         counts 0 1 16385\nsound 0\ncounts 0 513 7\nlisting 0 0 0\noverlay 0 0\ncounts 0 1 7\nset pairs 3 9\noverlay 0 0\n\
+         dump pairs 0 5\ndump pairs 8191 8193\nlen pairs 8191\ncounts 0 1 6\noverlay 0 0\nflip 0 0 0",
+    );
+    assert_eq!(
+        got,
+        [
+            "load 0 0 1 7",
+            "dump table0 3080 65535 0 0",
+            "dump table0 3080 0 8",
+            "dump keys0 16390 3221225472 0",
+            "dump keys0 16390 0 77",
+            "locate 0 0",
+            split.as_str(),
+            "dump table0 3080 1 1 0 0",
+            "takeout 0 0 1 7",
+            "dump levels0 16384 2 2 2 2 1 1 1 0 0",
+            "area 2 0",
+            "area 2 0",
+            "area 2 0",
+            "area 2 0",
+            "locate 2 nowhere",
+            "sound 2 no",
+            "listing 0",
+            "overlay 2 0 0",
+            "overlay 0 1 7",
+            "dump pairs 8200 0 0 0 0 0",
+            "dump pairs 8200 0 5",
+            "overlay 1 0 0",
+            "flip 2 0 1 6",
+        ]
+    );
+}
+
+#[test]
+fn short_buffers() {
+    for buf in ["table", "keys", "levels", "tris"] {
+        let n = if buf == "table" { 3071 } else { 16383 };
+        let got = said(&format!(
+            "counts 0 4 5\nload 1\nlen {buf}0 {n}\nload 0 1 2 3\nsplit 0 0 0 0\ntakeout 0 0 0\nflip 0 0 0\nlocate 0 0 0\n\
+             listing 0 0 0\nsound 0\narea 0\noverlay 0 1\noverlay 1 0\noverlay 1 1"
+        ));
+        let want = [
+            "load 0 0 0 1", "load 1 0 4 5", "split 1 0 4 5", "takeout 1 0 4 5", "flip 1 0 4 5", "locate 1 nowhere",
+            "listing 0", "sound 1 no", "area 1 0", "overlay 1 0 0", "overlay 1 0 0", "overlay 0 0 1",
+        ];
+        assert_eq!(got, want);
+    }
+}
+
+#[test]
+fn chain_faults() {
+    let good = loaded(&uv());
+    assert!(good.chain_holds() && good.is_filed());
+    let mut c = good.clone();
+    c.tris[0] = MARK; // alone in its cell: allowed by 2
+    assert!(c.chain_holds() && !c.is_filed());
+    let mut c = good.clone();
+    c.tris[4] = MARK; // second of its cell
+    assert!(!c.chain_holds());
+    let mut c = good.clone();
+    c.tris.swap(3, 4);
+    assert!(!c.chain_holds());
+    let mut c = good.clone();
+    c.tris[4] = 0;
+    assert!(!c.chain_holds());
+    let mut c = good.clone();
+    c.tris[9] = 2;
+    assert!(!c.chain_holds());
+    let mut c = good.clone();
+    c.levels[9] = 17;
+    assert!(!c.chain_holds());
+    let mut c = good.clone();
+    c.levels[9] = 0;
+    assert!(!c.chain_holds());
+    let mut c = good.clone();
+    c.levels[9] = 2;
+    assert!(!c.chain_holds());
+    let mut c = good.clone();
+    c.table.swap(0, 2);
+    assert!(!c.chain_holds());
+    // A finer chain than the table's own passes 2 alone.
+    let mut c = loaded(&[]);
+    c.m = 4;
+    for i in 0..4 {
+        c.keys[i] = 4 * Q * i as u32;
+        c.levels[i] = 1;
+        c.tris[i] = MARK;
+    }
+    assert!(c.chain_holds() && !c.is_filed());
+    // 5.2: a table with too many entries of its own gives 3.
+    let mut r = Rng::new(5);
+    let mut wild = Vec::new();
+    while wild.len() < 60 {
+        let n: Vec<u16> = (0..6).map(|_| r.below(65536) as u16).collect();
+        if doubled_area(&tri_of_numbers(&n)) > 0 {
+            wild.push(tri_of_numbers(&n));
+        }
+    }
+    assert!(entries_of(&wild).is_none());
+    let mut c = loaded(&[]);
+    for (i, v) in wild.iter().flat_map(numbers_of_tri).enumerate() {
+        c.table[i] = v;
+    }
+    c.n = 60;
+    assert!(c.chain_holds());
+    assert_eq!(c.split(0, pt(1, 1)).number, 3);
+    assert_eq!(c.flip(99, 99).number, 3);
+}
+
+/// The chain rule told another way: cell after cell, each a group of entries.
+fn chain_by_cells(c: &Chart) -> bool {
+    if c.n > 512 || c.m == 0 || c.m > 16_384 {
+        return false;
+    }
+    let e = c.used_entries();
+    let (mut at, mut i) = (0u64, 0);
+    while i < e.len() {
+        if e[i].level > 16 || e[i].key as u64 != at || at % 4u64.pow(16 - e[i].level as u32) != 0 {
+            return false;
+        }
+        let group: Vec<u64> = e[i..]
+            .iter()
+            .take_while(|f| f.key == e[i].key && f.level == e[i].level)
+            .map(|f| f.tri as u64)
+            .collect();
+        let numbered = group.iter().all(|t| *t < c.n) && group.windows(2).all(|w| w[0] < w[1]);
+        if !numbered && group != [65_535] {
+            return false;
+        }
+        at += 4u64.pow(16 - e[i].level as u32);
+        i += group.len();
+    }
+    at == 1 << 32 && c.used_table().iter().all(|t| doubled_area(t) > 0)
+}
+
+#[test]
+fn damaged_chains() {
+    let mut r = Rng::new(6);
+    let mut held = [0, 0];
+    for round in 0..20_000 {
+        let mut c = loaded(&if round % 3 == 0 { vec![] } else if round % 3 == 1 { U.to_vec() } else { uv() });
+        for _ in 0..r.range(0, 3) {
+            let i = r.below(c.m.min(12) as i64 + 1) as usize;
+            match r.below(7) {
+                0 => c.keys[i] = Q.wrapping_mul(r.below(16) as u32).wrapping_add(r.pick(&[0, 0, 0, 1, 4])),
+                1 => c.levels[i] = r.pick(&[0, 1, 2, 3, 16, 17, 255]),
+                2 => c.tris[i] = r.pick(&[0, 1, 2, MARK]),
+                3 => c.n = r.pick(&[0, 1, 2, 512, 513, u64::MAX]),
+                4 => c.m = r.pick(&[0, 1, 7, 10, 16_384, 16_385, u64::MAX]),
+                5 => c.table[r.below(12) as usize] = r.pick(&[0, 7, 65_535]),
+                _ => {
+                    // Four quarters in place of an entry.
+                    if c.m < 10 && i < c.m as usize && c.levels[i] < 16 {
+                        let (key, level, tri) = (c.keys[i], c.levels[i] + 1, c.tris[i]);
+                        for k in (i + 1..c.m as usize).rev() {
+                            c.keys[k + 3] = c.keys[k];
+                            c.levels[k + 3] = c.levels[k];
+                            c.tris[k + 3] = c.tris[k];
+                        }
+                        for k in 0..4 {
+                            let step = 4u64.pow(16 - level.min(16) as u32) * k as u64;
+                            c.keys[i + k] = key.wrapping_add(step as u32);
+                            c.levels[i + k] = level;
+                            c.tris[i + k] = tri;
+                        }
+                        c.m += 3;
+                    }
+                }
+            }
+        }
+        let holds = c.chain_holds();
+        assert_eq!(holds, chain_by_cells(&c));
+        held[usize::from(holds)] += 1;
+    }
+    assert!(held[0] > 3000 && held[1] > 3000, "{held:?}");
+}
+
+#[test]
+fn pair_limit() {
+    let copies = |k: usize| loaded(&U.repeat(k));
+    assert_eq!(over(&copies(63), &copies(65)).1.len(), 2 * 4095);
+    assert_eq!(over(&copies(64), &copies(64)).1.len(), 2 * 4096);
+    assert_eq!(over(&copies(17), &copies(241)), (12, vec![], 0));
+    let mut pairs = vec![3; PAIRS_LEN];
+    assert_eq!(overlay(&copies(64), &copies(65), &mut pairs), Answer { number: 12, pairs: 0, meetings: 0 });
+    assert_eq!(pairs, vec![0; PAIRS_LEN]);
+}
+
+// ----------------------------------------- the means against plainer ones
+
+/// Strictly inside both, by the separating lines of both triangles.
+fn share_by_lines(s: &Tri, t: &Tri) -> bool {
+    let parts = |a: &Tri, b: &Tri| (0..3).any(|k| b.iter().all(|p| d(a[k], a[(k + 1) % 3], *p) <= 0));
+    !parts(s, t) && !parts(t, s)
+}
+
+fn random_tri(r: &mut Rng, lo: i64, hi: i64) -> Tri {
+    loop {
+        let mut p = || Point { x: r.range(lo, hi), y: r.range(lo, hi) };
+        let t = [p(), p(), p()];
+        if doubled_area(&t) > 0 {
+            return t;
+        }
+    }
+}
+
+#[test]
+fn sharing_ground() {
+    let mut r = Rng::new(1);
+    let mut yes = 0;
+    for (lo, hi, count) in [(0, 4, 60_000), (0, 12, 60_000), (0, 65_535, 60_000), (65_530, 65_535, 30_000)] {
+        for _ in 0..count {
+            let (s, t) = (random_tri(&mut r, lo, hi), random_tri(&mut r, lo, hi));
+            let got = share_ground(&s, &t);
+            assert_eq!(got, share_by_lines(&s, &t), "{s:?} {t:?}");
+            assert_eq!(got, share_ground(&t, &s));
+            yes += u32::from(got);
+        }
+    }
+    assert!(yes > 10_000);
+    // Large and thin ones, with corners at the ends of the grid.
+    let ends = [0, 1, 2, 32767, 32768, 65533, 65534, 65535];
+    for _ in 0..60_000 {
+        let mut p = || Point { x: r.pick(&ends), y: r.pick(&ends) };
+        let (s, t) = ([p(), p(), p()], [p(), p(), p()]);
+        if doubled_area(&s) > 0 && doubled_area(&t) > 0 {
+            assert_eq!(share_ground(&s, &t), share_by_lines(&s, &t), "{s:?} {t:?}");
+        }
+    }
+}
+
+/// Does the piece of line p + s (q - p), 0 <= s <= 1, have a point in the
+/// square? By cutting the range of s with the four borders, in fractions.
+fn side_in_square(s: &[Point; 2], sq: &Square) -> bool {
+    let (mut lo, mut hi) = ((0i64, 1i64), (1i64, 1i64));
+    let (l, t, r, b) = (sq.x, sq.y, sq.x + sq.side(), sq.y + sq.side());
+    let (dx, dy) = (s[1].x - s[0].x, s[1].y - s[0].y);
+    // k * s <= m
+    for (k, m) in [(-dx, s[0].x - l), (dx, r - s[0].x), (-dy, s[0].y - t), (dy, b - s[0].y)] {
+        if k == 0 {
+            if m < 0 {
+                return false;
+            }
+        } else if k > 0 {
+            if m * hi.1 < hi.0 * k {
+                hi = (m, k);
+            }
+        } else if -m * lo.1 > lo.0 * -k {
+            lo = (-m, -k);
+        }
+    }
+    lo.0 * hi.1 <= hi.0 * lo.1
+}
+
+#[test]
+fn meeting_squares() {
+    let mut r = Rng::new(2);
+    let mut met = [0, 0];
+    for round in 0..200_000 {
+        let (span, level) = if round % 2 == 0 { (15, r.range(12, 16)) } else { (65_535, r.range(0, 5)) };
+        let t = random_tri(&mut r, 0, span);
+        let side = 1i64 << (16 - level);
+        let last = (span / side).max(1);
+        let sq = Square {
+            level: level as u8,
+            x: (side * r.range(0, last)).min(65_536 - side),
+            y: (side * r.range(0, last)).min(65_536 - side),
+        };
+        let mut some_side = false;
+        for k in 0..3 {
+            let s = [t[k], t[(k + 1) % 3]];
+            let got = side_meets(&s, &sq);
+            assert_eq!(got, side_in_square(&s, &sq), "{s:?} {sq:?}");
+            some_side |= got;
+        }
+        // A triangle has a point in the square when a side has, or when it
+        // holds the square's first corner (the square lies inside).
+        let want = some_side || holds(&t, sq.corners()[0]);
+        assert_eq!(triangle_meets(&t, &sq), want, "{t:?} {sq:?}");
+        met[usize::from(want)] += 1;
+    }
+    assert!(met[0] > 10_000 && met[1] > 10_000);
+}
+
+/// Cells by the bare definition, each square looking at the whole table.
+fn cells_bare(sq: &Square, table: &[Tri], out: &mut Vec<Entry>) {
+    let sides: Vec<[Point; 2]> = table
+        .iter()
+        .flat_map(|t| (0..3).map(move |k| [t[k], t[(k + 1) % 3]]))
+        .filter(|s| side_meets(s, sq))
+        .collect();
+    let common = sides.is_empty()
+        || table.iter().flatten().any(|p| sides.iter().all(|s| s[0] == *p || s[1] == *p));
+    if sq.level == 16 || common {
+        let met: Vec<usize> = (0..table.len()).filter(|&i| triangle_meets(&table[i], sq)).collect();
+        if met.is_empty() {
+            out.push(Entry { key: sq.key(), level: sq.level, tri: MARK });
+        }
+        out.extend(met.iter().map(|&i| Entry { key: sq.key(), level: sq.level, tri: i as u16 }));
+    } else {
+        sq.quarters().iter().for_each(|q| cells_bare(q, table, out));
+    }
+}
+
+#[test]
+fn entries_and_reading() {
+    let mut r = Rng::new(3);
+    let mut done = 0;
+    while done < 60 {
+        let n = r.range(0, 9);
+        let span = 1 << r.range(2, 16);
+        let table: Vec<Tri> = (0..n).map(|_| random_tri(&mut r, 0, span - 1)).collect();
+        let Some(got) = entries_of(&table) else { continue };
+        done += 1;
+        let mut want = Vec::new();
+        cells_bare(&Square::WHOLE, &table, &mut want);
+        assert_eq!(got, want);
+        let c = loaded(&table.iter().flat_map(numbers_of_tri).collect::<Vec<_>>());
+        assert!(c.chain_holds() && c.is_filed());
+        for _ in 0..40 {
+            let (x, y) = (r.below(span) as u16, r.below(span) as u16);
+            // 5.7: in a filed chart, the lowest holder of the whole table.
+            let holder = table.iter().position(|t| holds(t, pt(x, y))).map(|i| i as u16);
+            assert_eq!(c.locate(x, y), (0, holder));
+        }
+        assert_eq!(
+            c.sound().1,
+            !(0..table.len()).any(|i| (0..table.len()).any(|j| i != j && share_by_lines(&table[i], &table[j])))
+        );
+    }
+}
+
+#[test]
+fn meetings_and_pairs() {
+    let mut r = Rng::new(4);
+    let mut done = 0;
+    while done < 40 {
+        let span = 1 << r.range(3, 16);
+        let mut table = || (0..r.range(0, 7)).map(|_| random_tri(&mut r, 0, span - 1)).collect::<Vec<Tri>>();
+        let (ta, tb) = (table(), table());
+        let (Some(ea), Some(eb)) = (entries_of(&ta), entries_of(&tb)) else { continue };
+        if ea.len() * eb.len() > 4_000_000 {
+            continue;
+        }
+        done += 1;
+        let (ca, cb) = (cells_of(&ea), cells_of(&eb));
+        let mut meetings = 0;
+        let mut near = std::collections::BTreeSet::new();
+        for a in &ca {
+            for b in &cb {
+                if a.start.max(b.start) < a.end.min(b.end) {
+                    meetings += 1;
+                    for i in &a.tris {
+                        near.extend(b.tris.iter().map(|j| (*i, *j)));
+                    }
+                }
+            }
+        }
+        assert_eq!(count_meetings(&ca, &cb), meetings);
+        let want: Vec<(u16, u16)> =
+            near.into_iter().filter(|p| share_by_lines(&ta[p.0 as usize], &tb[p.1 as usize])).collect();
+        assert_eq!(list_pairs(&ta, &ca, &tb, &cb), want);
+        // In filed charts the cells lose no pair.
+        let all: usize = ta.iter().map(|s| tb.iter().filter(|t| share_by_lines(s, t)).count()).sum();
+        assert_eq!(all, want.len());
+    }
+}
+
+#[test]
+fn streams_hold_together() {
+    for kind in ["mesh", "soup", "touch", "bad", "edge"] {
+        for seed in 0..3 {
+            let s = stream(kind, seed).unwrap();
+            assert_eq!(s, stream(kind, seed).unwrap());
+            assert!(run_log(&s).starts_with("overlay log\n"));
+        }
+    }
+    assert!(stream("other", 0).is_none());
+}
