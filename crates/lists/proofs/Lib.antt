@@ -1,1 +1,3 @@
+pub mod Reflects
+pub mod ListsLaws
 pub mod Examples

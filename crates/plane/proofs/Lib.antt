@@ -1,3 +1,4 @@
+pub mod PointLaws
 pub mod Difference
 pub mod OrientLaws
 pub mod Examples

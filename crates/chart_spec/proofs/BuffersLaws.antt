@@ -1,0 +1,31 @@
+-- What the comparison of entries means.
+-- Assumes nothing.
+use mathlib.Core.Path.{_≡_, refl, ap, ap₂}
+use mathlib.Core.Bool.{_&&_}
+use mathlib.Core.List.{List, [], _∷_, nil≢cons, cons≢nil, head-eq-of-cons-eq, tail-eq-of-cons-eq}
+use lib.Dec.{eqb}
+use Rattle.lists.proofs.Reflects.{Reflects, reflects-and, reflects-then, reflects-iff, reflects-eqb}
+use Rattle.orthtree.specs.Entries.{Entry, sameCell}
+use Rattle.chart_spec.specs.Buffers.{sameEntries}
+
+-- two entries are the same when key, level and item are
+entry-reflects : (e f : Entry) → Reflects (sameCell e f && eqb (e .item) (f .item)) (e ≡ f)
+unfolding sameCell
+entry-reflects e f =
+    let r =
+    reflects-and (reflects-and (reflects-eqb (e .key) (f .key)) (reflects-eqb (e .level) (f .level))) (reflects-eqb (e .item) (f .item))
+    in
+    record {
+      to = λ t. let h = r .to t in λ i. record { key = h .0 .0 i; level = h .0 .1 i; item = h .1 i };
+      from = λ p. r .from ((ap (λ d. d .key) p, ap (λ d. d .level) p), ap (λ d. d .item) p);
+    }
+
+-- the comparison of two lists of entries is their equality
+pub sameEntries-reflects : (es fs : List Entry) → Reflects (sameEntries es fs) (es ≡ fs)
+unfolding sameEntries
+sameEntries-reflects [] [] = record { to = λ t. refl; from = λ p. tt }
+sameEntries-reflects [] (f ∷ fs) = record { to = λ t. absurd t; from = λ p. absurd (nil≢cons p) }
+sameEntries-reflects (e ∷ es) [] = record { to = λ t. absurd t; from = λ p. absurd (cons≢nil p) }
+sameEntries-reflects (e ∷ es) (f ∷ fs) =
+    reflects-iff (λ h. ap₂ _∷_ (h .0) (h .1)) (λ p. (head-eq-of-cons-eq p, tail-eq-of-cons-eq p))
+    (reflects-then (sameCell e f && eqb (e .item) (f .item)) (entry-reflects e f) (sameEntries-reflects es fs))

@@ -1,0 +1,49 @@
+-- What the tests on lists mean, by membership.
+-- Assumes nothing.
+use mathlib.Core.Path.{_≡_, refl, sym, subst}
+use mathlib.Core.Bool.{Bool, true, false}
+use mathlib.Core.List.{List, [], _∷_, List·Memᴰ, List·Memᴰ·head, List·Memᴰ·tail, List·Memᴰ·cases-cons, List·Memᴰ·not-nil}
+use mathlib.Core.Logic.{_⊎_, inl, inr}
+use Rattle.lists.specs.Lists.{all, any}
+use Rattle.lists.proofs.Reflects.{Reflects, reflects-then, reflects-else, reflects-iff}
+
+-- every element of the list has P
+abbrev pub Every : {A : Type 0} → (A → Type 0) → List A → Type 0
+Every {A} P l = (x : A) → List·Memᴰ x l → P x
+
+-- some element of the list has P
+pub record Some {A : Type 0} (P : A → Type 0) (l : List A) : Type 0 where
+  pub value : A
+  pub member : List·Memᴰ value l
+  pub has : P value
+
+-- of a list with one more element in front
+pub every-cons : {A : Type 0} {P : A → Type 0} {y : A} {ys : List A} → P y × Every P ys → Every P (y ∷ ys)
+every-cons {P = P} h x m = elim (List·Memᴰ·cases-cons m) [ inl e ↦ subst P (sym e) (h .0) | inr n ↦ h .1 x n ]
+
+pub every-uncons : {A : Type 0} {P : A → Type 0} {y : A} {ys : List A} → Every P (y ∷ ys) → P y × Every P ys
+every-uncons {y = y} h = (h y (List·Memᴰ·head refl), λ x m. h x (List·Memᴰ·tail m))
+
+pub some-cons : {A : Type 0} {P : A → Type 0} {y : A} {ys : List A} → P y ⊎ Some P ys → Some P (y ∷ ys)
+some-cons {y = y} (inl h) = record { value = y; member = List·Memᴰ·head refl; has = h }
+some-cons (inr s) = record { value = s .value; member = List·Memᴰ·tail (s .member); has = s .has }
+
+pub some-uncons : {A : Type 0} {P : A → Type 0} {y : A} {ys : List A} → Some P (y ∷ ys) → P y ⊎ Some P ys
+some-uncons {P = P} s =
+    elim (List·Memᴰ·cases-cons (s .member)) [
+      | inl e ↦ inl (subst P e (s .has))
+      | inr n ↦ inr (record { value = s .value; member = n; has = s .has })
+    ]
+
+module _ {A : Type 0} {P : A → Type 0} (f : A → Bool) (r : (x : A) → Reflects (f x) (P x)) where
+  -- `all` is the claim that every element has what the test decides
+  pub all-reflects : (l : List A) → Reflects (all f l) (Every P l)
+  unfolding all
+  all-reflects [] = record { to = λ t x m. absurd (List·Memᴰ·not-nil m); from = λ h. tt }
+  all-reflects (y ∷ ys) = reflects-iff every-cons every-uncons (reflects-then (f y) (r y) (all-reflects ys))
+
+  -- `any` is the claim that some element has it
+  pub any-reflects : (l : List A) → Reflects (any f l) (Some P l)
+  unfolding any
+  any-reflects [] = record { to = λ t. absurd t; from = λ s. absurd (List·Memᴰ·not-nil (s .member)) }
+  any-reflects (y ∷ ys) = reflects-iff some-cons some-uncons (reflects-else (f y) (r y) (any-reflects ys))
