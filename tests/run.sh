@@ -20,6 +20,12 @@ check() {
     fi
 }
 
+build_model() {
+    mkdir -p target/model &&
+        rustc --edition 2021 -O -o target/model/model model/main.rs &&
+        rustc --edition 2021 -O --test -o target/model/tests model/main.rs
+}
+
 echo "== rt ci: prove every crate, try the must-fail edits, run the programs"
 rt ci 2>&1 | tee "$log"
 verdict=${PIPESTATUS[0]}
@@ -37,6 +43,12 @@ else
 fi
 
 check "layout of the sources (rt fmt --check)" rt fmt --check
+check "no hole and no axiom in the proofs, must-fail edits refused at a fact" python3 tests/verdicts.py "$log"
+check "every sentence of document 01 has its row (docs/CLAIMS.md)" python3 tests/claims.py
+check "the reference model builds" build_model
+check "the reference model's own tests" target/model/tests -q
+check "the reference model on the stored command streams" python3 tests/log_cases.py target/model/model log
+check "the definitions, executed, against the reference model" python3 tests/definitions.py 7 4
 
 echo "$passed passed, $failed failed"
 [ "$failed" -eq 0 ]
