@@ -1,0 +1,4 @@
+pub mod Pigeonhole
+pub mod Radon
+pub mod Cone
+pub mod Helly

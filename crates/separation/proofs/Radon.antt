@@ -1,0 +1,224 @@
+-- Radon's theorem for four points of the plane, each a triple (x, y, w) of naturals with w > 0 that means (x/w, y/w): some
+-- point is a weighted average of some of the four and also of the others. Weights are naturals.
+-- The four triples are linearly dependent, which is shown by counting: weights below B for the four triples give B⁴ choices,
+-- and the weighted sums have fewer than B³ M³ values, where M exceeds all coordinates together; so with B > M³ two choices
+-- have the same sum. Taking off each weight what the two choices share leaves the two averages.
+-- Assumes nothing.
+use mathlib.Core.Path.{_≡_, refl, _∙_, sym, ap, ap₂}
+use mathlib.Core.Logic.{_⊎_, inl, inr}
+use Prim.Native.Nat.{ℕ, suc, _+_, _*_, _-_, _/_, _%_, _≤_, _<_}
+use native.Mathlib.Decide.{decLe}
+use native.Mathlib.Nat.{mod-lt, div-add-mod', div-lt-iff-lt-mul, mul-le-mul-left, mul-le-mul-right, le-of-lt, mul-pos, add-mul, eq-zero-or-pos, le-mul-of-pos-right, le-trans}
+use native.Mathlib.Omega.{arith}
+use lib.Arith.{digits-lt, digits-div, digits-mod}
+use Rattle.separation.proofs.Pigeonhole.{Clash, pigeonhole}
+
+-- four numbers: the weights of four triples, or one coordinate of each
+pub record Four : Type 0 where
+  pub a : ℕ
+  pub b : ℕ
+  pub c : ℕ
+  pub d : ℕ
+
+abbrev pub total : Four → ℕ
+total u = u .a + u .b + u .c + u .d
+
+abbrev pub dot : Four → Four → ℕ
+dot u v = u .a * v .a + u .b * v .b + u .c * v .c + u .d * v .d
+
+-- a point of the plane, (x/w, y/w)
+pub record Triple : Type 0 where
+  pub x : ℕ
+  pub y : ℕ
+  pub w : ℕ
+
+-- one coordinate of each of four triples
+abbrev pub column : (Triple → ℕ) → Triple → Triple → Triple → Triple → Four
+column f p q r s = record { a = f p; b = f q; c = f r; d = f s }
+
+-- ---- the counting
+
+-- the four digits of i to the base B, of which the last may be large
+abbrev digits : ℕ → ℕ → Four
+digits B i = record { a = i % B; b = i / B % B; c = i / B / B % B; d = i / B / B / B }
+
+digit : (B i j : ℕ) → i / B ≡ j / B → i % B ≡ j % B → i ≡ j
+digit B i j e f = sym (div-add-mod' i B) ∙ ap₂ (λ q r. q * B + r) e f ∙ div-add-mod' j B
+
+record Below (B : ℕ) (u : Four) : Type 0 where
+  a : u .a < B
+  b : u .b < B
+  c : u .c < B
+  d : u .d < B
+
+digits-below : (B i : ℕ) → 0 < B → i < B * B * B * B → Below B (digits B i)
+digits-below B i h k = record {
+  a = mod-lt i h;
+  b = mod-lt (i / B) h;
+  c = mod-lt (i / B / B) h;
+  d = div-lt-iff-lt-mul h .1 (div-lt-iff-lt-mul h .1 (div-lt-iff-lt-mul h .1 k));
+}
+
+dot-below : (B M : ℕ) (u v : Four) → Below B u → total v < M → dot u v < B * M
+dot-below B M u v h k =
+    omega (arith, mul-le-mul-right (v .a) (h .a), mul-le-mul-right (v .b) (h .b), mul-le-mul-right (v .c) (h .c), mul-le-mul-right (v .d) (h .d), mul-le-mul-left B k, h .a)
+
+-- two numbers below S as one below S * S, and back
+unpaired : (S : ℕ) {q r q′ r′ : ℕ} → r < S → r′ < S → q * S + r ≡ q′ * S + r′ → (q ≡ q′) × (r ≡ r′)
+unpaired S {q} {r} {q′} {r′} h k e = (
+  sym (digits-div q h) ∙ ap (λ n. n / S) e ∙ digits-div q′ k,
+  sym (digits-mod q h) ∙ ap (λ n. n % S) e ∙ digits-mod q′ k,
+)
+
+-- the base is large enough
+room : (M B : ℕ) → B ≡ suc (M * M * M) → B * M * (B * M) * (B * M) < B * B * B * B
+room M B e =
+    let pos : 0 < B = omega arith in
+    omega (arith, mul-pos (mul-pos pos pos) pos, ap (λ n. B * B * B * n) e)
+
+-- two different choices of weights with the same three sums
+record Collision (xs ys ws : Four) : Type 0 where
+  u : Four
+  v : Four
+  x : dot u xs ≡ dot v xs
+  y : dot u ys ≡ dot v ys
+  w : dot u ws ≡ dot v ws
+  differ : u .a ≡ v .a → u .b ≡ v .b → u .c ≡ v .c → u .d ≡ v .d → ⊥
+
+-- M, B and the bound S of a sum; the three sums for the weights that the digits of i are, as one number below S³
+module _ (xs ys ws : Four) where
+  M : ℕ
+  M = suc (total xs + total ys + total ws)
+
+  B : ℕ
+  B = suc (M * M * M)
+
+  S : ℕ
+  S = B * M
+
+  key : ℕ → ℕ
+  key i = (dot (digits B i) ws * S + dot (digits B i) ys) * S + dot (digits B i) xs
+
+  sum-below : (v : Four) → total v < M → (i : ℕ) → i ≤ S * S * S → dot (digits B i) v < S
+  unfolding B S
+  sum-below v h i k = dot-below B M (digits B i) v (digits-below B i (omega arith) (omega (arith, room M B refl))) h
+
+  sums-below : (i : ℕ) → i ≤ S * S * S → (dot (digits B i) ws < S) × (dot (digits B i) ys < S) × (dot (digits B i) xs < S)
+  unfolding M
+  sums-below i k = (sum-below ws (omega arith) i k, sum-below ys (omega arith) i k, sum-below xs (omega arith) i k)
+
+  clash : Clash key (S * S * S)
+  unfolding key
+  clash = pigeonhole (S * S * S) key (λ i k. let h = sums-below i k in digits-lt (digits-lt (h .0) (h .1)) (h .2))
+
+  collide : Collision xs ys ws
+  unfolding key
+  collide =
+      let i = clash .i in
+      let j = clash .j in
+      let h = sums-below i (omega (arith, clash)) in
+      let k = sums-below j (clash .within) in
+      let e = unpaired S (h .2) (k .2) (clash .same) in
+      let f = unpaired S (h .1) (k .1) (e .0) in
+      record {
+        u = digits B i;
+        v = digits B j;
+        x = e .1;
+        y = f .1;
+        w = f .0;
+        differ = λ ea eb ec ed.
+            let q = digit B i j (digit B (i / B) (j / B) (digit B (i / B / B) (j / B / B) ed ec) eb) ea in
+            omega (arith, clash .before);
+      }
+
+-- ---- the two averages
+
+-- a point with the weights that make it of four others
+pub record Blend (u : Four) (p q r s z : Triple) : Type 0 where
+  pub x : z .x ≡ dot u (column (λ t. t .x) p q r s)
+  pub y : z .y ≡ dot u (column (λ t. t .y) p q r s)
+  pub w : z .w ≡ dot u (column (λ t. t .w) p q r s)
+  pub some : 0 < total u
+
+pub record Radon (p q r s : Triple) : Type 0 where
+  pub point : Triple
+  pub above : 0 < point .w
+  pub u : Four
+  pub v : Four
+  pub first : Blend u p q r s point
+  pub second : Blend v p q r s point
+  pub at-p : (u .a ≡ 0) ⊎ (v .a ≡ 0)
+  pub at-q : (u .b ≡ 0) ⊎ (v .b ≡ 0)
+  pub at-r : (u .c ≡ 0) ⊎ (v .c ≡ 0)
+  pub at-s : (u .d ≡ 0) ⊎ (v .d ≡ 0)
+
+abbrev minus : Four → Four → Four
+minus u v = record { a = u .a - v .a; b = u .b - v .b; c = u .c - v .c; d = u .d - v .d }
+
+one-zero : (m n : ℕ) → (m - n ≡ 0) ⊎ (n - m ≡ 0)
+one-zero m n = elim (decLe m n) [ yes h ↦ inl (omega arith) | no h ↦ inr (omega arith) ]
+
+part : (m n x : ℕ) → m * x + (n - m) * x ≡ n * x + (m - n) * x
+part m n x = sym (add-mul m (n - m) x) ∙ ap (λ k. k * x) (omega arith) ∙ add-mul n (m - n) x
+
+cancel : (u v x : Four) → dot u x ≡ dot v x → dot (minus u v) x ≡ dot (minus v u) x
+cancel u v x e = omega (arith, part (u .a) (v .a) (x .a), part (u .b) (v .b) (x .b), part (u .c) (v .c) (x .c), part (u .d) (v .d) (x .d))
+
+record Positive (u : Four) : Type 0 where
+  a : 0 < u .a
+  b : 0 < u .b
+  c : 0 < u .c
+  d : 0 < u .d
+
+dot-le : (u w : Four) → dot u w ≤ total u * total w
+dot-le u w = omega arith
+
+total-le : (v w : Four) → Positive w → total v ≤ dot v w
+total-le v w h =
+    omega (arith, le-mul-of-pos-right (v .a) (h .a), le-mul-of-pos-right (v .b) (h .b), le-mul-of-pos-right (v .c) (h .c), le-mul-of-pos-right (v .d) (h .d))
+
+-- of two weightings of positive numbers with one sum neither is zero, unless both are
+both-some : (u v w : Four) → Positive w → dot u w ≡ dot v w → 0 < total u + total v → 0 < total u
+both-some u v w h e k = elim (eq-zero-or-pos (total u)) [
+  | inl z ↦ absurd (omega (arith, dot-le u w, total-le v w h, ap (λ n. n * total w) z))
+  | inr p ↦ p
+]
+
+equal : (m n : ℕ) → (m - n ≤ 0) × (n - m ≤ 0) → m ≡ n
+equal m n h = omega arith
+
+differ-some : (u v : Four) → (u .a ≡ v .a → u .b ≡ v .b → u .c ≡ v .c → u .d ≡ v .d → ⊥) → 0 < total (minus u v) + total (minus v u)
+differ-some u v f = elim (eq-zero-or-pos (total (minus u v) + total (minus v u))) [
+  | inl z ↦ absurd (f (equal _ _ (omega arith)) (equal _ _ (omega arith)) (equal _ _ (omega arith)) (equal _ _ (omega arith)))
+  | inr p ↦ p
+]
+
+pub radon : (p q r s : Triple) → 0 < p .w → 0 < q .w → 0 < r .w → 0 < s .w → Radon p q r s
+radon p q r s hp hq hr hs =
+    let xs = column (λ t. t .x) p q r s in
+    let ys = column (λ t. t .y) p q r s in
+    let ws = column (λ t. t .w) p q r s in
+    let c = collide xs ys ws in
+    let u = minus (c .u) (c .v) in
+    let v = minus (c .v) (c .u) in
+    let e = cancel (c .u) (c .v) ws (c .w) in
+    let above : Positive ws = record { a = hp; b = hq; c = hr; d = hs } in
+    let k = differ-some (c .u) (c .v) (c .differ) in
+    let some = both-some u v ws above e k in
+    record {
+      point = record { x = dot u xs; y = dot u ys; w = dot u ws };
+      above = le-trans some (total-le u ws above);
+      u = u;
+      v = v;
+      first = record { x = refl; y = refl; w = refl; some = some };
+      second = record {
+        x = cancel (c .u) (c .v) xs (c .x);
+        y = cancel (c .u) (c .v) ys (c .y);
+        w = e;
+        some = both-some v u ws above (sym e) (omega (arith, k));
+      };
+      at-p = one-zero (c .u .a) (c .v .a);
+      at-q = one-zero (c .u .b) (c .v .b);
+      at-r = one-zero (c .u .c) (c .v .c);
+      at-s = one-zero (c .u .d) (c .v .d);
+    }
