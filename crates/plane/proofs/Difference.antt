@@ -107,6 +107,10 @@ diff-below d = diff-lt d (diff-pos 0) ∙ simp (zero-add, add-zero)
 pub diff-value : {z : ℤ} {h l : ℕ} → Diff z h l → l ≤ h → z ≡ pos (h - l)
 diff-value d h = diff-unique d (record { at = omega arith })
 
+pub diff-gap : {z : ℤ} {h l : ℕ} → Diff z h l → T (leZ (pos 0) z) → h ≡ l + natAbs z
+diff-gap {z = pos n} d t = d .at
+diff-gap {z = negsuc n} d t = absurd t
+
 pub diff-natAbs : {z : ℤ} {h l : ℕ} → Diff z h l → natAbs z ≡ (h - l) + (l - h)
 diff-natAbs {z = pos n} d = omega arith
 diff-natAbs {z = negsuc n} d = omega arith
