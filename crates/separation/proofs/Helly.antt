@@ -10,7 +10,8 @@ use mathlib.Core.List.{List, [], _∷_}
 use mathlib.Core.Logic.{_⊎_, inl, inr}
 use Prim.Native.Nat.{ℕ, _+_, _*_, _<_}
 use native.Mathlib.Omega.{arith}
-use Rattle.separation.proofs.Radon.{Triple, Four, Blend, Radon, radon}
+use Rattle.separation.proofs.Dependency.{Four}
+use Rattle.separation.proofs.Radon.{Triple, Blend, Radon, radon}
 use Rattle.separation.proofs.Cone.{Cone, Mixed, Some, some-more, _∩_, all, half, _•_}
 
 -- the first weight is zero: the other three points will do

@@ -1,8 +1,11 @@
 pub mod Reflects
 pub mod Pigeonhole
+pub mod Dependency
 pub mod Radon
 pub mod Cone
 pub mod Helly
 pub mod Sides
+pub mod Near
 pub mod Weights
+pub mod Averages
 pub mod Separation

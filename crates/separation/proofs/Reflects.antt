@@ -1,8 +1,8 @@
 -- A test that computes, and the claim that it decides: `Reflects b P` says that b is true where P holds and false where it
--- does not. It goes through "and" and "or" of two and three tests, as the definitions of the crate plane join them.
+-- does not. It goes through "and", "or" and "not", so the test of a definition is read off part by part.
 -- Assumes nothing.
 use mathlib.Core.Path.{_≡_}
-use mathlib.Core.Bool.{Bool, true, false, _&&_, _||_}
+use mathlib.Core.Bool.{Bool, true, false, not, _&&_, _||_}
 use mathlib.Core.Logic.{_⊎_, inl, inr}
 use Prim.Native.Nat.{ℕ, _≤_, _<_}
 use lib.IntN.{ℤ}
@@ -36,10 +36,10 @@ reflects-and₃ p q r =
     let s = reflects-and (reflects-and p q) r in
     record { to = λ t. let h = s .to t in (h .0 .0, (h .0 .1, h .1)); from = λ h. s .from ((h .0, h .1 .0), h .1 .1) }
 
-pub reflects-or₃ : {a b c : Bool} {P Q R : Type 0} → Reflects a P → Reflects b Q → Reflects c R → Reflects (a || b || c) (P ⊎ (Q ⊎ R))
-reflects-or₃ {a = true} p q r = record { to = λ t. inl (p .to tt); from = λ h. tt }
-reflects-or₃ {a = false} {b = true} p q r = record { to = λ t. inr (inl (q .to tt)); from = λ h. tt }
-reflects-or₃ {a = false} {b = false} p q r = record {
-  to = λ t. inr (inr (r .to t));
-  from = elim [ inl x ↦ absurd (p .from x) | inr (inl x) ↦ absurd (q .from x) | inr (inr x) ↦ r .from x ];
-}
+pub reflects-or : {a b : Bool} {P Q : Type 0} → Reflects a P → Reflects b Q → Reflects (a || b) (P ⊎ Q)
+reflects-or {a = true} p q = record { to = λ t. inl (p .to tt); from = λ h. tt }
+reflects-or {a = false} p q = record { to = λ t. inr (q .to t); from = elim [ inl x ↦ absurd (p .from x) | inr x ↦ q .from x ] }
+
+pub reflects-not : {b : Bool} {P : Type 0} → Reflects b P → Reflects (not b) (¬ P)
+reflects-not {b = true} r = record { to = λ t. absurd t; from = λ h. h (r .to tt) }
+reflects-not {b = false} r = record { to = λ t x. r .from x; from = λ h. tt }

@@ -14,8 +14,10 @@ use Rattle.plane.specs.Interior.{CommonInterior, noSideSeparates, interiorsMeet
 use Rattle.separation.proofs.Reflects.{Reflects, reflects-dec, reflects-and, reflects-and₃}
 use Rattle.separation.proofs.Cone.{Cone, Some, some-more, _∩_, half}
 use Rattle.separation.proofs.Helly.{families-meet}
-use Rattle.separation.proofs.Sides.{side, fraction, inside, inside-reflects, Proper, proper-reflects, SomeCorner, someCorner-reflects, some-inside, near-corner}
-use Rattle.separation.proofs.Weights.{Average, weights, inside-held, some-corner}
+use Rattle.separation.proofs.Sides.{side, fraction, inside, inside-reflects, Proper, proper-reflects, SomeCorner, someCorner-reflects}
+use Rattle.separation.proofs.Near.{some-inside, near}
+use Rattle.separation.proofs.Weights.{Average, weights, inside-held}
+use Rattle.separation.proofs.Averages.{some-corner}
 
 -- for every side of s some corner of t lies on its inner side
 abbrev NoSide : Triangle → Triangle → Type 0
@@ -35,7 +37,8 @@ shows : (s t : Triangle) → T (proper t) → CommonInterior s t → NoSide s t
 shows s t d c =
     let v = weights t (c .point) d (c .above) (inside-held t (c .point) (c .second)) in
     let h = inside-reflects s (v .point) .to (rw (v .is) at (c .first)) in
-    (some-corner _ v (h .0), (some-corner _ v (h .1 .0), some-corner _ v (h .1 .1)))
+    let corner = some-corner 1 (omega arith) v in
+    (corner _ (h .0), (corner _ (h .1 .0), corner _ (h .1 .1)))
 
 -- ---- no side separates, so there is a common point
 
@@ -47,10 +50,10 @@ meets s t hs ht h k =
     families-meet (half (side (s .a) (s .b))) (half (side (s .b) (s .c))) (half (side (s .c) (s .a)))
     (half (side (t .a) (t .b))) (half (side (t .b) (t .c)) ∷ half (side (t .c) (t .a)) ∷ [])
     (some-inside s hs)
-    (near-corner s _ hs (k .0), (near-corner s _ hs (k .1 .0), near-corner s _ hs (k .1 .1)))
-    (swapped _ _ (near-corner t _ ht (h .0)))
-    (swapped _ _ (near-corner t _ ht (h .1 .0)))
-    (swapped _ _ (near-corner t _ ht (h .1 .1)))
+    (near s _ hs (k .0), (near s _ hs (k .1 .0), near s _ hs (k .1 .1)))
+    (swapped _ _ (near t _ ht (h .0)))
+    (swapped _ _ (near t _ ht (h .1 .0)))
+    (swapped _ _ (near t _ ht (h .1 .1)))
 
 common : (s t : Triangle) → Some (inside s ∩ inside t) → CommonInterior s t
 common s t z = record {

@@ -1,14 +1,10 @@
 -- The sides of a triangle as forms, its inside as three open half-planes and the closed triangle as three closed ones, tied
--- to the integer formulas of the crate plane.
--- Then the base of the theorem: where some corner of a triangle lies in an open half-plane, the half-plane has a point that
--- is strictly inside. Go from the sum of the corners far enough toward that corner: the inside is never left, and in the end
--- the half-plane is reached.
+-- to the integer formulas and to the tests of the crate plane.
 -- Assumes nothing.
 use mathlib.Core.Path.{_≡_, refl}
-use mathlib.Core.List.{List, [], _∷_}
-use mathlib.Core.Logic.{_⊎_, inl, inr}
-use Prim.Native.Nat.{ℕ, suc, _+_, _*_, _≤_, _<_}
-use native.Mathlib.Nat.{add-zero, mul-le-mul-left}
+use mathlib.Core.Logic.{_⊎_}
+use Prim.Native.Nat.{ℕ, _+_, _*_}
+use native.Mathlib.Nat.{add-zero}
 use native.Mathlib.Numerals.{add-one}
 use native.Mathlib.Omega.{arith}
 use lib.IntN.{pos}
@@ -19,9 +15,9 @@ use Rattle.plane.specs.Triangle.{Triangle, proper, strictlyInsideAt, holdsAt}
 use Rattle.plane.specs.Interior.{someCornerInner}
 use Rattle.plane.proofs.Difference.{Diff, diff-pos, diff-shift, diff-above, diff-nonneg}
 use Rattle.plane.proofs.OrientLaws.{orientAt-difference, orientAt-whole}
-use Rattle.separation.proofs.Reflects.{Reflects, reflects-le, reflects-and₃, reflects-or₃}
+use Rattle.separation.proofs.Reflects.{Reflects, reflects-le, reflects-and₃, reflects-or}
 use Rattle.separation.proofs.Radon.{Triple}
-use Rattle.separation.proofs.Cone.{Cone, Mixed, Some, Form, _∩_, all, half, halfClosed, _•_, •-mixed}
+use Rattle.separation.proofs.Cone.{Cone, Form, _∩_, half, halfClosed, _•_}
 
 -- a grid point as a triple, and a triple as a fractional point
 abbrev pub at : Point → Triple
@@ -93,53 +89,8 @@ corners-closed t h = omega arith
 
 -- some corner of t in a cone
 abbrev pub SomeCorner : Cone → Triangle → Type 0
-SomeCorner c t = c .Has (at (t .a)) ⊎ (c .Has (at (t .b)) ⊎ c .Has (at (t .c)))
+SomeCorner c t = (c .Has (at (t .a)) ⊎ c .Has (at (t .b))) ⊎ c .Has (at (t .c))
 
 pub someCorner-reflects : (p q : Point) (t : Triangle) → Reflects (someCornerInner p q t) (SomeCorner (half (side p q)) t)
 unfolding someCornerInner
-someCorner-reflects p q t = reflects-or₃ (corner-reflects p q (t .a)) (corner-reflects p q (t .b)) (corner-reflects p q (t .c))
-
--- ---- far enough toward a corner
-
--- the sum of the corners, which is the triangle's middle
-abbrev middle : Triangle → Triple
-middle t = record { x = t .a .x + t .b .x + t .c .x; y = t .a .y + t .b .y + t .c .y; w = 3 }
-
-middle-inside : (t : Triangle) → Proper t → inside t .Has (middle t)
-unfolding side _•_
-middle-inside t h = omega arith
-
-pub some-inside : (t : Triangle) → Proper t → Some (inside t)
-some-inside t h = record { point = middle t; above = omega arith; has = middle-inside t h }
-
--- k steps from m toward r
-abbrev toward : ℕ → Triple → Triple → Triple
-toward k m r = record { x = m .x + k * r .x; y = m .y + k * r .y; w = m .w + k * r .w }
-
-toward-mixed : (k : ℕ) (m r : Triple) → Mixed 1 k 0 m r r (toward k m r)
-toward-mixed k m r = omega arith
-
-stays : (f : Form) (k : ℕ) (m r : Triple) → half f .Has m → halfClosed f .Has r → half f .Has (toward k m r)
-stays f k m r hm hr =
-    omega (arith, •-mixed (f .low) (toward-mixed k m r), •-mixed (f .high) (toward-mixed k m r), mul-le-mul-left k hr)
-
-reaches : (f : Form) (m r : Triple) → half f .Has r → half f .Has (toward (suc (f .low • m)) m r)
-reaches f m r h =
-    let k = suc (f .low • m) in
-    omega (arith, •-mixed (f .low) (toward-mixed k m r), •-mixed (f .high) (toward-mixed k m r), mul-le-mul-left k h)
-
-near : (t : Triangle) (f : Form) (r : Triple) → Proper t → closed t .Has r → half f .Has r → Some (inside t ∩ half f)
-near t f r h hr hf =
-    let m = middle t in
-    let hm = middle-inside t h in
-    let k = suc (f .low • m) in
-    record {
-      point = toward k m r;
-      above = omega arith;
-      has = ((stays _ k m r (hm .0) (hr .0), (stays _ k m r (hm .1 .0) (hr .1 .0), stays _ k m r (hm .1 .1) (hr .1 .1))), reaches f m r hf);
-    }
-
-pub near-corner : (t : Triangle) (f : Form) → Proper t → SomeCorner (half f) t → Some (inside t ∩ half f)
-near-corner t f h (inl i) = near t f (at (t .a)) h (corners-closed t h .0) i
-near-corner t f h (inr (inl i)) = near t f (at (t .b)) h (corners-closed t h .1) i
-near-corner t f h (inr (inr i)) = near t f (at (t .c)) h (corners-closed t h .2) i
+someCorner-reflects p q t = reflects-or (reflects-or (corner-reflects p q (t .a)) (corner-reflects p q (t .b))) (corner-reflects p q (t .c))

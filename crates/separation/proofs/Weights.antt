@@ -1,13 +1,10 @@
 -- Weights. Write D for the doubled area of a proper triangle abc, and let a point be held by it. Then D times the point is
 -- D(b,c,·) a + D(c,a,·) b + D(a,b,·) c, at the point: Cramer's rule. So the point is an average of the corners, with natural
--- weights; hence its X and Y, any integers at first, are naturals, and a form that is not above zero at the corners is not
--- above zero at the point.
+-- weights; hence its X and Y, any integers at first, are naturals.
 -- Assumes nothing.
 use mathlib.Core.Path.{_≡_, refl, _∙_, ap}
-use mathlib.Core.Logic.{_⊎_, inl, inr}
-use Prim.Native.Nat.{ℕ, suc, _+_, _*_, _≤_, _<_}
-use native.Mathlib.Decide.{decLe}
-use native.Mathlib.Nat.{mul-one, add-mul, mul-assoc, mul-comm, mul-left-comm, le-of-mul-le-mul-left, mul-pos}
+use Prim.Native.Nat.{ℕ, suc, _+_, _*_, _<_}
+use native.Mathlib.Nat.{mul-one, add-mul, mul-assoc, mul-comm, mul-left-comm, mul-pos}
 use native.Mathlib.Omega.{arith}
 use lib.Dec.{T, ltb→lt, le→leb}
 use lib.IntN.{ℤ, pos, negsuc, natAbs}
@@ -19,8 +16,8 @@ use Rattle.plane.proofs.Difference.{Diff, diff-shift, diff-gap}
 use Rattle.plane.proofs.OrientLaws.{orientAt-difference}
 use Rattle.separation.proofs.Reflects.{Reflects, reflects-leZ, reflects-ltZ, reflects-and₃}
 use Rattle.separation.proofs.Radon.{Triple}
-use Rattle.separation.proofs.Cone.{Form, _•_, Mixed, •-mixed, half, halfClosed}
-use Rattle.separation.proofs.Sides.{side, side-low, side-high, corner-difference, at, fraction, SomeCorner}
+use Rattle.separation.proofs.Cone.{Form, _•_, Mixed}
+use Rattle.separation.proofs.Sides.{side, side-low, side-high, corner-difference, at, fraction}
 
 -- ---- Cramer's rule
 
@@ -116,6 +113,7 @@ times k z = record { x = k * z .x; y = k * z .y; w = k * z .w }
 -- a point is an average of a triangle's corners
 pub record Average (t : Triangle) (p : FracPoint) : Type 0 where
   pub point : Triple
+  pub above : 0 < point .w
   pub is : p ≡ fraction point
   pub area : 0 < doubledArea t
   pub mixed : Mixed (weight (t .b) (t .c) p) (weight (t .c) (t .a) p) (weight (t .a) (t .b) p) (at (t .a)) (at (t .b)) (at (t .c)) (times (doubledArea t) point)
@@ -129,6 +127,7 @@ average t p above d h =
     let y = natural (p .Y) (doubledArea t) _ area (weigh t p d h _ _ _ _ _ (cramer-y t (plus p)) (cramer-y t (minus p))) in
     record {
       point = record { x = natAbs (p .X); y = natAbs (p .Y); w = p .W };
+      above = above;
       is = λ i. record { X = x .0 i; Y = y .0 i; W = p .W };
       area = area;
       mixed = record { x = x .1; y = y .1; w = omega (arith, w); some = omega (arith, mul-pos area above, w) };
@@ -143,28 +142,3 @@ pub inside-held : (t : Triangle) (p : FracPoint) → T (strictlyInsideAt t p) �
 inside-held t p h =
     let k = strictly-reflects t p .to h in
     holds-reflects t p .from (positive-nonneg (k .0), (positive-nonneg (k .1 .0), positive-nonneg (k .1 .1)))
-
--- ---- forms at an average
-
-times-mixed : (k : ℕ) (z : Triple) → 0 < k → Mixed k 0 0 z z z (times k z)
-times-mixed k z h = omega arith
-
--- a form that is at least zero at the corners is so at the point
-pub at-average : (f : Form) {t : Triangle} {p : FracPoint} (v : Average t p)
-    → halfClosed f .Has (at (t .a)) → halfClosed f .Has (at (t .b)) → halfClosed f .Has (at (t .c)) → halfClosed f .Has (v .point)
-at-average f {t} v ha hb hc =
-    let m = times-mixed (doubledArea t) (v .point) (v .area) in
-    let k = halfClosed f .mix (v .mixed) ha hb hc in
-    le-of-mul-le-mul-left (omega (arith, •-mixed (f .low) m, •-mixed (f .high) m)) (v .area)
-
-one-of-three : {A B C : Type 0} → Dec A → Dec B → Dec C → (¬ A → ¬ B → ¬ C → ⊥) → A ⊎ (B ⊎ C)
-one-of-three (yes a) e f g = inl a
-one-of-three (no a) (yes b) f g = inr (inl b)
-one-of-three (no a) (no b) (yes c) g = inr (inr c)
-one-of-three (no a) (no b) (no c) g = absurd (g a b c)
-
--- a form that is above zero at the point is so at some corner
-pub some-corner : (f : Form) {t : Triangle} {p : FracPoint} (v : Average t p) → half f .Has (v .point) → SomeCorner (half f) t
-some-corner f v h =
-    one-of-three (decLe _ _) (decLe _ _) (decLe _ _)
-    (λ a b c. let k = at-average (record { low = f .high; high = f .low }) v (omega arith) (omega arith) (omega arith) in omega arith)
