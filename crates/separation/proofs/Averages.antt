@@ -48,7 +48,7 @@ product-small zero w h k = omega arith
 product-small (suc zero) w h k = omega arith
 product-small (suc (suc e)) w h k = absurd (omega arith)
 
-one-of-three : {A B C : Type 0} → Dec A → Dec B → Dec C → (¬ A → ¬ B → ¬ C → ⊥) → (A ⊎ B) ⊎ C
+pub one-of-three : {A B C : Type 0} → Dec A → Dec B → Dec C → (¬ A → ¬ B → ¬ C → ⊥) → (A ⊎ B) ⊎ C
 one-of-three (yes a) e f g = inl (inl a)
 one-of-three (no a) (yes b) f g = inl (inr b)
 one-of-three (no a) (no b) (yes c) g = inr c

@@ -57,6 +57,10 @@ pub record Form : Type 0 where
   pub low : Triple
   pub high : Triple
 
+-- the form with the other sign
+abbrev pub flip : Form → Form
+flip f = record { low = f .high; high = f .low }
+
 pub half-mixed : (e : ℕ) (f : Form) {l m n : ℕ} {p q r z : Triple} → Mixed l m n p q r z
     → f .low • p + e ≤ f .high • p → f .low • q + e ≤ f .high • q → f .low • r + e ≤ f .high • r → f .low • z + e ≤ f .high • z
 half-mixed e f {l} {m} {n} h hp hq hr =

@@ -9,3 +9,5 @@ pub mod Near
 pub mod Weights
 pub mod Averages
 pub mod Separation
+pub mod Boxes
+pub mod Meets

@@ -40,6 +40,15 @@ pub reflects-or : {a b : Bool} {P Q : Type 0} → Reflects a P → Reflects b Q 
 reflects-or {a = true} p q = record { to = λ t. inl (p .to tt); from = λ h. tt }
 reflects-or {a = false} p q = record { to = λ t. inr (q .to t); from = elim [ inl x ↦ absurd (p .from x) | inr x ↦ q .from x ] }
 
-pub reflects-not : {b : Bool} {P : Type 0} → Reflects b P → Reflects (not b) (¬ P)
-reflects-not {b = true} r = record { to = λ t. absurd t; from = λ h. h (r .to tt) }
-reflects-not {b = false} r = record { to = λ t x. r .from x; from = λ h. tt }
+-- the other way round: b is false where P holds and true where it does not
+pub record Refutes (b : Bool) (P : Type 0) : Type 0 where
+  pub to : (T b → ⊥) → P
+  pub from : P → T b → ⊥
+
+pub refutes-or : {a b : Bool} {P Q : Type 0} → Refutes a P → Refutes b Q → Refutes (a || b) (P × Q)
+refutes-or {a = true} p q = record { to = λ n. absurd (n tt); from = λ h t. p .from (h .0) t }
+refutes-or {a = false} p q = record { to = λ n. (p .to (λ t. t), q .to n); from = λ h t. q .from (h .1) t }
+
+pub reflects-not : {b : Bool} {P : Type 0} → Refutes b P → Reflects (not b) P
+reflects-not {b = true} r = record { to = λ t. absurd t; from = λ h. r .from h tt }
+reflects-not {b = false} r = record { to = λ t. r .to (λ n. n); from = λ h. tt }
