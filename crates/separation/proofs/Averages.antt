@@ -1,6 +1,6 @@
--- Forms at an average of a triangle's corners: a form that is at least zero at the corners is so at the average; and a form
--- that is at least zero at the average, or above zero, is so at some corner, since otherwise the form with the other sign would
--- be too large at the corners.
+-- Forms at an average of a triangle's corners. A form that is at least zero at the corners is so at the average. A form
+-- that is at least zero at the average, or above zero, is so at some corner: otherwise a form with the other sign would be
+-- at least zero at the corners.
 -- Assumes nothing.
 use mathlib.Core.Path.{_≡_, refl, ap}
 use mathlib.Core.Logic.{_⊎_, inl, inr}
@@ -19,7 +19,8 @@ times-mixed : (k : ℕ) (z : Triple) → 0 < k → Mixed k 0 0 z z z (times k z)
 times-mixed k z h = omega arith
 
 pub at-average : (f : Form) {t : Triangle} {p : FracPoint} (v : Average t p)
-    → halfClosed f .Has (at (t .a)) → halfClosed f .Has (at (t .b)) → halfClosed f .Has (at (t .c)) → halfClosed f .Has (v .point)
+    → halfClosed f .Has (at (t .a)) → halfClosed f .Has (at (t .b)) → halfClosed f .Has (at (t .c))
+    → halfClosed f .Has (v .point)
 at-average f {t} v ha hb hc =
     let m = times-mixed (doubledArea t) (v .point) (v .area) in
     let k = halfClosed f .mix (v .mixed) ha hb hc in
@@ -55,8 +56,10 @@ one-of-three (no a) (no b) (yes c) g = inr c
 one-of-three (no a) (no b) (no c) g = absurd (g a b c)
 
 -- e is 0 for the closed half-plane and 1 for the open one
-pub some-corner : (e : ℕ) → e ≤ 1 → {t : Triangle} {p : FracPoint} (v : Average t p) (f : Form) → halfFrom e f .Has (v .point) → SomeCorner (halfFrom e f) t
+pub some-corner : (e : ℕ) → e ≤ 1 → {t : Triangle} {p : FracPoint} (v : Average t p)
+    → (f : Form) → halfFrom e f .Has (v .point) → SomeCorner (halfFrom e f) t
 some-corner e small v f h =
     one-of-three (decLe _ _) (decLe _ _) (decLe _ _) λ a b c.
-    let k = at-average (below e f) v (below-corner e f _ refl a) (below-corner e f _ refl b) (below-corner e f _ refl c) in
+    let corner = below-corner e f in
+    let k = at-average (below e f) v (corner _ refl a) (corner _ refl b) (corner _ refl c) in
     omega (arith, below-low e f (v .point), below-high e f (v .point), product-small e (v .point .w) small (v .above))

@@ -32,7 +32,10 @@ some-more c d f s = record { point = s .point; above = s .above; has = f (s .poi
 
 infixr 40 _∩_
 abbrev pub _∩_ : Cone → Cone → Cone
-c ∩ d = record { Has = λ t. c .Has t × d .Has t; mix = λ m p q r. (c .mix m (p .0) (q .0) (r .0), d .mix m (p .1) (q .1) (r .1)) }
+c ∩ d = record {
+  Has = λ t. c .Has t × d .Has t;
+  mix = λ m p q r. (c .mix m (p .0) (q .0) (r .0), d .mix m (p .1) (q .1) (r .1));
+}
 
 -- the intersection of one or more cones
 abbrev pub all : Cone → List Cone → Cone
@@ -48,7 +51,8 @@ row : (k l m n p q r : ℕ) → k * (l * p + m * q + n * r) ≡ l * (k * p) + m 
 row k l m n p q r = omega arith
 
 -- it mixes as the points do
-pub •-mixed : (u : Triple) {l m n : ℕ} {p q r z : Triple} → Mixed l m n p q r z → u • z ≡ l * (u • p) + m * (u • q) + n * (u • r)
+pub •-mixed : (u : Triple) {l m n : ℕ} {p q r z : Triple} → Mixed l m n p q r z
+    → u • z ≡ l * (u • p) + m * (u • q) + n * (u • r)
 unfolding _•_
 •-mixed u h = rw (h .x, h .y, h .w, row (u .x), row (u .y), row (u .w)) (simp mul-add (omega arith))
 
@@ -62,9 +66,12 @@ abbrev pub flip : Form → Form
 flip f = record { low = f .high; high = f .low }
 
 pub half-mixed : (e : ℕ) (f : Form) {l m n : ℕ} {p q r z : Triple} → Mixed l m n p q r z
-    → f .low • p + e ≤ f .high • p → f .low • q + e ≤ f .high • q → f .low • r + e ≤ f .high • r → f .low • z + e ≤ f .high • z
+    → f .low • p + e ≤ f .high • p → f .low • q + e ≤ f .high • q → f .low • r + e ≤ f .high • r
+    → f .low • z + e ≤ f .high • z
 half-mixed e f {l} {m} {n} h hp hq hr =
-    omega (arith, •-mixed (f .low) h, •-mixed (f .high) h, mul-le-mul-left l hp, mul-le-mul-left m hq, mul-le-mul-left n hr, mul-le-mul-left e (h .some))
+    let low = •-mixed (f .low) h in
+    let high = •-mixed (f .high) h in
+    omega (arith, mul-le-mul-left l hp, mul-le-mul-left m hq, mul-le-mul-left n hr, mul-le-mul-left e (h .some))
 
 -- where a form is at least e
 abbrev pub halfFrom : ℕ → Form → Cone

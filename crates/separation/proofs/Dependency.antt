@@ -1,6 +1,6 @@
--- Four triples of naturals are linearly dependent, with weights that are naturals: two different choices of four weights give
--- the same three sums. It is shown by counting. There are B⁴ choices of weights below B, and the sums have fewer than B³ M³
--- values, where M exceeds all the numbers together; so with B > M³ two choices agree.
+-- Four triples of naturals are linearly dependent, with weights that are naturals: two different choices of four weights
+-- give the same three sums. It is shown by counting. There are B⁴ choices of weights below B, and the sums have fewer than
+-- B³ M³ values, where M exceeds all the numbers together; so with B > M³ two choices agree.
 -- Assumes nothing.
 use mathlib.Core.Path.{_≡_, refl, _∙_, sym, ap, ap₂}
 use Prim.Native.Nat.{ℕ, suc, _+_, _*_, _/_, _%_, _≤_, _<_}
@@ -22,7 +22,7 @@ total u = u .a + u .b + u .c + u .d
 abbrev pub dot : Four → Four → ℕ
 dot u v = u .a * v .a + u .b * v .b + u .c * v .c + u .d * v .d
 
--- the four digits of i to the base B, of which the last may be large
+-- the four digits of i to the base B, of which the last may be large, and i from its digits
 abbrev digits : ℕ → ℕ → Four
 digits B i = record { a = i % B; b = i / B % B; c = i / B / B % B; d = i / B / B / B }
 
@@ -45,7 +45,11 @@ digits-below B i h k = record {
 
 dot-below : (B M : ℕ) (u v : Four) → Below B u → total v < M → dot u v < B * M
 dot-below B M u v h k =
-    omega (arith, mul-le-mul-right (v .a) (h .a), mul-le-mul-right (v .b) (h .b), mul-le-mul-right (v .c) (h .c), mul-le-mul-right (v .d) (h .d), mul-le-mul-left B k, h .a)
+    let a = mul-le-mul-right (v .a) (h .a) in
+    let b = mul-le-mul-right (v .b) (h .b) in
+    let c = mul-le-mul-right (v .c) (h .c) in
+    let d = mul-le-mul-right (v .d) (h .d) in
+    omega (arith, mul-le-mul-left B k, h .a)
 
 -- two numbers below S as one below S * S, and back
 unpaired : (S : ℕ) {q r q′ r′ : ℕ} → r < S → r′ < S → q * S + r ≡ q′ * S + r′ → (q ≡ q′) × (r ≡ r′)
@@ -87,7 +91,8 @@ module _ (xs ys ws : Four) where
   unfolding B S
   sum-below v h i k = dot-below B M (digits B i) v (digits-below B i (omega arith) (omega (arith, room M B refl))) h
 
-  sums-below : (i : ℕ) → i ≤ S * S * S → (dot (digits B i) ws < S) × (dot (digits B i) ys < S) × (dot (digits B i) xs < S)
+  sums-below : (i : ℕ) → i ≤ S * S * S
+      → (dot (digits B i) ws < S) × (dot (digits B i) ys < S) × (dot (digits B i) xs < S)
   unfolding M
   sums-below i k = (sum-below ws (omega arith) i k, sum-below ys (omega arith) i k, sum-below xs (omega arith) i k)
 

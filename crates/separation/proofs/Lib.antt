@@ -6,8 +6,10 @@ pub mod Cone
 pub mod Helly
 pub mod Sides
 pub mod Near
+pub mod Cramer
 pub mod Weights
 pub mod Averages
 pub mod Separation
 pub mod Boxes
+pub mod Touch
 pub mod Meets

@@ -1,6 +1,6 @@
--- The base of the theorem. Where some corner of a proper triangle lies in an open half-plane, the half-plane has a point that
--- is strictly inside: go from the sum of the corners far enough toward that corner. The inside is never left on the way, and
--- in the end the half-plane is reached.
+-- The base of the theorem. Where some corner of a proper triangle lies in an open half-plane, the half-plane has a point
+-- that is strictly inside: go from the sum of the corners far enough toward that corner. The inside is never left on the
+-- way, and in the end the half-plane is reached.
 -- Assumes nothing.
 use mathlib.Core.Logic.{inl, inr}
 use Prim.Native.Nat.{ℕ, suc, _+_, _*_}

@@ -1,6 +1,6 @@
 -- The pigeonhole principle: of n + 1 numbers below n two are equal. By induction on n: look for the last number among the
--- others. If it is there, that is the pair. If it is not, take its value out: the numbers above it become one less, and the
--- others are n numbers below n − 1.
+-- others. If it is there, that is the pair. If it is not, take its value out: the numbers above it become one less, and
+-- the others are n numbers below n − 1.
 -- Assumes nothing.
 use mathlib.Core.Path.{_≡_, _∙_, sym, ap}
 use mathlib.Core.Logic.{_≢_, _⊎_, inl, inr}

@@ -4,7 +4,7 @@
 use mathlib.Core.Path.{_≡_}
 use mathlib.Core.Bool.{Bool, true, false, not, _&&_, _||_}
 use mathlib.Core.Logic.{_⊎_, inl, inr}
-use Prim.Native.Nat.{ℕ, _≤_, _<_}
+use Prim.Native.Nat.{ℕ, _≤_}
 use lib.IntN.{ℤ}
 use lib.Signed.{ltZ, leZ, _≤ℤ_, _<ℤ_, leZ-yes, ltZ-yes}
 use lib.Dec.{T, leb, leb→le, le→leb}
@@ -31,14 +31,18 @@ pub reflects-and : {a b : Bool} {P Q : Type 0} → Reflects a P → Reflects b Q
 reflects-and {a = true} p q = record { to = λ t. (p .to tt, q .to t); from = λ h. q .from (h .1) }
 reflects-and {a = false} p q = record { to = λ t. absurd t; from = λ h. p .from (h .0) }
 
-pub reflects-and₃ : {a b c : Bool} {P Q R : Type 0} → Reflects a P → Reflects b Q → Reflects c R → Reflects (a && b && c) (P × (Q × R))
+pub reflects-and₃ : {a b c : Bool} {P Q R : Type 0} → Reflects a P → Reflects b Q → Reflects c R
+    → Reflects (a && b && c) (P × (Q × R))
 reflects-and₃ p q r =
     let s = reflects-and (reflects-and p q) r in
     record { to = λ t. let h = s .to t in (h .0 .0, (h .0 .1, h .1)); from = λ h. s .from ((h .0, h .1 .0), h .1 .1) }
 
 pub reflects-or : {a b : Bool} {P Q : Type 0} → Reflects a P → Reflects b Q → Reflects (a || b) (P ⊎ Q)
 reflects-or {a = true} p q = record { to = λ t. inl (p .to tt); from = λ h. tt }
-reflects-or {a = false} p q = record { to = λ t. inr (q .to t); from = elim [ inl x ↦ absurd (p .from x) | inr x ↦ q .from x ] }
+reflects-or {a = false} p q = record {
+  to = λ t. inr (q .to t);
+  from = elim [ inl x ↦ absurd (p .from x) | inr x ↦ q .from x ];
+}
 
 -- the other way round: b is false where P holds and true where it does not
 pub record Refutes (b : Bool) (P : Type 0) : Type 0 where

@@ -1,28 +1,28 @@
 -- The separation theorem: two proper triangles have a point strictly inside both exactly where no side of either separates
 -- them, that is, where for every side of each some corner of the other lies on its inner side.
--- A common point gives such corners: it is an average of the corners of t, and lies on the inner side of every side of s, so
--- some corner of t does. The other way, each side of s has a point of the inside of t on its inner side, near that corner,
--- and with the triangles exchanged too; so the two families of three open half-planes meet, by Helly's theorem.
+-- A common point gives such corners: it is an average of the corners of t, and lies on the inner side of every side of s,
+-- so some corner of t does. The other way, each side of s has a point of the inside of t on its inner side, near that
+-- corner, and so with the triangles exchanged; so the two families of three open half-planes meet, by Helly's theorem.
 -- Assumes nothing.
 use mathlib.Core.Logic.{_↔_}
 use mathlib.Core.List.{[], _∷_}
-use Prim.Native.Nat.{_<_}
 use native.Mathlib.Omega.{arith}
 use lib.Dec.{T}
-use Rattle.plane.specs.Triangle.{Triangle, proper, strictlyInsideAt}
+use Rattle.plane.specs.Triangle.{Triangle, proper}
 use Rattle.plane.specs.Interior.{CommonInterior, noSideSeparates, interiorsMeet}
 use Rattle.separation.proofs.Reflects.{Reflects, reflects-dec, reflects-and, reflects-and₃}
 use Rattle.separation.proofs.Cone.{Cone, Some, some-more, _∩_, half}
 use Rattle.separation.proofs.Helly.{families-meet}
 use Rattle.separation.proofs.Sides.{side, fraction, inside, inside-reflects, Proper, proper-reflects, SomeCorner, someCorner-reflects}
 use Rattle.separation.proofs.Near.{some-inside, near}
-use Rattle.separation.proofs.Weights.{Average, weights, inside-held}
+use Rattle.separation.proofs.Weights.{weights, inside-held}
 use Rattle.separation.proofs.Averages.{some-corner}
 
 -- for every side of s some corner of t lies on its inner side
 abbrev NoSide : Triangle → Triangle → Type 0
 NoSide s t =
-    SomeCorner (half (side (s .a) (s .b))) t × (SomeCorner (half (side (s .b) (s .c))) t × SomeCorner (half (side (s .c) (s .a))) t)
+    SomeCorner (half (side (s .a) (s .b))) t
+    × (SomeCorner (half (side (s .b) (s .c))) t × SomeCorner (half (side (s .c) (s .a))) t)
 
 noSide-reflects : (s t : Triangle) → Reflects (noSideSeparates s t) (NoSide s t)
 unfolding noSideSeparates
@@ -68,7 +68,9 @@ unfolding interiorsMeet
 separation s t ds dt =
     let r = reflects-and (noSide-reflects s t) (noSide-reflects t s) in
     record {
-      to = λ m. let h = r .to m in common s t (meets s t (proper-reflects s .to ds) (proper-reflects t .to dt) (h .0) (h .1));
+      to = λ m.
+          let h = r .to m in
+          common s t (meets s t (proper-reflects s .to ds) (proper-reflects t .to dt) (h .0) (h .1));
       from = λ c. r .from (shows s t dt c, shows t s ds (commonInterior-sym c));
     }
 

@@ -1,9 +1,9 @@
--- The sides of a triangle as forms, its inside as three open half-planes and the closed triangle as three closed ones, tied
--- to the integer formulas and to the tests of the crate plane.
+-- The sides of a triangle as forms, its inside as three open half-planes and the closed triangle as three closed ones,
+-- tied to the integer formulas and to the tests of the crate plane.
 -- Assumes nothing.
 use mathlib.Core.Path.{_≡_, refl}
 use mathlib.Core.Logic.{_⊎_}
-use Prim.Native.Nat.{ℕ, _+_, _*_}
+use Prim.Native.Nat.{_+_, _*_}
 use native.Mathlib.Nat.{add-zero}
 use native.Mathlib.Numerals.{add-one}
 use native.Mathlib.Omega.{arith}
@@ -41,15 +41,19 @@ pub side-high : (p q : Point) (t : Triple) → side p q .high • t ≡ p .y * t
 unfolding side _•_
 side-high p q t = refl
 
-pub side-difference : (p q : Point) (t : Triple) → Diff (orientAt p q (fraction t)) (side p q .high • t) (side p q .low • t)
+pub side-difference : (p q : Point) (t : Triple)
+    → Diff (orientAt p q (fraction t)) (side p q .high • t) (side p q .low • t)
 unfolding side _•_
-side-difference p q t = diff-shift _ _ (orientAt-difference p q (fraction t) (diff-pos (t .x)) (diff-pos (t .y))) (omega arith)
+side-difference p q t =
+    diff-shift _ _ (orientAt-difference p q (fraction t) (diff-pos (t .x)) (diff-pos (t .y))) (omega arith)
 
 -- D > 0 and D ≥ 0 at a triple
-pub positive-reflects : (p q : Point) (t : Triple) → Reflects (ltZ (pos 0) (orientAt p q (fraction t))) (half (side p q) .Has t)
+pub positive-reflects : (p q : Point) (t : Triple)
+    → Reflects (ltZ (pos 0) (orientAt p q (fraction t))) (half (side p q) .Has t)
 positive-reflects p q t = rw add-one (reflects-le (diff-above (side-difference p q t)))
 
-pub nonneg-reflects : (p q : Point) (t : Triple) → Reflects (leZ (pos 0) (orientAt p q (fraction t))) (halfClosed (side p q) .Has t)
+pub nonneg-reflects : (p q : Point) (t : Triple)
+    → Reflects (leZ (pos 0) (orientAt p q (fraction t))) (halfClosed (side p q) .Has t)
 nonneg-reflects p q t = rw add-zero (reflects-le (diff-nonneg (side-difference p q t)))
 
 -- the same at a grid point
@@ -83,7 +87,8 @@ pub proper-reflects : (t : Triangle) → Reflects (proper t) (Proper t)
 unfolding proper
 proper-reflects t = corner-reflects _ _ _
 
-pub corners-closed : (t : Triangle) → Proper t → closed t .Has (at (t .a)) × closed t .Has (at (t .b)) × closed t .Has (at (t .c))
+pub corners-closed : (t : Triangle) → Proper t
+    → closed t .Has (at (t .a)) × closed t .Has (at (t .b)) × closed t .Has (at (t .c))
 unfolding side _•_
 corners-closed t h = omega arith
 
@@ -93,4 +98,5 @@ SomeCorner c t = (c .Has (at (t .a)) ⊎ c .Has (at (t .b))) ⊎ c .Has (at (t .
 
 pub someCorner-reflects : (p q : Point) (t : Triangle) → Reflects (someCornerInner p q t) (SomeCorner (half (side p q)) t)
 unfolding someCornerInner
-someCorner-reflects p q t = reflects-or (reflects-or (corner-reflects p q (t .a)) (corner-reflects p q (t .b))) (corner-reflects p q (t .c))
+someCorner-reflects p q t =
+    reflects-or (reflects-or (corner-reflects p q (t .a)) (corner-reflects p q (t .b))) (corner-reflects p q (t .c))
