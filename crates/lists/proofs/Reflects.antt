@@ -27,9 +27,9 @@ reflects-ltb m n = record { to = ltb→lt m n; from = lt→ltb m n }
 pub reflects-eqb : (m n : ℕ) → Reflects (eqb m n) (m ≡ n)
 reflects-eqb m n = record { to = eqb→eq m n; from = λ e. rw e (eqb-refl n) }
 
--- where the test is another one's equal
-pub reflects-as : {a b : Bool} {P : Type 0} → a ≡ b → Reflects b P → Reflects a P
-reflects-as e r = rw e r
+-- of a test that is an order's
+pub reflects-le : {b : Bool} {m n : ℕ} → b ≡ leb m n → Reflects b (m ≤ n)
+reflects-le {m = m} {n = n} e = rw e (reflects-leb m n)
 
 pub reflects-leZ : {a b : ℤ} → Reflects (leZ a b) (a ≤ℤ b)
 reflects-leZ = record { to = leZ-yes; from = λ h. h .le }

@@ -2,7 +2,7 @@
 -- and sums of naturals are not, so an integer formula is followed by such a pair: the relation goes through negation,
 -- sum, difference and product, and in the end the order of two integers is the order of two sums of naturals.
 -- Assumes nothing.
-use mathlib.Core.Path.{_≡_, refl, _∙_, sym, ap}
+use mathlib.Core.Path.{_≡_, refl, _∙_, ap}
 use mathlib.Core.Bool.{Bool, true, false, cond}
 use mathlib.Core.Logic.{_↔_}
 use Prim.Native.Nat.{ℕ, zero, suc, _+_, _*_, _-_, _≤_}
@@ -63,7 +63,8 @@ diff-sub d e = diff-add d (diff-neg e)
 pub diff : (h l : ℕ) → Diff (pos h -ℤ pos l) h l
 diff h l = diff-shift h l (diff-sub (diff-pos h) (diff-pos l)) (omega arith)
 
-diff-mul-pos : {n p h l k m : ℕ} → Diff (pos n) h l → Diff (pos p) k m → Diff (pos (n * p)) (h * k + l * m) (h * m + l * k)
+diff-mul-pos : {n p h l k m : ℕ} → Diff (pos n) h l → Diff (pos p) k m
+    → Diff (pos (n * p)) (h * k + l * m) (h * m + l * k)
 diff-mul-pos d e = record { at = rw (d .at, e .at) (omega arith) }
 
 pub diff-mul : {z w : ℤ} {h l k m : ℕ} → Diff z h l → Diff w k m → Diff (z *ℤ w) (h * k + l * m) (h * m + l * k)
@@ -106,6 +107,10 @@ diff-below d = diff-lt d (diff-pos 0) ∙ simp (zero-add, add-zero)
 -- the value of a difference
 pub diff-value : {z : ℤ} {h l : ℕ} → Diff z h l → l ≤ h → z ≡ pos (h - l)
 diff-value d h = diff-unique d (record { at = omega arith })
+
+pub diff-gap : {z : ℤ} {h l : ℕ} → Diff z h l → T (leZ (pos 0) z) → h ≡ l + natAbs z
+diff-gap {z = pos n} d t = d .at
+diff-gap {z = negsuc n} d t = absurd t
 
 pub diff-natAbs : {z : ℤ} {h l : ℕ} → Diff z h l → natAbs z ≡ (h - l) + (l - h)
 diff-natAbs {z = pos n} d = omega arith

@@ -1,6 +1,6 @@
--- Laws of D, `orient`, and of the same formula at a fractional point, `orientAt`. D(p,q,r) is the difference of two sums of
--- three products each, `orientHigh` − `orientLow`; so its sign is the order of these two sums, which code and proofs compare
--- instead. Each law follows the integer formula by `Diff` and leaves an equation of sums of products.
+-- Laws of D, `orient`, and of the same formula at a fractional point, `orientAt`. D(p,q,r) is the difference of two sums
+-- of three products each, `orientHigh` − `orientLow`; so its sign is the order of these two sums, which code and proofs
+-- compare instead. Each law follows the integer formula by `Diff` and leaves an equation of sums of products.
 -- Assumes nothing.
 use mathlib.Core.Path.{_≡_}
 use Prim.Native.Nat.{ℕ, _+_, _*_}
@@ -41,7 +41,8 @@ pub orient-rotate : (p q r : Point) → orient p q r ≡ orient q r p
 orient-rotate p q r = diff-unique (orient-difference p q r) (diff-shift _ _ (orient-difference q r p) (omega arith))
 
 pub orient-swap : (p q r : Point) → orient q p r ≡ negℤ (orient p q r)
-orient-swap p q r = diff-unique (orient-difference q p r) (diff-shift _ _ (diff-neg (orient-difference p q r)) (omega arith))
+orient-swap p q r =
+    diff-unique (orient-difference q p r) (diff-shift _ _ (diff-neg (orient-difference p q r)) (omega arith))
 
 -- at a fractional point (X/W, Y/W), with X and Y as differences
 pub orientAt-difference : (p q : Point) (r : FracPoint) {xh xl yh yl : ℕ} → Diff (r .X) xh xl → Diff (r .Y) yh yl

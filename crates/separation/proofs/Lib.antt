@@ -1,0 +1,14 @@
+pub mod Pigeonhole
+pub mod Dependency
+pub mod Radon
+pub mod Cone
+pub mod Helly
+pub mod Sides
+pub mod Near
+pub mod Cramer
+pub mod Weights
+pub mod Averages
+pub mod Separation
+pub mod Boxes
+pub mod Touch
+pub mod Meets
