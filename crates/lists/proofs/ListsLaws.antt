@@ -4,7 +4,11 @@ use mathlib.Core.Path.{_≡_, refl, sym, subst}
 use mathlib.Core.Bool.{Bool, true, false}
 use mathlib.Core.List.{List, [], _∷_, List·Memᴰ, List·Memᴰ·head, List·Memᴰ·tail, List·Memᴰ·cases-cons, List·Memᴰ·not-nil}
 use mathlib.Core.Logic.{_⊎_, inl, inr}
-use Rattle.lists.specs.Lists.{all, any}
+use Prim.Native.Nat.{ℕ, zero, suc, _+_, _≤_, _<_}
+use native.Mathlib.Decide.{decLe}
+use native.Mathlib.Omega.{arith}
+use lib.ListN.{length, getD}
+use Rattle.lists.specs.Lists.{all, any, countFrom, upTo}
 use Rattle.lists.proofs.Reflects.{Reflects, reflects-then, reflects-else, reflects-iff}
 
 -- every element of the list has P
@@ -47,3 +51,36 @@ module _ {A : Type 0} {P : A → Type 0} (f : A → Bool) (r : (x : A) → Refle
   unfolding any
   any-reflects [] = record { to = λ t. absurd t; from = λ s. absurd (List·Memᴰ·not-nil (s .member)) }
   any-reflects (y ∷ ys) = reflects-iff some-cons some-uncons (reflects-else (f y) (r y) (any-reflects ys))
+
+-- the numbers of `upTo n` are those below n
+countFrom-to : (k n : ℕ) {i : ℕ} → List·Memᴰ i (countFrom k n) → (k ≤ i) × (i < k + n)
+unfolding countFrom
+countFrom-to k zero m = absurd (List·Memᴰ·not-nil m)
+countFrom-to k (suc n) {i} m = go (λ h. countFrom-to (suc k) n h) (List·Memᴰ·cases-cons m)
+  where
+    go : (List·Memᴰ i (countFrom (suc k) n) → (suc k ≤ i) × (i < suc k + n)) → (i ≡ k) ⊎ List·Memᴰ i (countFrom (suc k) n)
+        → (k ≤ i) × (i < k + suc n)
+    go below (inl e) = omega arith
+    go below (inr h) = let b = below h in omega arith
+
+countFrom-from : (k n i : ℕ) → k ≤ i → i < k + n → List·Memᴰ i (countFrom k n)
+unfolding countFrom
+countFrom-from k zero i h l = absurd (omega arith)
+countFrom-from k (suc n) i h l = elim (decLe (suc k) i) [
+  | yes s ↦ List·Memᴰ·tail (countFrom-from (suc k) n i s (omega arith))
+  | no s ↦ let e : i ≡ k = omega arith in List·Memᴰ·head e
+]
+
+pub upTo-to : {n i : ℕ} → List·Memᴰ i (upTo n) → i < n
+unfolding upTo
+upTo-to {n} {i} m = let h = countFrom-to 0 n m in omega arith
+
+pub upTo-from : {n i : ℕ} → i < n → List·Memᴰ i (upTo n)
+unfolding upTo
+upTo-from {n} {i} h = countFrom-from 0 n i (omega arith) (omega arith)
+
+-- what stands at a place of a list is in it
+pub getD-member : {A : Type 0} (l : List A) (i : ℕ) (d : A) → i < length l → List·Memᴰ (getD l i d) l
+getD-member [] i d h = absurd (omega arith)
+getD-member (x ∷ xs) zero d h = List·Memᴰ·head refl
+getD-member (x ∷ xs) (suc i) d h = List·Memᴰ·tail (getD-member xs i d (omega arith))
