@@ -12,3 +12,5 @@ pub mod Separation
 pub mod Boxes
 pub mod Touch
 pub mod Meets
+pub mod FlatSides
+pub mod Parts
