@@ -14,3 +14,6 @@ pub mod Touch
 pub mod Meets
 pub mod FlatSides
 pub mod Parts
+pub mod Segment
+pub mod SideTouch
+pub mod SideMeets
