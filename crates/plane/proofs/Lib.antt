@@ -1,4 +1,5 @@
 pub mod PointLaws
 pub mod Difference
 pub mod OrientLaws
+pub mod ExtremeLaws
 pub mod Examples
