@@ -11,8 +11,6 @@ use native.Mathlib.Nat.{add-le-add, mul-le-mul, mul-le-mul-left}
 use native.Mathlib.Omega.{arith}
 use borrow.Author.Tests.{leb-true, leb-false}
 use lib.Dec.{leb, ltb}
-use lib.IntN.{pos}
-use lib.Signed.{ltZ}
 use Rattle.lists.proofs.Reflects.{Reflects, reflects-le, reflects-ltb, reflects-and, reflects-iff}
 use Rattle.plane.specs.declared.Point.{Point}
 use Rattle.plane.specs.Point.{orient}
