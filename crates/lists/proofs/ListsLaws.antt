@@ -1,13 +1,15 @@
 -- What the tests on lists mean, by membership.
 -- Assumes nothing.
-use mathlib.Core.Path.{_≡_, refl, sym, subst}
+use mathlib.Core.Path.{_≡_, refl, sym, subst, ap, _∙_}
 use mathlib.Core.Bool.{Bool, true, false}
-use mathlib.Core.List.{List, [], _∷_, List·Memᴰ, List·Memᴰ·head, List·Memᴰ·tail, List·Memᴰ·cases-cons, List·Memᴰ·not-nil}
+use mathlib.Core.List.{List, [], _∷_, _++_, flatMap, List·Memᴰ, List·Memᴰ·head, List·Memᴰ·tail, List·Memᴰ·cases-cons, List·Memᴰ·not-nil}
 use mathlib.Core.Logic.{_⊎_, inl, inr}
-use Prim.Native.Nat.{ℕ, zero, suc, _+_, _≤_, _<_}
+use Prim.Native.Nat.{ℕ, zero, suc, _+_, _*_, _≤_, _<_}
 use native.Mathlib.Decide.{decLe}
 use native.Mathlib.Omega.{arith}
-use lib.ListN.{length, getD}
+use native.Mathlib.Nat.{mul-zero, zero-add, add-zero}
+use lib.ListN.{length, getD, set, List·getD-append}
+use lib.Seq.{getD-append-add, sets}
 use Rattle.lists.specs.Lists.{all, any, countFrom, upTo}
 use Rattle.lists.proofs.Reflects.{Reflects, reflects-then, reflects-else, reflects-iff}
 
@@ -84,3 +86,19 @@ pub getD-member : {A : Type 0} (l : List A) (i : ℕ) (d : A) → i < length l �
 getD-member [] i d h = absurd (omega arith)
 getD-member (x ∷ xs) zero d h = List·Memᴰ·head refl
 getD-member (x ∷ xs) (suc i) d h = List·Memᴰ·tail (getD-member xs i d (omega arith))
+
+-- lists of one length each, one after another: what stands at place m of the i-th
+pub getD-stride : {A : Type 0} (f : A → List ℕ) (c : ℕ) → ((x : A) → length (f x) ≡ c)
+    → (l : List A) (i m : ℕ) (d : A) → i < length l → m < c → getD (flatMap f l) (c * i + m) 0 ≡ getD (f (getD l i d)) m 0
+unfolding flatMap
+getD-stride f c e [] i m d h k = absurd (omega arith)
+getD-stride f c e (x ∷ xs) zero m d h k =
+    rw (mul-zero c, zero-add m) (List·getD-append (f x) (flatMap f xs) 0 m (rw (e x) k))
+getD-stride f c e (x ∷ xs) (suc i) m d h k =
+    let p : c * suc i + m ≡ length (f x) + (c * i + m) = rw (e x) (omega arith) in
+    rw (p, getD-append-add (f x) (flatMap f xs) (c * i + m) 0) (getD-stride f c e xs i m d (omega arith) k)
+
+-- two runs of stores, one where the other ends, are one run
+pub sets-join : {A : Type 0} (l : List A) (i j : ℕ) (u v : List A) → j ≡ i + length u → sets (sets l i u) j v ≡ sets l i (u ++ v)
+sets-join l i j [] v e = ap (λ k. sets l k v) (e ∙ add-zero i)
+sets-join l i j (x ∷ u) v e = sets-join (set l i x) (suc i) j u v (omega arith)

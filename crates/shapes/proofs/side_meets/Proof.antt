@@ -1,0 +1,24 @@
+use Rattle.shapes.specs.Shape.{sideMeetsAt}
+use borrow.Author.Needs.{needs}
+use Rattle.shapes.proofs.side_meets.Statement.{statement}
+use Rattle.shapes.proofs.side_meets.Tie as tie
+
+add-touches : tie.Need-add-touches
+add-touches c = search needs
+
+touches-requires : tie.Need-touches-requires
+touches-requires c κs = search needs
+
+base-requires : tie.Need-base-requires
+base-requires c κs = search needs
+
+reach-requires : tie.Need-reach-requires
+reach-requires c κs = search needs
+
+returns : tie.Need-returns
+unfolding sideMeetsAt
+returns c = cc
+
+pub side-meets-spec : {M : Type 1} → statement M
+side-meets-spec =
+    tie.close (tie.spec add-touches touches-requires base-requires reach-requires returns)

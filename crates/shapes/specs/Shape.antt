@@ -1,0 +1,83 @@
+-- What depends on a triangle alone, as the numbers that code keeps of it, and the tests of a box by these numbers.
+-- Assumes nothing.
+use mathlib.Core.Path.{_≡_}
+use mathlib.Core.Bool.{Bool, not, _&&_}
+use mathlib.Core.List.{List, [], _∷_, _++_, flatMap}
+use Prim.Native.Nat.{ℕ, _+_, _*_, _-_, _≤_, min, max}
+use lib.Dec.{leb, ltb}
+use lib.ListN.{length, getD, take}
+use Rattle.plane.specs.declared.Point.{Point}
+use Rattle.plane.specs.Triangle.{Triangle}
+use Rattle.plane.specs.Box.{Box}
+use Rattle.chart_spec.specs.Table.{Table}
+use Rattle.shapes.specs.declared.Frame.{Frame}
+
+-- a side from p to q: how far it goes up, down, back and on, each cut off at 0, then its bounding box
+unfoldable pub sideShape : Point → Point → List ℕ
+sideShape p q =
+    (q .y - p .y) ∷ (p .y - q .y) ∷ (p .x - q .x) ∷ (q .x - p .x)
+    ∷ min (p .x) (q .x) ∷ min (p .y) (q .y) ∷ max (p .x) (q .x) ∷ max (p .y) (q .y) ∷ []
+
+-- the bounding box of three points: left, top, right, bottom
+unfoldable pub boxShape : Point → Point → Point → List ℕ
+boxShape a b c =
+    min (a .x) (min (b .x) (c .x)) ∷ min (a .y) (min (b .y) (c .y)) ∷ max (a .x) (max (b .x) (c .x)) ∷ max (a .y) (max (b .y) (c .y)) ∷ []
+
+-- the 28 numbers of a triangle: three sides of eight, then its box
+unfoldable pub shapeOf : Triangle → List ℕ
+shapeOf t = sideShape (t .a) (t .b) ++ (sideShape (t .b) (t .c) ++ (sideShape (t .c) (t .a) ++ boxShape (t .a) (t .b) (t .c)))
+
+-- V of a point from up, down, back and on
+abbrev pub weigh : ℕ → ℕ → ℕ → ℕ → ℕ → ℕ → ℕ → ℕ → ℕ
+weigh up down back on x mx y my = down * x + up * mx + on * y + back * my
+
+-- V(p) of the side from p to q
+unfoldable pub sideOffset : Point → Point → ℕ
+sideOffset p q = weigh (q .y - p .y) (p .y - q .y) (p .x - q .x) (q .x - p .x) (p .x) (65536 - p .x) (p .y) (65536 - p .y)
+
+-- the offsets of a triangle's sides
+unfoldable pub offsetsOf : Triangle → List ℕ
+offsetsOf t = sideOffset (t .a) (t .b) ∷ sideOffset (t .b) (t .c) ∷ sideOffset (t .c) (t .a) ∷ []
+
+-- the two lists begin with the numbers of the table's triangles
+pub record Shaped (table : Table) (shape offsets : List ℕ) : Type 0 where
+  pub shapes : take (28 * length table) shape ≡ flatMap (λ t. shapeOf t) table
+  pub offs : take (3 * length table) offsets ≡ flatMap (λ t. offsetsOf t) table
+
+-- the box that a frame is
+abbrev pub boxOf : Frame → Box
+boxOf f = record { left = f .left; top = f .top; right = f .right; bottom = f .bottom }
+
+-- within the grid of 65,536, and not empty
+pub record InGrid (f : Frame) : Type 0 where
+  pub across : f .left ≤ f .right
+  pub along : f .top ≤ f .bottom
+  pub right : f .right ≤ 65536
+  pub bottom : f .bottom ≤ 65536
+
+-- V at the corner of the box where it is largest, for the side whose numbers start at k
+unfoldable pub reachAt : List ℕ → ℕ → Box → ℕ
+reachAt s k b =
+    weigh (getD s k 0) (getD s (k + 1) 0) (getD s (k + 2) 0) (getD s (k + 3) 0) (b .right) (65536 - b .left) (b .bottom) (65536 - b .top)
+
+-- V at the corner where it is smallest
+unfoldable pub baseAt : List ℕ → ℕ → Box → ℕ
+baseAt s k b =
+    weigh (getD s k 0) (getD s (k + 1) 0) (getD s (k + 2) 0) (getD s (k + 3) 0) (b .left) (65536 - b .right) (b .top) (65536 - b .bottom)
+
+-- the box whose left, top, right and bottom start at k is not strictly apart from the given one
+unfoldable pub touchesAt : List ℕ → ℕ → Box → Bool
+touchesAt s k b =
+    leb (b .left) (getD s (k + 2) 0) && leb (getD s k 0) (b .right) && leb (b .top) (getD s (k + 3) 0) && leb (getD s (k + 1) 0) (b .bottom)
+
+-- triangle i meets the box
+unfoldable pub triangleMeetsAt : List ℕ → List ℕ → ℕ → Box → Bool
+triangleMeetsAt s o i b =
+    touchesAt s (28 * i + 24) b
+    && leb (getD o (3 * i) 0) (reachAt s (28 * i) b)
+    && leb (getD o (3 * i + 1) 0) (reachAt s (28 * i + 8) b)
+    && leb (getD o (3 * i + 2) 0) (reachAt s (28 * i + 16) b)
+
+-- the side whose numbers start at k, with the offset v, meets the box
+unfoldable pub sideMeetsAt : List ℕ → ℕ → ℕ → Box → Bool
+sideMeetsAt s k v b = touchesAt s (k + 4) b && leb (baseAt s k b) v && leb v (reachAt s k b)

@@ -1,0 +1,202 @@
+// What depends on a triangle alone, worked out once for a table: for each side the coefficients of D and its bounding box,
+// and the triangle's bounding box. With them a box is tested by one corner for each side, and by no signed number.
+//
+// For a side from p to q let up = q.y - p.y, down = p.y - q.y, back = p.x - q.x and on = q.x - p.x, each cut off at 0.
+// Then D(p,q,c) = V(c) - V(p), where V(c) = down c.x + up (65536 - c.x) + on c.y + back (65536 - c.y).
+
+use plane::Point;
+ghost use mathlib.Core.Path.{_≡_};
+ghost use Prim.Native.Nat.{_+_, _*_, _-_, _≤_, _<_, min, max};
+ghost use lib.ListN.{length, getD};
+ghost use lib.Seq.{sets};
+ghost use mathlib.Core.List.{flatMap};
+ghost use Rattle.shapes.specs.Shape.{sideShape, boxShape, shapeOf, sideOffset, offsetsOf, boxOf, InGrid, reachAt, baseAt, touchesAt, triangleMeetsAt, sideMeetsAt};
+ghost use Rattle.chart_spec.specs.Table.{pointAt, triangleAt, tableOf};
+
+// A box of the grid: left ≤ right ≤ 65536 and top ≤ bottom ≤ 65536.
+pub struct Frame {
+    pub left: u64,
+    pub top: u64,
+    pub right: u64,
+    pub bottom: u64,
+}
+
+fn smaller(a: u16, b: u16) -> u16
+    ensures { λ r. ⌜ r ≡ min a b ⌝ }
+{
+    if a < b { a } else { b }
+}
+
+fn larger(a: u16, b: u16) -> u16
+    ensures { λ r. ⌜ r ≡ max a b ⌝ }
+{
+    if a < b { b } else { a }
+}
+
+// a - b, or 0 where b is larger.
+fn beyond(a: u16, b: u16) -> u16
+    ensures { λ r. ⌜ r ≡ a - b ⌝ }
+{
+    if b < a { a - b } else { 0 }
+}
+
+fn wide(x: u16) -> u64
+    ensures { λ r. ⌜ (r ≡ x) × (r < 65536) ⌝ }
+{
+    x as u64
+}
+
+fn times(a: u16, b: u64) -> u64
+    requires { ⌜ b ≤ 65536 ⌝ }
+    ensures { λ r. ⌜ (r ≡ a * b) × (r ≤ 4294901760) ⌝ }
+{
+    wide(a) * b
+}
+
+// V(p) of the side from p to q.
+fn offset(p: Point, q: Point) -> u64
+    ensures { λ r. ⌜ r ≡ sideOffset p q ⌝ }
+{
+    times(beyond(p.y, q.y), wide(p.x))
+        + times(beyond(q.y, p.y), 65536 - wide(p.x))
+        + times(beyond(q.x, p.x), wide(p.y))
+        + times(beyond(p.x, q.x), 65536 - wide(p.y))
+}
+
+// The eight numbers of the side from p to q, from k on.
+fn put_side(shape: &mut [u16], k: usize, p: Point, q: Point)
+    requires { ⌜ k + 8 ≤ length (now shape) ⌝ }
+    ensures { λ r. ⌜ now (shape .exit) ≡ sets (now (shape .entry)) k (sideShape p q) ⌝ }
+{
+    shape[k] = beyond(q.y, p.y);
+    shape[k + 1] = beyond(p.y, q.y);
+    shape[k + 2] = beyond(p.x, q.x);
+    shape[k + 3] = beyond(q.x, p.x);
+    shape[k + 4] = smaller(p.x, q.x);
+    shape[k + 5] = smaller(p.y, q.y);
+    shape[k + 6] = larger(p.x, q.x);
+    shape[k + 7] = larger(p.y, q.y);
+}
+
+// The bounding box of three points, from k on.
+fn put_box(shape: &mut [u16], k: usize, a: Point, b: Point, c: Point)
+    requires { ⌜ k + 4 ≤ length (now shape) ⌝ }
+    ensures { λ r. ⌜ now (shape .exit) ≡ sets (now (shape .entry)) k (boxShape a b c) ⌝ }
+{
+    shape[k] = smaller(a.x, smaller(b.x, c.x));
+    shape[k + 1] = smaller(a.y, smaller(b.y, c.y));
+    shape[k + 2] = larger(a.x, larger(b.x, c.x));
+    shape[k + 3] = larger(a.y, larger(b.y, c.y));
+}
+
+// The point at places k and k + 1 of the table.
+fn point_at(table: &[u16], k: usize) -> Point
+    requires { ⌜ k + 2 ≤ length (now table) ⌝ }
+    ensures { λ r. ⌜ r ≡ pointAt (now (table .entry)) k ⌝ }
+{
+    Point {
+        x: table[k],
+        y: table[k + 1],
+    }
+}
+
+// The 28 numbers of a triangle, from k on.
+fn put_shape(shape: &mut [u16], k: usize, a: Point, b: Point, c: Point)
+    requires { ⌜ k + 28 ≤ length (now shape) ⌝ }
+    ensures { λ r. ⌜ now (shape .exit) ≡ sets (now (shape .entry)) k (shapeOf (record { a = a; b = b; c = c })) ⌝ }
+{
+    put_side(shape, k, a, b);
+    put_side(shape, k + 8, b, c);
+    put_side(shape, k + 16, c, a);
+    put_box(shape, k + 24, a, b, c);
+}
+
+// The three offsets of a triangle, from k on.
+fn put_offsets(offsets: &mut [u64], k: usize, a: Point, b: Point, c: Point)
+    requires { ⌜ k + 3 ≤ length (now offsets) ⌝ }
+    ensures { λ r. ⌜ now (offsets .exit) ≡ sets (now (offsets .entry)) k (offsetsOf (record { a = a; b = b; c = c })) ⌝ }
+{
+    offsets[k] = offset(a, b);
+    offsets[k + 1] = offset(b, c);
+    offsets[k + 2] = offset(c, a);
+}
+
+// Triangle i of the table, from its six numbers.
+fn put_triangle(table: &[u16], i: usize, shape: &mut [u16], offsets: &mut [u64])
+    requires { ⌜ (6 * i + 6 ≤ length (now table)) × ((28 * i + 28 ≤ length (now shape)) × (3 * i + 3 ≤ length (now offsets))) ⌝ }
+    ensures { λ r. ⌜ now (shape .exit) ≡ sets (now (shape .entry)) (28 * i) (shapeOf (triangleAt (now (table .entry)) i)) ⌝ }
+    ensures { λ r. ⌜ now (offsets .exit) ≡ sets (now (offsets .entry)) (3 * i) (offsetsOf (triangleAt (now (table .entry)) i)) ⌝ }
+{
+    let a = point_at(table, 6 * i);
+    let b = point_at(table, 6 * i + 2);
+    let c = point_at(table, 6 * i + 4);
+    put_shape(shape, 28 * i, a, b, c);
+    put_offsets(offsets, 3 * i, a, b, c);
+}
+
+// The numbers of the first n triangles of a table.
+pub fn prepare(table: &[u16], n: usize, shape: &mut [u16], offsets: &mut [u64])
+    requires { ⌜ (6 * n ≤ length (now table)) × ((28 * n ≤ length (now shape)) × (3 * n ≤ length (now offsets))) ⌝ }
+    ensures { λ r. ⌜ now (shape .exit) ≡ sets (now (shape .entry)) 0 (flatMap (λ t. shapeOf t) (tableOf (now (table .entry)) n)) ⌝ }
+    ensures { λ r. ⌜ now (offsets .exit) ≡ sets (now (offsets .entry)) 0 (flatMap (λ t. offsetsOf t) (tableOf (now (table .entry)) n)) ⌝ }
+{
+    let mut i = 0;
+    while i < n {
+        put_triangle(table, i, shape, offsets);
+        i += 1;
+    }
+}
+
+// V at the corner of the frame where it is largest, for the side whose numbers start at k.
+fn reach(shape: &[u16], k: usize, f: Frame) -> u64
+    requires { ⌜ (k + 4 ≤ length (now shape)) × InGrid f ⌝ }
+    ensures { λ r. ⌜ (r ≡ reachAt (now (shape .entry)) k (boxOf f)) × (r ≤ 17179607040) ⌝ }
+{
+    times(shape[k + 1], f.right)
+        + times(shape[k], 65536 - f.left)
+        + times(shape[k + 3], f.bottom)
+        + times(shape[k + 2], 65536 - f.top)
+}
+
+// V at the corner where it is smallest.
+fn base(shape: &[u16], k: usize, f: Frame) -> u64
+    requires { ⌜ (k + 4 ≤ length (now shape)) × InGrid f ⌝ }
+    ensures { λ r. ⌜ (r ≡ baseAt (now (shape .entry)) k (boxOf f)) × (r ≤ 17179607040) ⌝ }
+{
+    times(shape[k + 1], f.left)
+        + times(shape[k], 65536 - f.right)
+        + times(shape[k + 3], f.top)
+        + times(shape[k + 2], 65536 - f.bottom)
+}
+
+// The box whose numbers start at k is not strictly apart from the frame.
+fn touches(shape: &[u16], k: usize, f: Frame) -> bool
+    requires { ⌜ k + 4 ≤ length (now shape) ⌝ }
+    ensures { λ o. ⌜ o ≡ touchesAt (now (shape .entry)) k (boxOf f) ⌝ }
+{
+    (f.left <= wide(shape[k + 2]))
+        & (wide(shape[k]) <= f.right)
+        & (f.top <= wide(shape[k + 3]))
+        & (wide(shape[k + 1]) <= f.bottom)
+}
+
+// Triangle i meets the frame.
+pub fn triangle_meets(shape: &[u16], offsets: &[u64], i: usize, f: Frame) -> bool
+    requires { ⌜ (28 * i + 28 ≤ length (now shape)) × ((3 * i + 3 ≤ length (now offsets)) × InGrid f) ⌝ }
+    ensures { λ o. ⌜ o ≡ triangleMeetsAt (now (shape .entry)) (now (offsets .entry)) i (boxOf f) ⌝ }
+{
+    if touches(shape, 28 * i + 24, f) {
+        return (offsets[3 * i] <= reach(shape, 28 * i, f))
+            & (offsets[3 * i + 1] <= reach(shape, 28 * i + 8, f))
+            & (offsets[3 * i + 2] <= reach(shape, 28 * i + 16, f));
+    }
+    false
+}
+
+// The side whose numbers start at k, with the offset v, meets the frame.
+pub fn side_meets(shape: &[u16], k: usize, v: u64, f: Frame) -> bool
+    requires { ⌜ (k + 8 ≤ length (now shape)) × InGrid f ⌝ }
+    ensures { λ o. ⌜ o ≡ sideMeetsAt (now (shape .entry)) k v (boxOf f) ⌝ }
+{
+    touches(shape, k + 4, f) & (base(shape, k, f) <= v) & (v <= reach(shape, k, f))
+}
