@@ -1,3 +1,5 @@
 pub mod Reflects
 pub mod ListsLaws
+pub mod EveryLaws
+pub mod Pointwise
 pub mod Examples
