@@ -13,6 +13,10 @@ use Rattle.lists.proofs.ListsLaws.{Every, every-uncons}
 use Rattle.lists.proofs.EveryLaws.{every-imp, every-map}
 use Rattle.orthtree.specs.Morton.{lowestBits, mortonKey}
 
+-- the coordinates with their lowest m bits cut off
+abbrev pub cut : ℕ → List ℕ → List ℕ
+cut m cs = map (λ c. c / 2 ^ m) cs
+
 -- a digit is below its base
 lowest-bound : (cs : List ℕ) → lowestBits cs < 2 ^ length cs
 unfolding lowestBits
@@ -40,7 +44,7 @@ digits-split l k q a b = omega arith
 
 -- a key is its lowest m digits, then the key of the coordinates with their lowest m bits cut off
 pub morton-split : (m n : ℕ) (cs : List ℕ)
-    → mortonKey (m + n) cs ≡ mortonKey m cs + (2 ^ length cs) ^ m * mortonKey n (map (λ c. c / 2 ^ m) cs)
+    → mortonKey (m + n) cs ≡ mortonKey m cs + (2 ^ length cs) ^ m * mortonKey n (cut m cs)
 unfolding mortonKey
 morton-split zero n cs = simp (zero-add, div-one, map-id, pow-zero, one-mul)
 morton-split (suc m) n cs =
@@ -55,7 +59,7 @@ digit-rest : {l a : ℕ} (k : ℕ) → l < a → (l + a * k) / a ≡ k
 digit-rest {l} {a} k h = let pos : 0 < a = omega arith in rw (add-mul-div-left, div-eq-of-lt h, zero-add)
 
 -- what is left of a key when its lowest m digits are cut off
-pub morton-quotient : (m n : ℕ) (cs : List ℕ) → mortonKey (m + n) cs / (2 ^ length cs) ^ m ≡ mortonKey n (map (λ c. c / 2 ^ m) cs)
+pub morton-quotient : (m n : ℕ) (cs : List ℕ) → mortonKey (m + n) cs / (2 ^ length cs) ^ m ≡ mortonKey n (cut m cs)
 morton-quotient m n cs = rw (morton-split m n cs, digit-rest _ (morton-bound m cs))
 
 -- the lowest m digits of a key
@@ -114,15 +118,15 @@ pow-mul : (b i j : ℕ) → b ^ (i * j) ≡ (b ^ i) ^ j
 pow-mul b i zero = simp (mul-zero, pow-zero)
 pow-mul b i (suc j) = rw (mul-suc, pow-add, pow-mul b i j, pow-suc)
 
-getD-cut : (cs : List ℕ) (j k : ℕ) → getD (map (λ c. c / 2 ^ k) cs) j 0 ≡ getD cs j 0 / 2 ^ k
-getD-cut cs j k = ap (getD (map (λ c. c / 2 ^ k) cs) j) (sym (zero-div (2 ^ k))) ∙ List·getD-map (λ c. c / 2 ^ k) cs j 0
+getD-cut : (cs : List ℕ) (j k : ℕ) → getD (cut k cs) j 0 ≡ getD cs j 0 / 2 ^ k
+getD-cut cs j k = ap (getD (cut k cs) j) (sym (zero-div (2 ^ k))) ∙ List·getD-map (λ c. c / 2 ^ k) cs j 0
 
 bit-at : (k r j : ℕ) (cs : List ℕ) → j < length cs
     → mortonKey (k + suc r) cs / 2 ^ (length cs * k + j) % 2 ≡ getD cs j 0 / 2 ^ k % 2
 unfolding mortonKey
 bit-at k r j cs g =
     rw (pow-add, pow-mul, ← div-div-eq-div-mul, morton-quotient k (suc r) cs, mortonKey)
-    (digit-bit (map (λ c. c / 2 ^ k) cs) j _ (simp length-map g) ∙ ap (λ c. c % 2) (getD-cut cs j k))
+    (digit-bit (cut k cs) j _ (simp length-map g) ∙ ap (λ c. c % 2) (getD-cut cs j k))
 
 -- bit k of coordinate j stands at place d × k + j of the key, d the number of coordinates
 pub morton-bit : (n k j : ℕ) (cs : List ℕ) → k < n → j < length cs
