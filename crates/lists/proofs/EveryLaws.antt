@@ -1,7 +1,7 @@
 -- `Every` of lists that are built from others.
 -- Each law takes an element of the built list back to where it came from.
 -- Assumes nothing.
-use mathlib.Core.Path.{_≡_, subst}
+use mathlib.Core.Path.{_≡_, refl, ap₂, subst}
 use mathlib.Core.List.{List, [], _∷_, _++_, map, flatMap, List·Memᴰ, List·Memᴰ·not-nil, List·Memᴰ·append-cases, Memᴰ·of-map}
 use mathlib.Core.Logic.{_⊎_, inl, inr}
 use Rattle.lists.proofs.ListsLaws.{Every, every-cons, every-uncons}
@@ -27,3 +27,9 @@ pub every-flatMap : {A B : Type 0} {P : B → Type 0} (f : A → List B) (l : Li
 unfolding flatMap
 every-flatMap {P = P} f [] h = every-nil P
 every-flatMap f (a ∷ l) h = let g = every-uncons h in every-append (f a) (g .0) (every-flatMap f l (g .1))
+
+-- two functions that agree on the elements give the same lists joined
+pub flatMap-agree : {A B : Type 0} (f g : A → List B) (l : List A) → Every (λ a. f a ≡ g a) l → flatMap f l ≡ flatMap g l
+unfolding flatMap
+flatMap-agree f g [] h = refl
+flatMap-agree f g (a ∷ l) h = let e = every-uncons h in ap₂ _++_ (e .0) (flatMap-agree f g l (e .1))
