@@ -2,6 +2,7 @@ pub mod EntriesLaws
 pub mod RangeLaws
 pub mod TilingLaws
 pub mod LeavesLaws
+pub mod LeavesUnique
 pub mod MortonLaws
 pub mod MortonRangeLaws
 pub mod MortonChildLaws
