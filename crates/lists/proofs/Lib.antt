@@ -2,4 +2,6 @@ pub mod Reflects
 pub mod ListsLaws
 pub mod EveryLaws
 pub mod Pointwise
+pub mod Order
+pub mod Runs
 pub mod Examples
