@@ -3,6 +3,8 @@ pub mod RangeLaws
 pub mod TilingLaws
 pub mod LeavesLaws
 pub mod LeavesUnique
+pub mod ChainLaws
+pub mod ChainTilingLaws
 pub mod MortonLaws
 pub mod MortonRangeLaws
 pub mod MortonChildLaws
