@@ -5,7 +5,8 @@
 -- Assumes nothing.
 use mathlib.Core.Path.{_≡_, refl, sym, _∙_, ap}
 use mathlib.Core.Bool.{Bool, true, false}
-use mathlib.Core.List.{List, [], _∷_}
+use mathlib.Core.List.{List, [], _∷_, List·Memᴰ·not-nil}
+use mathlib.Core.Logic.{_⊎_, inl, inr}
 use Prim.Native.Nat.{ℕ, zero, suc, _-_, _≤_, _<_}
 use native.Mathlib.Nat.{sub-zero, zero-sub, suc-sub-suc}
 use native.Mathlib.Omega.{arith}
@@ -13,7 +14,7 @@ use lib.Dec.{T}
 use lib.ListN.{length, getD, take, drop}
 use Rattle.lists.specs.Lists.{filter}
 use Rattle.lists.proofs.Reflects.{Reflects, test-true, test-false}
-use Rattle.lists.proofs.ListsLaws.{Every, every-uncons}
+use Rattle.lists.proofs.ListsLaws.{Every, Some, every-uncons, some-uncons}
 use Rattle.lists.proofs.Order.{Ordered, ordered-uncons}
 
 -- how many elements at the start of the list pass the test
@@ -91,3 +92,16 @@ module _ {A : Type 0} (a b c : A → Bool) (sub : (x : A) → T (a x) → T (b x
       let p = ordered-uncons o in
       let q = ordered-uncons s in
       block-step x xs (p .0) (q .0) (filter-block xs (p .1) (q .1)) (a x) (b x) refl refl
+
+  some-step : (x : A) (xs : List A) → Every (λ y. T (b y) → T (b x)) xs → (Some (λ y. T (b y) × (T (a y) → ⊥)) xs → runLength a xs < runLength b xs)
+      → (p : Bool) → a x ≡ p → (T (b x) × (T (a x) → ⊥)) ⊎ Some (λ y. T (b y) × (T (a y) → ⊥)) xs → runLength a (x ∷ xs) < runLength b (x ∷ xs)
+  some-step x xs hb rec true e (inl h) = absurd (h .1 (rw e tt))
+  some-step x xs hb rec true e (inr s) = rw (run-pass a x xs e, run-pass b x xs (test-true (sub x (rw e tt)))) (let h = rec s in omega arith)
+  some-step x xs hb rec false e (inl h) = rw (run-fail a x xs e, run-pass b x xs (test-true (h .0))) (omega arith)
+  some-step x xs hb rec false e (inr s) =
+      rw (run-fail a x xs e, run-pass b x xs (test-true (hb (s .value) (s .member) (s .has .0)))) (omega arith)
+
+  -- and there is one where some element passes b and not a
+  pub block-some : (l : List A) → Falling b l → Some (λ x. T (b x) × (T (a x) → ⊥)) l → runLength a l < runLength b l
+  block-some [] o s = absurd (List·Memᴰ·not-nil (s .member))
+  block-some (x ∷ xs) o s = let q = ordered-uncons o in some-step x xs (q .0) (block-some xs (q .1)) (a x) refl (some-uncons s)

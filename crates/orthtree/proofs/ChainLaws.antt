@@ -35,6 +35,11 @@ pub record NextItem (e f : Entry) : Type 0 where
   pub secondItem : f .item ≡ emptyMark → ⊥
 
 module _ (arity depth : ℕ) where
+  -- entries of one cell end at the same key
+  pub same-end : {e f : Entry} → SameCell e f → rangeEnd arity depth e ≡ rangeEnd arity depth f
+  unfolding rangeEnd
+  same-end s = rw (s .key, s .level)
+
   -- the entry fits into the tree, and its item is one of count many or the mark
   pub record Fits (count : ℕ) (e : Entry) : Type 0 where
     pub level : e .level ≤ depth

@@ -5,6 +5,9 @@ pub mod LeavesLaws
 pub mod LeavesUnique
 pub mod ChainLaws
 pub mod ChainTilingLaws
+pub mod ChainOrderLaws
+pub mod ChainBlockLaws
+pub mod ChainHeadsLaws
 pub mod MortonLaws
 pub mod MortonRangeLaws
 pub mod MortonChildLaws
