@@ -2,9 +2,9 @@
 -- Each law takes an element of the built list back to where it came from.
 -- Assumes nothing.
 use mathlib.Core.Path.{_≡_, refl, ap₂, subst}
-use mathlib.Core.List.{List, [], _∷_, _++_, map, flatMap, List·Memᴰ, List·Memᴰ·not-nil, List·Memᴰ·append-cases, Memᴰ·of-map}
-use mathlib.Core.Logic.{_⊎_, inl, inr}
-use Rattle.lists.proofs.ListsLaws.{Every, every-cons, every-uncons}
+use mathlib.Core.List.{List, [], _∷_, _++_, map, flatMap, List·Memᴰ·not-nil, List·Memᴰ·append-cases, Memᴰ·of-map}
+use mathlib.Core.Logic.{inl, inr}
+use Rattle.lists.proofs.ListsLaws.{Every, every-uncons}
 
 -- of the empty list
 pub every-nil : {A : Type 0} (P : A → Type 0) → Every P []

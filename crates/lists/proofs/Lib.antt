@@ -1,6 +1,7 @@
 pub mod Reflects
 pub mod ListsLaws
 pub mod EveryLaws
+pub mod FilterLaws
 pub mod Pointwise
 pub mod Order
 pub mod Runs

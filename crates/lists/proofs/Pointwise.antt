@@ -2,9 +2,7 @@
 -- Assumes nothing.
 use mathlib.Core.Path.{_≡_, refl, ap, ap₂}
 use mathlib.Core.List.{List, [], _∷_, map, nil≢cons, cons≢nil, head-eq-of-cons-eq, tail-eq-of-cons-eq}
-use Prim.Native.Nat.{ℕ, suc}
-use native.Mathlib.Nat.{suc-inj}
-use native.Mathlib.Omega.{arith}
+use Prim.Native.Nat.{suc}
 use lib.ListN.{length}
 use Rattle.lists.proofs.ListsLaws.{Every, every-uncons}
 
@@ -19,11 +17,14 @@ pointwise-length pointwise-none = refl
 pointwise-length (pointwise-more r rs) = ap suc (pointwise-length rs)
 
 -- a relation that says that two images are equal says that of the lists of images
-pub pointwise-map : {A B C : Type 0} (f : A → C) (g : B → C) {xs : List A} {ys : List B} → Pointwise (λ a b. f a ≡ g b) xs ys → map f xs ≡ map g ys
+pub pointwise-map : {A B C : Type 0} (f : A → C) (g : B → C) {xs : List A} {ys : List B} → Pointwise (λ a b. f a ≡ g b) xs ys
+    → map f xs ≡ map g ys
 pointwise-map f g pointwise-none = refl
 pointwise-map f g (pointwise-more r rs) = ap₂ _∷_ r (pointwise-map f g rs)
 
-pub map-pointwise : {A B C : Type 0} (f : A → C) (g : B → C) (xs : List A) (ys : List B) → map f xs ≡ map g ys → Pointwise (λ a b. f a ≡ g b) xs ys
+-- and the other way round
+pub map-pointwise : {A B C : Type 0} (f : A → C) (g : B → C) (xs : List A) (ys : List B) → map f xs ≡ map g ys
+    → Pointwise (λ a b. f a ≡ g b) xs ys
 map-pointwise f g [] [] e = pointwise-none
 map-pointwise f g [] (b ∷ ys) e = absurd (nil≢cons e)
 map-pointwise f g (a ∷ xs) [] e = absurd (cons≢nil e)

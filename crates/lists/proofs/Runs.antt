@@ -3,7 +3,7 @@
 -- The idea: `runLength` counts the elements at the start that pass. Along the list, the block begins where the first test ends
 -- to hold and goes on as long as the second one holds.
 -- Assumes nothing.
-use mathlib.Core.Path.{_≡_, refl, sym, _∙_, ap}
+use mathlib.Core.Path.{_≡_, refl, sym, ap}
 use mathlib.Core.Bool.{Bool, true, false}
 use mathlib.Core.List.{List, [], _∷_, List·Memᴰ·not-nil}
 use mathlib.Core.Logic.{_⊎_, inl, inr}
@@ -15,6 +15,7 @@ use lib.ListN.{length, getD, take, drop}
 use Rattle.lists.specs.Lists.{filter}
 use Rattle.lists.proofs.Reflects.{Reflects, test-true, test-false}
 use Rattle.lists.proofs.ListsLaws.{Every, Some, every-uncons, some-uncons}
+use Rattle.lists.proofs.FilterLaws.{filter-pass, filter-fail}
 use Rattle.lists.proofs.Order.{Ordered, ordered-uncons}
 
 -- how many elements at the start of the list pass the test
@@ -27,21 +28,15 @@ abbrev pub Falling : {A : Type 0} → (A → Bool) → List A → Type 0
 Falling f l = Ordered (λ x y. T (f y) → T (f x)) l
 
 module _ {A : Type 0} (f : A → Bool) where
+  -- one more where the first passes
   pub run-pass : (x : A) (xs : List A) → f x ≡ true → runLength f (x ∷ xs) ≡ suc (runLength f xs)
   unfolding runLength
   run-pass x xs e = rw (runLength, e)
 
+  -- none where the first fails
   pub run-fail : (x : A) (xs : List A) → f x ≡ false → runLength f (x ∷ xs) ≡ 0
   unfolding runLength
   run-fail x xs e = rw (runLength, e)
-
-  filter-pass : (x : A) (xs : List A) → f x ≡ true → filter f (x ∷ xs) ≡ x ∷ filter f xs
-  unfolding filter
-  filter-pass x xs e = rw (filter, e)
-
-  filter-fail : (x : A) (xs : List A) → f x ≡ false → filter f (x ∷ xs) ≡ filter f xs
-  unfolding filter
-  filter-fail x xs e = rw (filter, e)
 
   -- where the first element fails, and so all after it, the run is empty
   run-over : (x : A) (xs : List A) → Every (λ y. T (f y) → T (f x)) xs → f x ≡ false → runLength f xs ≡ 0
@@ -53,14 +48,15 @@ module _ {A : Type 0} (f : A → Bool) where
   run-choice true h = omega arith
   run-choice false h = omega arith
 
+  -- no more than there are
   pub run-le : (l : List A) → runLength f l ≤ length l
   unfolding runLength
   run-le [] = omega arith
   run-le (x ∷ xs) = run-choice (f x) (run-le xs)
 
   -- the run is the one number of elements that all pass, where the next one does not
-  pub run-unique : (l : List A) (n : ℕ) (d : A) → n ≤ length l → ((i : ℕ) → i < n → f (getD l i d) ≡ true) → (n < length l → f (getD l n d) ≡ false)
-      → n ≡ runLength f l
+  pub run-unique : (l : List A) (n : ℕ) (d : A) → n ≤ length l → ((i : ℕ) → i < n → f (getD l i d) ≡ true)
+      → (n < length l → f (getD l n d) ≡ false) → n ≡ runLength f l
   unfolding runLength
   run-unique [] n d h p q = omega arith
   run-unique (x ∷ xs) zero d h p q = sym (run-fail x xs (q (omega arith)))
@@ -85,7 +81,8 @@ module _ {A : Type 0} (a b c : A → Bool) (sub : (x : A) → T (a x) → T (b x
       (rw (run-over b x xs hb eb, zero-sub) at rec)
 
   -- the elements that pass b and not a, where a and b hold up to some place each and b wherever a does
-  pub filter-block : (l : List A) → Falling a l → Falling b l → filter c l ≡ take (runLength b l - runLength a l) (drop (runLength a l) l)
+  pub filter-block : (l : List A) → Falling a l → Falling b l
+      → filter c l ≡ take (runLength b l - runLength a l) (drop (runLength a l) l)
   unfolding filter runLength
   filter-block [] o s = refl
   filter-block (x ∷ xs) o s =
@@ -93,15 +90,21 @@ module _ {A : Type 0} (a b c : A → Bool) (sub : (x : A) → T (a x) → T (b x
       let q = ordered-uncons s in
       block-step x xs (p .0) (q .0) (filter-block xs (p .1) (q .1)) (a x) (b x) refl refl
 
-  some-step : (x : A) (xs : List A) → Every (λ y. T (b y) → T (b x)) xs → (Some (λ y. T (b y) × (T (a y) → ⊥)) xs → runLength a xs < runLength b xs)
-      → (p : Bool) → a x ≡ p → (T (b x) × (T (a x) → ⊥)) ⊎ Some (λ y. T (b y) × (T (a y) → ⊥)) xs → runLength a (x ∷ xs) < runLength b (x ∷ xs)
+  -- an element passes b and not a
+  abbrev In : A → Type 0
+  In x = T (b x) × (T (a x) → ⊥)
+
+  some-step : (x : A) (xs : List A) → Every (λ y. T (b y) → T (b x)) xs → (Some In xs → runLength a xs < runLength b xs)
+      → (p : Bool) → a x ≡ p → In x ⊎ Some In xs → runLength a (x ∷ xs) < runLength b (x ∷ xs)
   some-step x xs hb rec true e (inl h) = absurd (h .1 (rw e tt))
-  some-step x xs hb rec true e (inr s) = rw (run-pass a x xs e, run-pass b x xs (test-true (sub x (rw e tt)))) (let h = rec s in omega arith)
+  some-step x xs hb rec true e (inr s) =
+      let h = rec s in
+      rw (run-pass a x xs e, run-pass b x xs (test-true (sub x (rw e tt)))) (omega arith)
   some-step x xs hb rec false e (inl h) = rw (run-fail a x xs e, run-pass b x xs (test-true (h .0))) (omega arith)
   some-step x xs hb rec false e (inr s) =
       rw (run-fail a x xs e, run-pass b x xs (test-true (hb (s .value) (s .member) (s .has .0)))) (omega arith)
 
   -- and there is one where some element passes b and not a
-  pub block-some : (l : List A) → Falling b l → Some (λ x. T (b x) × (T (a x) → ⊥)) l → runLength a l < runLength b l
+  pub block-some : (l : List A) → Falling b l → Some In l → runLength a l < runLength b l
   block-some [] o s = absurd (List·Memᴰ·not-nil (s .member))
   block-some (x ∷ xs) o s = let q = ordered-uncons o in some-step x xs (q .0) (block-some xs (q .1)) (a x) refl (some-uncons s)

@@ -5,16 +5,15 @@
 use mathlib.Core.Path.{_≡_}
 use mathlib.Core.Bool.{Bool}
 use mathlib.Core.List.{List}
-use Prim.Native.Nat.{ℕ, _+_, _-_, _≤_, _<_}
+use Prim.Native.Nat.{ℕ, _-_, _<_}
 use native.Mathlib.Nat.{lt-of-not-le}
 use native.Mathlib.Omega.{arith}
 use lib.Dec.{T, leb, leb→le, le→leb}
-use lib.ListN.{length, take, drop}
+use lib.ListN.{take, drop}
 use Rattle.lists.specs.Lists.{filter}
 use Rattle.lists.proofs.Reflects.{Reflects, reflects-iff}
-use Rattle.lists.proofs.ListsLaws.{Some}
 use Rattle.lists.proofs.Order.{ordered-imp}
-use Rattle.lists.proofs.Runs.{runLength, run-le, filter-block, block-some}
+use Rattle.lists.proofs.Runs.{runLength, filter-block, block-some}
 use Rattle.orthtree.specs.Entries.{Entry, span, rangeEnd, covers, chain}
 use Rattle.orthtree.proofs.EntriesLaws.{InRange, covers-reflects}
 use Rattle.orthtree.proofs.ChainOrderLaws.{Before, before-key, before-end, chain-ordered, chain-cover}
@@ -27,10 +26,11 @@ endedAt arity depth k e = leb (rangeEnd arity depth e) k
 abbrev pub startedAt : ℕ → Entry → Bool
 startedAt k e = leb (e .key) k
 
--- how many entries at the start of the list are of cells that end at or before the key, and how many of cells that start so
+-- how many entries at the start of the list are of cells that end at or before the key
 abbrev pub endedBy : ℕ → ℕ → ℕ → List Entry → ℕ
 endedBy arity depth k es = runLength (endedAt arity depth k) es
 
+-- how many are of cells that start at or before it
 abbrev pub startedBy : ℕ → List Entry → ℕ
 startedBy k es = runLength (startedAt k) es
 

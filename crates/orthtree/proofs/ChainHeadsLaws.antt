@@ -1,20 +1,20 @@
 -- The cells of a list that satisfies the chain rule tile the whole key range.
 -- The idea: along the chain an entry either stays in the cell, and is not counted, or starts where the cell before it ends.
 -- Assumes nothing.
-use mathlib.Core.Path.{_≡_, refl, sym, subst}
+use mathlib.Core.Path.{_≡_, refl, subst}
 use mathlib.Core.Bool.{Bool, true, false}
 use mathlib.Core.List.{List, [], _∷_, List·Memᴰ, List·Memᴰ·head, List·Memᴰ·tail}
-use mathlib.Core.Logic.{_⊎_, inl, inr}
-use Prim.Native.Nat.{ℕ, _+_, _≤_, _<_}
+use mathlib.Core.Logic.{inl, inr}
+use Prim.Native.Nat.{ℕ, _+_, _<_}
 use native.Mathlib.Omega.{arith}
 use lib.Dec.{T}
-use Rattle.lists.proofs.Reflects.{Reflects, test-true, test-false}
+use Rattle.lists.proofs.Reflects.{test-true, test-false}
 use Rattle.lists.proofs.ListsLaws.{Every, every-cons}
 use Rattle.lists.proofs.EveryLaws.{every-nil, every-imp}
 use Rattle.orthtree.specs.Entries.{Entry, sameCell, cellHeads, cellHeadsAfter, span, rangeEnd, chain}
 use Rattle.orthtree.proofs.EntriesLaws.{span-positive}
 use Rattle.orthtree.proofs.TilingLaws.{Tiles, done, next}
-use Rattle.orthtree.proofs.ChainLaws.{SameCell, sameCell-reflects, same-end, Fits, Follows, ChainAfter, last, link, ChainFrom, end, start, chain-reflects}
+use Rattle.orthtree.proofs.ChainLaws.{SameCell, sameCell-reflects, same-end, ChainAfter, last, link, ChainFrom, end, start, chain-reflects}
 
 heads-same : (e f : Entry) (es : List Entry) → SameCell e f → cellHeadsAfter e (f ∷ es) ≡ cellHeadsAfter f es
 unfolding cellHeadsAfter
@@ -31,7 +31,8 @@ module _ (arity depth count : ℕ) (pos : 0 < arity) where
   abbrev cellSize : Entry → ℕ
   cellSize e = span arity depth (e .level)
 
-  tile-head : (f : Entry) {k b : ℕ} {fs : List Entry} → f .key ≡ k → Tiles cellKey cellSize (rangeEnd arity depth f) fs b → Tiles cellKey cellSize k (f ∷ fs) b
+  tile-head : (f : Entry) {k b : ℕ} {fs : List Entry} → f .key ≡ k → Tiles cellKey cellSize (rangeEnd arity depth f) fs b
+      → Tiles cellKey cellSize k (f ∷ fs) b
   unfolding rangeEnd
   tile-head f {b = b} {fs = fs} h t = next h (subst (λ x. Tiles cellKey cellSize (x + cellSize f) fs b) h t)
 
@@ -44,8 +45,10 @@ module _ (arity depth count : ℕ) (pos : 0 < arity) where
       → Tiles cellKey cellSize (rangeEnd arity depth e) (cellHeadsAfter e es) (span arity depth 0)
   unfolding cellHeadsAfter
   after-tile (last h) = done h
-  after-tile (link {e = e} {f = f} {es = es} fit (inl n) c) = rw (heads-same e f es (n .cell), same-end arity depth (n .cell)) (after-tile c)
-  after-tile (link {e = e} {f = f} {es = es} fit (inr h) c) = rw (heads-next e f es (not-same e f h)) (tile-head f h (after-tile c))
+  after-tile (link {e = e} {f = f} {es = es} fit (inl n) c) =
+      rw (heads-same e f es (n .cell), same-end arity depth (n .cell)) (after-tile c)
+  after-tile (link {e = e} {f = f} {es = es} fit (inr h) c) =
+      rw (heads-next e f es (not-same e f h)) (tile-head f h (after-tile c))
 
   from-tile : {k : ℕ} {es : List Entry} → ChainFrom arity depth count k es → Tiles cellKey cellSize k (cellHeads es) (span arity depth 0)
   unfolding cellHeads

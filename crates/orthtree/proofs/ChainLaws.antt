@@ -2,13 +2,13 @@
 -- each next one is a higher item of the same cell or starts where the cell before it ends, up to the tree's end.
 -- The idea: read each test of the definition as the claim that it decides.
 -- Assumes nothing.
-use mathlib.Core.Path.{_≡_, refl, sym, _∙_, ap}
-use mathlib.Core.Bool.{Bool, true, false, not, _&&_, _||_}
+use mathlib.Core.Path.{_≡_}
+use mathlib.Core.Bool.{not, _&&_}
 use mathlib.Core.List.{List, [], _∷_}
-use mathlib.Core.Logic.{_⊎_, inl, inr}
-use Prim.Native.Nat.{ℕ, _+_, _%_, _≤_, _<_}
+use mathlib.Core.Logic.{_⊎_}
+use Prim.Native.Nat.{ℕ, _%_, _≤_, _<_}
 use native.Mathlib.Omega.{arith}
-use lib.Dec.{T, leb, ltb, eqb}
+use lib.Dec.{ltb}
 use Rattle.lists.proofs.Reflects.{Reflects, reflects-and, reflects-or, reflects-no, reflects-then, reflects-iff, reflects-leb, reflects-ltb, reflects-eqb}
 use Rattle.orthtree.specs.Entries.{Entry, emptyMark, isMark, sameCell, span, rangeEnd, entryFits, follows, chainAfter, chain}
 use Rattle.orthtree.proofs.EntriesLaws.{span-positive}
@@ -18,11 +18,13 @@ pub record SameCell (e f : Entry) : Type 0 where
   pub key : e .key ≡ f .key
   pub level : e .level ≡ f .level
 
+-- the test for that
 pub sameCell-reflects : (e f : Entry) → Reflects (sameCell e f) (SameCell e f)
 unfolding sameCell
 sameCell-reflects e f = reflects-iff (λ h. record { key = h .0; level = h .1 }) (λ s. (s .key, s .level))
     (reflects-and (reflects-eqb (e .key) (f .key)) (reflects-eqb (e .level) (f .level)))
 
+-- the test for the mark
 pub isMark-reflects : (e : Entry) → Reflects (isMark e) (e .item ≡ emptyMark)
 unfolding isMark
 isMark-reflects e = reflects-eqb (e .item) emptyMark
@@ -46,6 +48,7 @@ module _ (arity depth : ℕ) where
     pub aligned : e .key % span arity depth (e .level) ≡ 0
     pub item : (e .item < count) ⊎ (e .item ≡ emptyMark)
 
+  -- the test for that
   pub entryFits-reflects : (count : ℕ) (e : Entry) → Reflects (entryFits arity depth count e) (Fits count e)
   unfolding entryFits
   entryFits-reflects count e =
@@ -64,6 +67,7 @@ module _ (arity depth : ℕ) where
       (reflects-and (reflects-and (reflects-and (sameCell-reflects e f) (reflects-ltb (e .item) (f .item)))
       (reflects-no (isMark-reflects e))) (reflects-no (isMark-reflects f)))
 
+  -- the test for that
   pub follows-reflects : (e f : Entry) → Reflects (follows arity depth e f) (Follows e f)
   unfolding follows
   follows-reflects e f = reflects-or (next-reflects e f) (reflects-eqb (f .key) (rangeEnd arity depth e))
@@ -76,9 +80,11 @@ module _ (arity depth : ℕ) where
   last-end : {count : ℕ} {e : Entry} → ChainAfter count e [] → rangeEnd arity depth e ≡ span arity depth 0
   last-end (last h) = h
 
-  link-parts : {count : ℕ} {e f : Entry} {es : List Entry} → ChainAfter count e (f ∷ es) → (Fits count f × Follows e f) × ChainAfter count f es
+  link-parts : {count : ℕ} {e f : Entry} {es : List Entry} → ChainAfter count e (f ∷ es)
+      → (Fits count f × Follows e f) × ChainAfter count f es
   link-parts (link fit fol c) = ((fit, fol), c)
 
+  -- the test for that
   pub chainAfter-reflects : (count : ℕ) (e : Entry) (es : List Entry) → Reflects (chainAfter arity depth count e es) (ChainAfter count e es)
   unfolding chainAfter
   chainAfter-reflects count e [] = reflects-iff last last-end (reflects-eqb (rangeEnd arity depth e) (span arity depth 0))
@@ -95,7 +101,8 @@ module _ (arity depth : ℕ) where
   no-end : {count : ℕ} → 0 < arity → ChainFrom count 0 [] → ⊥
   no-end pos (end h) = let p = span-positive arity depth 0 pos in omega arith
 
-  start-parts : {count k : ℕ} {e : Entry} {es : List Entry} → ChainFrom count k (e ∷ es) → ((e .key ≡ k) × Fits count e) × ChainAfter count e es
+  start-parts : {count k : ℕ} {e : Entry} {es : List Entry} → ChainFrom count k (e ∷ es)
+      → ((e .key ≡ k) × Fits count e) × ChainAfter count e es
   start-parts (start h fit c) = ((h, fit), c)
 
   -- the chain rule is that the entries go on from 0

@@ -2,22 +2,20 @@
 -- The idea: of two entries the later one is of the same cell or starts where the earlier one's cell ends or after it
 -- (`chain-ordered`, by induction along the chain). The rest follows from this.
 -- Assumes nothing.
-use mathlib.Core.Path.{_≡_, refl, sym, _∙_, ap}
-use mathlib.Core.Bool.{Bool, true, false}
-use mathlib.Core.List.{List, [], _∷_, List·Memᴰ}
+use mathlib.Core.Path.{_≡_, sym, _∙_, ap}
+use mathlib.Core.List.{List, _∷_, List·Memᴰ}
 use mathlib.Core.Logic.{_⊎_, inl, inr}
-use Prim.Native.Nat.{ℕ, _+_, _≤_, _<_}
+use Prim.Native.Nat.{ℕ, _≤_, _<_}
 use native.Mathlib.Decide.{decLe}
 use native.Mathlib.Omega.{arith}
 use lib.Dec.{T}
 use lib.ListN.{length, getD}
-use Rattle.lists.proofs.Reflects.{Reflects}
 use Rattle.lists.proofs.ListsLaws.{Every, Some, every-cons, some-cons}
 use Rattle.lists.proofs.EveryLaws.{every-nil, every-imp}
 use Rattle.lists.proofs.Order.{Ordered, ordered-none, ordered-more, ordered-at, ordered-pair}
 use Rattle.orthtree.specs.Entries.{Entry, span, rangeEnd, chain}
 use Rattle.orthtree.proofs.EntriesLaws.{InRange, CommonKey}
-use Rattle.orthtree.proofs.ChainLaws.{SameCell, same-end, NextItem, Fits, Follows, ChainAfter, last, link, ChainFrom, end, start, chain-reflects}
+use Rattle.orthtree.proofs.ChainLaws.{SameCell, same-end, Fits, Follows, ChainAfter, last, link, ChainFrom, end, start, chain-reflects}
 
 module _ (arity depth : ℕ) where
   -- f may stand somewhere after e: it is of the same cell, or starts where e's cell ends or after that
@@ -55,12 +53,13 @@ module _ (arity depth : ℕ) where
   from-fits {count} (end h) = every-nil (λ f. Fits arity depth count f)
   from-fits (start h fit c) = every-cons (fit, after-fits c)
 
-  -- an entry's cell starts and ends no later than that of an entry after it
+  -- an entry's cell starts no later than that of an entry after it
   pub before-key : {e f : Entry} → Before e f → e .key ≤ f .key
   unfolding rangeEnd
   before-key (inl s) = omega (arith, s .key)
   before-key (inr h) = omega arith
 
+  -- and ends no later
   pub before-end : {e f : Entry} → Before e f → rangeEnd arity depth e ≤ rangeEnd arity depth f
   unfolding rangeEnd
   before-end (inl s) = omega (arith, same-end arity depth s)
@@ -83,7 +82,8 @@ module _ (arity depth : ℕ) where
     | no n ↦ some-cons (inl (record { starts = h; ends = omega arith }))
   ]
 
-  from-cover : {count : ℕ} {es : List Entry} (k : ℕ) → ChainFrom arity depth count 0 es → k < span arity depth 0 → Some (λ f. InRange arity depth k f) es
+  from-cover : {count : ℕ} {es : List Entry} (k : ℕ) → ChainFrom arity depth count 0 es → k < span arity depth 0
+      → Some (λ f. InRange arity depth k f) es
   from-cover k (end h) l = absurd (omega arith)
   from-cover k (start h fit c) l = after-cover k c (omega arith) l
 

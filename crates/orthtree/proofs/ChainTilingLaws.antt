@@ -2,25 +2,24 @@
 -- The idea: from the back. If the entries of the nodes after n go on from where n ends, then with n's own entries in front they
 -- go on from where n starts.
 -- Assumes nothing.
-use mathlib.Core.Path.{_≡_, refl, sym, _∙_, ap, subst}
-use mathlib.Core.Bool.{Bool, true, false}
+use mathlib.Core.Path.{_≡_, refl, _∙_}
 use mathlib.Core.List.{List, [], _∷_, _++_, map, flatMap}
-use mathlib.Core.Logic.{_⊎_, inl, inr}
+use mathlib.Core.Logic.{inl, inr}
 use Prim.Native.Nat.{ℕ, suc, _+_, _%_, _≤_, _<_}
 use native.Mathlib.Omega.{arith}
 use lib.Dec.{T}
-use Rattle.lists.proofs.Reflects.{Reflects}
 use Rattle.lists.proofs.ListsLaws.{Every, every-uncons}
 use Rattle.lists.proofs.Order.{Rising, rising-none, rising-more}
 use Rattle.orthtree.specs.Entries.{Entry, emptyMark, span, rangeEnd, chain}
 use Rattle.orthtree.proofs.TilingLaws.{Tiles, done, next}
-use Rattle.orthtree.proofs.ChainLaws.{SameCell, NextItem, Fits, ChainAfter, last, link, ChainFrom, end, start, chain-reflects}
+use Rattle.orthtree.proofs.ChainLaws.{ChainAfter, last, link, ChainFrom, end, start, chain-reflects}
 
 -- the items of a cell: at least one, strictly ascending and below the count, or the mark alone
 pub data Listing (count : ℕ) : List ℕ → Type 0 where
   marked : Listing count (emptyMark ∷ [])
   listed : {i : ℕ} {is : List ℕ} → Rising 0 count (i ∷ is) → Listing count (i ∷ is)
 
+-- the entry with this key, level and item
 abbrev pub entry : ℕ → ℕ → ℕ → Entry
 entry k l i = record { key = k; level = l; item = i }
 
@@ -46,7 +45,8 @@ module _ (arity depth count : ℕ) (few : count ≤ emptyMark) where
     unfolding rangeEnd
     after-item i = go-on (entry k l i) rest
 
-    items-chain : {i : ℕ} {is : List ℕ} → i < count → Rising (suc i) count is → ChainAfter arity depth count (entry k l i) (map (entry k l) is ++ es)
+    items-chain : {i : ℕ} {is : List ℕ} → i < count → Rising (suc i) count is
+        → ChainAfter arity depth count (entry k l i) (map (entry k l) is ++ es)
     items-chain {i} h rising-none = after-item i
     items-chain {i} h (rising-more {i = j} a b r) =
         link (record { level = deep; aligned = aligned; item = inl b })

@@ -2,9 +2,11 @@ pub mod EntriesLaws
 pub mod RangeLaws
 pub mod TilingLaws
 pub mod LeavesLaws
+pub mod BelowLaws
 pub mod LeavesUnique
 pub mod ChainLaws
 pub mod ChainTilingLaws
+pub mod ChainCellLaws
 pub mod ChainOrderLaws
 pub mod ChainBlockLaws
 pub mod ChainHeadsLaws

@@ -3,9 +3,9 @@
 -- The idea: cut off the m bits below half the side, which are 0. The coordinates left are even, so k becomes the lowest digit of
 -- their key, and the digits above stay.
 -- Assumes nothing.
-use mathlib.Core.Path.{_≡_, refl, sym, _∙_, ap, ap₂}
+use mathlib.Core.Path.{_≡_, refl, _∙_, ap, ap₂}
 use mathlib.Core.List.{List, [], _∷_, map}
-use Prim.Native.Nat.{ℕ, zero, suc, _+_, _*_, _/_, _%_, _^_, _≤_, _<_}
+use Prim.Native.Nat.{ℕ, suc, _+_, _*_, _/_, _%_, _^_, _<_}
 use native.Mathlib.Nat.{add-comm, mul-one, pow-suc, le-mul-of-pos-right, add-mul-div-right, add-mul-mod-self-right}
 use native.Mathlib.Numerals.{add-one}
 use native.Mathlib.Omega.{arith}
@@ -33,7 +33,8 @@ unfolding childCorner
 child-cut m k [] = refl
 child-cut m k (c ∷ cs) = ap₂ _∷_ (add-mul-div-right c (k % 2) (pow-pos m) ∙ rw mul-one) (child-cut m (k / 2) cs)
 
-child-multiples : (m k : ℕ) (cs : List ℕ) → Every (λ c. c % 2 ^ m ≡ 0) cs → Every (λ c. c % 2 ^ m ≡ 0) (childCorner (2 ^ m) k cs)
+child-multiples : (m k : ℕ) (cs : List ℕ) → Every (λ c. c % 2 ^ m ≡ 0) cs
+    → Every (λ c. c % 2 ^ m ≡ 0) (childCorner (2 ^ m) k cs)
 unfolding childCorner
 child-multiples m k [] h = every-nil (λ c. c % 2 ^ m ≡ 0)
 child-multiples m k (c ∷ cs) h = let g = every-uncons h in every-cons (rw add-mul-mod-self-right (g .0), child-multiples m (k / 2) cs (g .1))

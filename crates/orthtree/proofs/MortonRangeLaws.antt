@@ -4,10 +4,10 @@
 -- points apart (`morton-injective`), and a key lies in the range when cutting off m digits takes it to what it takes the
 -- corner's key to (`aligned-iff`). The corner's own key ends in m digits 0.
 -- Assumes nothing.
-use mathlib.Core.Path.{_≡_, refl, sym, _∙_, ap, ap₂}
+use mathlib.Core.Path.{_≡_, refl, sym, ap}
 use mathlib.Core.Logic.{_↔_}
 use mathlib.Core.List.{List, [], _∷_, map}
-use Prim.Native.Nat.{ℕ, zero, suc, _+_, _*_, _/_, _%_, _^_, _≤_, _<_}
+use Prim.Native.Nat.{ℕ, zero, suc, _+_, _*_, _/_, _%_, _^_, _<_}
 use native.Mathlib.Nat.{add-comm, zero-add, one-le-pow, mul-zero, mul-mod-right}
 use native.Mathlib.Numerals.{add-one}
 use native.Mathlib.Omega.{arith}
@@ -15,7 +15,7 @@ use lib.ListN.{length, length-map}
 use lib.Pow.{pow-pos, mod-pow-add, shr-lt}
 use Rattle.lists.proofs.ListsLaws.{Every, every-uncons}
 use Rattle.lists.proofs.EveryLaws.{every-imp, every-map}
-use Rattle.lists.proofs.Pointwise.{Pointwise, pointwise-length, pointwise-map, map-pointwise, pointwise-imp}
+use Rattle.lists.proofs.Pointwise.{Pointwise, pointwise-map, map-pointwise, pointwise-imp}
 use Rattle.orthtree.specs.Morton.{lowestBits, mortonKey}
 use Rattle.orthtree.proofs.RangeLaws.{Within, aligned-iff}
 use Rattle.orthtree.proofs.MortonLaws.{cut, morton-split, morton-quotient, morton-injective}
@@ -36,7 +36,8 @@ unfolding mortonKey
 multiples-end zero cs h = refl
 multiples-end (suc m) cs h =
     let low = lowest-even cs (every-imp (λ c e. multiple-half m c e .0) h) in
-    let high = multiples-end m (map (λ c. c / 2) cs) (every-map (λ c. c % 2 ^ m ≡ 0) (λ c. c / 2) cs (every-imp (λ c e. multiple-half m c e .1) h)) in
+    let rest = every-map (λ c. c % 2 ^ m ≡ 0) (λ c. c / 2) cs (every-imp (λ c e. multiple-half m c e .1) h) in
+    let high = multiples-end m (map (λ c. c / 2) cs) rest in
     rw (mortonKey, low, high, mul-zero)
 
 -- the key of a corner whose coordinates are multiples of 2 ^ m, by the key of the quotients
@@ -55,8 +56,10 @@ module _ (m n : ℕ) (corner ps : List ℕ) (same : length corner ≡ length ps)
   -- the point lies in the box when the quotients are the corner's
   box-iff : Pointwise (λ c p. Within c (2 ^ m) p) corner ps ↔ (cut m corner ≡ cut m ps)
   box-iff = (
-    λ h. pointwise-map (λ c. c / 2 ^ m) (λ c. c / 2 ^ m) (pointwise-imp (λ c p e w. sym (aligned-iff (2 ^ m) c p (pow-pos m) e .0 w)) multiples h),
-    λ e. pointwise-imp (λ c p f q. aligned-iff (2 ^ m) c p (pow-pos m) f .1 (sym q)) multiples (map-pointwise (λ c. c / 2 ^ m) (λ c. c / 2 ^ m) corner ps e),
+    λ h. pointwise-map (λ c. c / 2 ^ m) (λ c. c / 2 ^ m)
+        (pointwise-imp (λ c p e w. sym (aligned-iff (2 ^ m) c p (pow-pos m) e .0 w)) multiples h),
+    λ e. pointwise-imp (λ c p f q. aligned-iff (2 ^ m) c p (pow-pos m) f .1 (sym q)) multiples
+        (map-pointwise (λ c. c / 2 ^ m) (λ c. c / 2 ^ m) corner ps e),
   )
 
   -- its key lies in the range when the quotients' keys are equal
@@ -73,5 +76,6 @@ module _ (m n : ℕ) (corner ps : List ℕ) (same : length corner ≡ length ps)
       → Pointwise (λ c p. Within c (2 ^ m) p) corner ps ↔ Within (mortonKey (m + n) corner) ((2 ^ length corner) ^ m) (mortonKey (m + n) ps)
   key-in-range bc bp = (
     λ h. range-iff .1 (ap (mortonKey n) (sym (box-iff .0 h))),
-    λ w. box-iff .1 (sym (morton-injective n (cut m ps) (cut m corner) (simp length-map (sym same)) (every-cut m n ps bp) (every-cut m n corner bc) (range-iff .0 w))),
+    λ w. box-iff .1 (sym (morton-injective n (cut m ps) (cut m corner) (simp length-map (sym same))
+        (every-cut m n ps bp) (every-cut m n corner bc) (range-iff .0 w))),
   )

@@ -2,13 +2,13 @@
 -- The idea: such a range holds exactly the numbers whose quotient by the size is the first one's (`aligned-iff`), so a number
 -- common to two of them puts the smaller within the larger.
 -- Assumes nothing.
-use mathlib.Core.Path.{_≡_, refl, sym, _∙_, ap, subst}
+use mathlib.Core.Path.{_≡_, sym, _∙_, ap, subst}
 use mathlib.Core.Logic.{_↔_}
-use Prim.Native.Nat.{ℕ, zero, suc, _+_, _*_, _-_, _/_, _%_, _^_, _≤_, _<_, _∣_}
+use Prim.Native.Nat.{ℕ, suc, _+_, _*_, _-_, _/_, _%_, _^_, _≤_, _<_, _∣_}
 use native.Mathlib.Nat.{pow-succ', one-le-pow, div-add-mod, div-eq-of-lt-le, mod-lt, lt-of-mul-lt-mul-right, mul-le-mul-right, add-sub-of-le, le-of-suc-le-suc, div-add-mod', add-mul-mod-self-right, mod-mod-of-dvd, dvd-mul-left, zero-mod, div-lt-iff-lt-mul}
 use native.Mathlib.Omega.{arith}
-use native.Mathlib.Decide.{decLe}
 use lib.Pow.{pow-add}
+use Rattle.orthtree.specs.Entries.{span}
 
 -- k is one of the size many numbers from `first` on
 pub record Within (first size k : ℕ) : Type 0 where
@@ -20,6 +20,7 @@ pub record Inside (first size outer room : ℕ) : Type 0 where
   pub starts : outer ≤ first
   pub ends : first + size ≤ outer + room
 
+-- a number of the inner range is one of the outer
 pub inside-within : {first size outer room k : ℕ} → Inside first size outer room → Within first size k → Within outer room k
 inside-within i w = record { starts = omega arith; ends = omega arith }
 
@@ -52,18 +53,31 @@ ranges-nested arity h g {k} {l} {x} le a b u w =
     subst (λ m. l % m ≡ 0 → Within l m x → Inside k (arity ^ h) l m) (sym e)
     (λ c v. nested-multiples (arity ^ h) (arity ^ (g - h)) a c u v) b w
 
-module _ (arity h : ℕ) (k : ℕ) where
+-- the same by levels: the range of a node as deep or deeper is within that of a node with which it has a key in common
+pub spans-nested : (arity depth l m : ℕ) {k j x : ℕ} → m ≤ l → k % span arity depth l ≡ 0 → j % span arity depth m ≡ 0
+    → Within k (span arity depth l) x → Within j (span arity depth m) x → Inside k (span arity depth l) j (span arity depth m)
+unfolding span
+spans-nested arity depth l m h a b u w = ranges-nested arity (depth - l) (depth - m) (omega arith) a b u w
+
+-- a node above the deepest level has arity times the keys of a child
+pub span-split : (arity depth level : ℕ) → level < depth → span arity depth level ≡ arity * span arity depth (suc level)
+unfolding span
+span-split arity depth level h = let e : depth - level ≡ suc (depth - suc level) = omega arith in rw (e, pow-succ')
+
+module _ (arity h k : ℕ) where
   -- where child i of a node starts, if the node starts at k and its children have arity ^ h keys each
   abbrev pub childKey : ℕ → ℕ
   childKey i = k + i * arity ^ h
 
-  -- the first child starts where the node does, each next one where the one before it ends, and the last ends where the node does
+  -- the first child starts where the node does
   pub child-first : childKey 0 ≡ k
   child-first = omega arith
 
+  -- each next one starts where the one before it ends
   pub child-next : (i : ℕ) → childKey (suc i) ≡ childKey i + arity ^ h
   child-next i = omega arith
 
+  -- the last ends where the node does
   pub child-last : childKey arity ≡ k + arity ^ suc h
   child-last = rw pow-succ'
 
@@ -73,6 +87,7 @@ module _ (arity h : ℕ) (k : ℕ) where
       let d : arity ^ h ∣ arity ^ suc h = rw pow-succ' (dvd-mul-left (arity ^ h) arity) in
       rw (add-mul-mod-self-right, ← mod-mod-of-dvd (arity ^ h) k d, e, zero-mod)
 
+  -- a child's range is within the node's
   pub child-inside : (i : ℕ) → i < arity → Inside (childKey i) (arity ^ h) k (arity ^ suc h)
   child-inside i l = rw pow-succ' (let m = mul-le-mul-right (arity ^ h) l in record { starts = omega arith; ends = omega arith })
 

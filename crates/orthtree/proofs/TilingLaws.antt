@@ -5,7 +5,7 @@
 use mathlib.Core.Path.{_≡_, refl, sym, _∙_, ap, ap₂, subst}
 use mathlib.Core.List.{List, [], _∷_, _++_, flatMap, List·Memᴰ, List·Memᴰ·head, List·Memᴰ·tail, List·Memᴰ·not-nil, List·Memᴰ·cases-cons}
 use mathlib.Core.Logic.{_⊎_, inl, inr}
-use Prim.Native.Nat.{ℕ, zero, suc, _+_, _*_, _≤_, _<_}
+use Prim.Native.Nat.{ℕ, suc, _+_, _*_, _≤_, _<_}
 use native.Mathlib.Decide.{decLe}
 use native.Mathlib.Omega.{arith}
 use lib.ListN.{length, getD}
@@ -79,9 +79,10 @@ module _ {Node : Type 0} (key size : Node → ℕ) where
   tilings-unique {b = b} p q same (next {a = a} {n = n} e t) (next {n = m} {ns = ms} f u) =
       let g = every-uncons p in
       let h = every-uncons q in
-      let first = same n m a (List·Memᴰ·head refl) (List·Memᴰ·head refl)
-      (record { starts = omega arith; ends = omega arith }) (record { starts = omega arith; ends = omega arith }) in
-      ap₂ _∷_ first (tilings-unique (g .1) (h .1) (λ x y k c d. same x y k (List·Memᴰ·tail c) (List·Memᴰ·tail d)) t (subst (λ x. Tiles key size (a + size x) ms b) (sym first) u))
+      let at : (x : Node) → key x ≡ a → 0 < size x → Within (key x) (size x) a = λ x z l. record { starts = omega arith; ends = omega arith } in
+      let first = same n m a (List·Memᴰ·head refl) (List·Memᴰ·head refl) (at n e (g .0)) (at m f (h .0)) in
+      let rest = subst (λ x. Tiles key size (a + size x) ms b) (sym first) u in
+      ap₂ _∷_ first (tilings-unique (g .1) (h .1) (λ x y k c d. same x y k (List·Memᴰ·tail c) (List·Memᴰ·tail d)) t rest)
 
 -- nodes of one size whose keys go up by that size tile what they cover together
 pub tiles-steps : {Node : Type 0} (key size : Node → ℕ) (s : ℕ) (d : Node) (ns : List Node) {a b : ℕ} → Every (λ n. size n ≡ s) ns

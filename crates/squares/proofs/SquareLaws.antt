@@ -2,25 +2,20 @@
 -- The idea: a square is a box of two coordinates whose side is a power of two and whose corner is a multiple of it, so the law on
 -- the keys of a node's children, `child-key`, holds of its quarters.
 -- Assumes nothing.
-use mathlib.Core.Path.{_≡_, refl, sym, _∙_, ap, ap₂, subst}
-use mathlib.Core.Logic.{_↔_}
-use mathlib.Core.List.{List, [], _∷_}
-use Prim.Native.Nat.{ℕ, zero, suc, _+_, _*_, _-_, _/_, _%_, _^_, _≤_, _<_, _∣_}
+use mathlib.Core.Path.{_≡_, refl, subst}
+use mathlib.Core.List.{[], _∷_}
+use Prim.Native.Nat.{ℕ, zero, suc, _+_, _*_, _-_, _%_, _^_, _≤_, _<_, _∣_}
 use native.Mathlib.Nat.{add-zero, zero-mul, one-mul, pow-succ', dvd-mul-left, mod-mod-of-dvd, zero-mod, add-mod-right}
 use native.Mathlib.Omega.{arith}
-use lib.ListN.{length, getD}
+use lib.ListN.{getD}
 use lib.Pow.{pow-pos}
 use Rattle.lists.proofs.ListsLaws.{Every, every-cons}
 use Rattle.lists.proofs.EveryLaws.{every-nil}
-use Rattle.lists.proofs.Pointwise.{Pointwise, pointwise-none, pointwise-more}
 use Rattle.orthtree.specs.Morton.{mortonKey}
 use Rattle.orthtree.specs.Entries.{span}
-use Rattle.orthtree.proofs.RangeLaws.{Within}
-use Rattle.orthtree.proofs.MortonLaws.{morton-bound, morton-injective, morton-bit}
-use Rattle.orthtree.proofs.MortonRangeLaws.{morton-aligned, key-in-range}
+use Rattle.orthtree.proofs.MortonRangeLaws.{morton-aligned}
 use Rattle.orthtree.proofs.LeavesLaws.{Tree}
 use Rattle.orthtree.proofs.MortonChildLaws.{childCorner, child-key}
-use Rattle.plane.specs.declared.Point.{Point}
 use Rattle.squares.specs.declared.Square.{Square}
 use Rattle.squares.specs.Square.{depth, arity, sideAt, wholeSquare, topLeft, topRight, bottomLeft, bottomRight, quarters, zOrder, squareKey}
 
@@ -37,6 +32,7 @@ pub side-half : (level : ℕ) → level < depth → sideAt level ≡ 2 * sideAt 
 unfolding sideAt
 side-half level h = let e : depth - level ≡ suc (depth - suc level) = omega arith in rw (e, pow-succ')
 
+-- a side is not 0
 pub side-positive : (level : ℕ) → 0 < sideAt level
 unfolding sideAt
 side-positive level = pow-pos (depth - level)
@@ -47,12 +43,18 @@ unfolding wholeSquare sideAt
 whole-aligned = record { deep = omega arith; across = refl; down = refl; right = omega arith; bottom = omega arith }
 
 -- a multiple of a side is one of a quarter's side, also when moved by that
-half-multiple : (level c : ℕ) → level < depth → c % sideAt level ≡ 0 → (c % sideAt (suc level) ≡ 0) × ((c + sideAt (suc level)) % sideAt (suc level) ≡ 0)
+half-multiple : (level c : ℕ) → level < depth → c % sideAt level ≡ 0
+    → (c % sideAt (suc level) ≡ 0) × ((c + sideAt (suc level)) % sideAt (suc level) ≡ 0)
 half-multiple level c l e =
     let h = sideAt (suc level) in
     let d : h ∣ sideAt level = rw (side-half level l) (dvd-mul-left h 2) in
     let z : c % h ≡ 0 = rw (← mod-mod-of-dvd h c d, e, zero-mod) in
     (z, rw (add-mod-right, z))
+
+-- quarters are one level deeper
+pub quarters-level : (s : Square) → Every (λ q. q .level ≡ suc (s .level)) (quarters s)
+unfolding quarters topLeft topRight bottomLeft bottomRight
+quarters-level s = every-cons (refl, every-cons (refl, every-cons (refl, every-cons (refl, every-nil (λ q. q .level ≡ suc (s .level))))))
 
 module _ (s : Square) (ok : Aligned s) (l : s .level < depth) where
   -- so are the quarters of a square that is not of the deepest level
@@ -75,10 +77,6 @@ module _ (s : Square) (ok : Aligned s) (l : s .level < depth) where
           ),
         ),
       )
-
-  pub quarters-level : Every (λ q. q .level ≡ suc (s .level)) (quarters s)
-  unfolding quarters topLeft topRight bottomLeft bottomRight
-  quarters-level = every-cons (refl, every-cons (refl, every-cons (refl, every-cons (refl, every-nil (λ q. q .level ≡ suc (s .level))))))
 
   corner-key : (k : ℕ) → k < arity → mortonKey depth (childCorner (sideAt (suc (s .level))) k (s .x ∷ s .y ∷ []))
       ≡ mortonKey depth (s .x ∷ s .y ∷ []) + k * span arity depth (suc (s .level))
@@ -123,6 +121,6 @@ square-tree = record {
   aligned = squareKey-aligned;
   count = λ s ok l. refl;
   nodes = quarters-aligned;
-  levels = quarters-level;
+  levels = λ s ok l. quarters-level s;
   keys = quarter-key;
 }
