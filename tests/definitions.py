@@ -1,5 +1,5 @@
 #!/usr/bin/env python3
-"""Runs the definitions of document 01 (crates/chart_spec and below) inside the proof checker on generated input and holds
+"""Runs the definitions of document 01 (crates/call_spec and below) inside the proof checker on generated input and holds
 what they compute to what the reference model (model/) answers.
 
 usage: definitions.py SEED COUNT
@@ -17,7 +17,7 @@ import sys
 ROOT = os.path.dirname(os.path.dirname(os.path.abspath(__file__)))
 MODEL = os.path.join(ROOT, "target", "model", "model")
 SCRATCH = os.path.join(ROOT, "target", "definitions")
-CRATES = ["lists", "plane", "orthtree", "squares", "chart_spec"]
+CRATES = ["lists", "plane", "separation", "orthtree", "squares", "chart_spec", "call_spec"]
 
 
 def model(mode, data):
@@ -211,10 +211,10 @@ use lib.ListN.{length, take, replicate}
 use Rattle.plane.specs.declared.Point.{Point}
 use Rattle.chart_spec.specs.Cells.{entriesOf}
 use Rattle.chart_spec.specs.Edits.{triangle}
-use Rattle.chart_spec.specs.Buffers.{Chart, padded}
-use Rattle.chart_spec.specs.Calls.{Changed, Located, Soundness, Area, Overlaid, loadCall, splitCall, locateCall, listingCall, soundCall, areaCall, overlayCall}
-use Rattle.chart_spec.specs.Log.{logOf}
-use Rattle.chart_spec.proofs.Evaluate.{evaluate}
+use Rattle.call_spec.specs.Buffers.{Chart, padded}
+use Rattle.call_spec.specs.Calls.{Changed, Located, Soundness, Area, Overlaid, loadCall, splitCall, locateCall, listingCall, soundCall, areaCall, overlayCall}
+use Rattle.call_spec.specs.Log.{logOf}
+use Rattle.call_spec.proofs.Evaluate.{evaluate}
 use Rattle.chart_spec.proofs.MarkedCases.{at, entryNumbers, foundNumbers}
 
 abbrev buffer : ℕ → ℕ → List ℕ → List ℕ

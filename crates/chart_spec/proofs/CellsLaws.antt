@@ -1,15 +1,16 @@
--- What the stopping rule means.
+-- What the stopping rule means, and what rotations are.
 -- Assumes nothing.
 use mathlib.Core.Path.{_≡_, refl, subst}
-use mathlib.Core.List.{List, [], _∷_, List·Memᴰ·not-nil}
+use mathlib.Core.List.{List, [], _∷_, map, List·Memᴰ·not-nil}
 use mathlib.Core.Logic.{_⊎_, inl, inr}
 use Rattle.lists.specs.Lists.{all}
 use Rattle.lists.proofs.Reflects.{Reflects, reflects-or, reflects-iff}
 use Rattle.lists.proofs.ListsLaws.{Every, every-cons, every-uncons, all-reflects}
 use Rattle.plane.specs.declared.Point.{Point}
-use Rattle.plane.specs.Triangle.{Side}
+use Rattle.plane.specs.Triangle.{Triangle, Side, corners, cornerAt, rotated, triangleOf}
 use Rattle.plane.proofs.PointLaws.{samePoint-reflects}
 use Rattle.chart_spec.specs.Cells.{isEnd, commonEnd}
+use Rattle.chart_spec.specs.Edits.{triangle, rotations}
 
 -- p is one of the two end points
 pub isEnd-reflects : (p : Point) (d : Side) → Reflects (isEnd p d) ((p ≡ d .start) ⊎ (p ≡ d .end))
@@ -49,3 +50,10 @@ commonEnd-reflects [] = record {
 }
 commonEnd-reflects (d ∷ ds) =
     reflects-iff (common-to d ds) (common-from d ds) (reflects-or (all-ends (d .start) ds) (all-ends (d .end) ds))
+
+-- Rotations
+
+-- the three rotations are those that index the array of corners modulo 3
+pub rotations-rotated : (t : Triangle) → rotations t ≡ map (λ k. triangleOf (rotated (corners t) k)) (0 ∷ 1 ∷ 2 ∷ [])
+unfolding rotations triangle triangleOf rotated cornerAt
+rotations-rotated t = refl

@@ -1,4 +1,5 @@
--- `unfolding evaluate` opens every definition that document 01 is written in, so that closed facts about them compute.
+-- `unfolding evaluate` opens every definition that document 01's plain tables are written in, so that closed facts about
+-- them compute.
 -- Assumes nothing.
 use mathlib.Core.List.{flatMap}
 use Rattle.lists.specs.Lists.{all, any, filter, first, placesFrom, without, sumOf, countFrom, upTo}
@@ -13,14 +14,10 @@ use Rattle.squares.specs.Square.{sideAt, wholeSquare, topLeft, topRight, bottom
 use Rattle.chart_spec.specs.Table.{pointAt, triangleAt, tableOf, triangleNumbers, tableNumbers, noTriangle, numbered, tableSides}
 use Rattle.chart_spec.specs.Cells.{sidesMeeting, isEnd, commonEnd, stopped, cellsIn, cells, trianglesMeeting, orMark, entryOf, cellEntries, entriesOf}
 use Rattle.chart_spec.specs.Refusals.{numberOf, valueOf, refuseIf, andThen, outcomeNumber, outcomeValue, doneOr}
-use Rattle.chart_spec.specs.Edits.{triangle, rotations, firstFaulty, refuseFaulty, givenTable, loadTable, splitAt, splitTable, hasCorner, endingIn, closesRound, mergeAround, mergeThree, takeOutThree, takeOutTable, sharesSide, flipAs, flipWith, flipAmong, flipTable, proposed, withinLimit, eventOn}
-use Rattle.chart_spec.specs.Overlay.{pairListed, pairsListed, withinPairs, overlayOf}
-use Rattle.chart_spec.specs.Buffers.{tooShort, padded, zipEntries, chartTable, chartEntries, chainRule, sameEntries, filed, chartWith, filedChart}
+use Rattle.chart_spec.specs.Edits.{triangle, rotations, faulty, refuseFaulty, givenTable, loadTable, splitAt, splitTable, hasCorner, endingIn, closesRound, mergeAround, mergeThree, takeOutThree, takeOutTable, sharesSide, flipAs, flipWith, flipAmong, flipTable, proposed, limited, withinLimit, eventOn, afterEvent, afterEvents, plainTable}
+use Rattle.chart_spec.specs.Overlay.{pairNumbers, pairListed, pairsListed, withinPairs, overlayOf}
 use Rattle.chart_spec.specs.Reading.{cellOf, listing, located, sound, totalArea}
-use Rattle.chart_spec.specs.Calls.{changedBy, loadCall, editCall, splitCall, takeOutCall, flipCall, reading, locateCall, listingCall, soundCall, areaCall, pairNumbers, pairsRefused, overlaidBy, overlayCall}
-use Rattle.chart_spec.specs.History.{afterEvent, afterEvents, plainTable, eventCall, chartAfter}
-use Rattle.chart_spec.specs.Log.{digits, decimal, spaced, line, heading, badLine, startState, chartOf, withChart, withWaiting, refusalNumbers, eventNumbers, eventStep, waitStep, loadStep, foundNumber, locateStep, hatchLines, overlayStep, pointOperand, runCommand, known, takesChart, wordCount, chartBytes, operandBytes, wordsOf, wellFormed, stepOf, logFrom, logOf}
 
 unfoldable pub evaluate : Unit {0}
-unfolding flatMap all any filter first placesFrom without sumOf countFrom upTo orient samePoint orientAt whole cornerAt rotated triangleOf proper holds strictlyInside holdsAt strictlyInsideAt doubledArea someCornerInner noSideSeparates interiorsMeet apart sideBox triangleBox allCorners allInner allOuter sideMeets triangleMeets lowestBits mortonKey leavesBelow emptyMark isMark sameCell cellHeadsAfter cellHeads span rangeEnd covers overlaps meetings listedTogether entryFits follows chainAfter chain sideAt wholeSquare topLeft topRight bottomLeft bottomRight quarters zOrder squareKey squareBox pointAt triangleAt tableOf triangleNumbers tableNumbers noTriangle numbered tableSides sidesMeeting isEnd commonEnd stopped cellsIn cells trianglesMeeting orMark entryOf cellEntries entriesOf numberOf valueOf refuseIf andThen outcomeNumber outcomeValue doneOr triangle rotations firstFaulty refuseFaulty givenTable loadTable splitAt splitTable hasCorner endingIn closesRound mergeAround mergeThree takeOutThree takeOutTable sharesSide flipAs flipWith flipAmong flipTable proposed withinLimit eventOn pairListed pairsListed withinPairs overlayOf tooShort padded zipEntries chartTable chartEntries chainRule sameEntries filed chartWith filedChart cellOf listing located sound totalArea changedBy loadCall editCall splitCall takeOutCall flipCall reading locateCall listingCall soundCall areaCall pairNumbers pairsRefused overlaidBy overlayCall afterEvent afterEvents plainTable eventCall chartAfter digits decimal spaced line heading badLine startState chartOf withChart withWaiting refusalNumbers eventNumbers eventStep waitStep loadStep foundNumber locateStep hatchLines overlayStep pointOperand runCommand known takesChart wordCount chartBytes operandBytes wordsOf wellFormed stepOf logFrom logOf
+unfolding flatMap all any filter first placesFrom without sumOf countFrom upTo orient samePoint orientAt whole cornerAt rotated triangleOf proper holds strictlyInside holdsAt strictlyInsideAt doubledArea someCornerInner noSideSeparates interiorsMeet apart sideBox triangleBox allCorners allInner allOuter sideMeets triangleMeets lowestBits mortonKey leavesBelow emptyMark isMark sameCell cellHeadsAfter cellHeads span rangeEnd covers overlaps meetings listedTogether entryFits follows chainAfter chain sideAt wholeSquare topLeft topRight bottomLeft bottomRight quarters zOrder squareKey squareBox pointAt triangleAt tableOf triangleNumbers tableNumbers noTriangle numbered tableSides sidesMeeting isEnd commonEnd stopped cellsIn cells trianglesMeeting orMark entryOf cellEntries entriesOf numberOf valueOf refuseIf andThen outcomeNumber outcomeValue doneOr triangle rotations faulty refuseFaulty givenTable loadTable splitAt splitTable hasCorner endingIn closesRound mergeAround mergeThree takeOutThree takeOutTable sharesSide flipAs flipWith flipAmong flipTable proposed limited withinLimit eventOn afterEvent afterEvents plainTable pairNumbers pairListed pairsListed withinPairs overlayOf cellOf listing located sound totalArea
 evaluate = tt

@@ -15,11 +15,9 @@ use Rattle.squares.specs.Square.{zOrder, squareKey}
 use Rattle.chart_spec.specs.Table.{Table, tableNumbers}
 use Rattle.chart_spec.specs.Cells.{cells, cellEntries, entriesOf}
 use Rattle.chart_spec.specs.Refusals.{Outcome, refused, done, numberOf, valueOf}
-use Rattle.chart_spec.specs.Edits.{Event, load, split, takeOut, flip, eventOn, triangle}
-use Rattle.chart_spec.specs.Overlay.{Hatch, overlayOf}
-use Rattle.chart_spec.specs.Calls.{pairNumbers}
+use Rattle.chart_spec.specs.Edits.{Event, load, split, takeOut, flip, eventOn, plainTable}
+use Rattle.chart_spec.specs.Overlay.{Hatch, pairNumbers, overlayOf}
 use Rattle.chart_spec.specs.Reading.{located, totalArea}
-use Rattle.chart_spec.specs.History.{plainTable}
 use Rattle.chart_spec.proofs.Evaluate.{evaluate}
 
 -- Ways to write results as numbers
@@ -110,7 +108,12 @@ markedCases =
       given = totalArea UV ∷ totalArea (plainTable (load (tableNumbers UV) ∷ flip 0 1 ∷ [])) ∷ [];
       stated = 8589672450 ∷ 8589672450 ∷ [];
     }
-    ∷ record { given = outcomeNumbers (eventOn (flip 0 0) UV); stated = 9 ∷ 0 ∷ [] }
+    ∷ record {
+      given =
+          outcomeNumbers (eventOn (flip 0 0) UV)
+          ++ outcomeNumbers (eventOn (flip 0 0) (plainTable (load (tableNumbers UV) ∷ flip 0 1 ∷ [])));
+      stated = 9 ∷ 0 ∷ 9 ∷ 0 ∷ [];
+    }
     ∷ record {
       given = tableNumbers (plainTable (load (tableNumbers (U ∷ [])) ∷ split 0 (at 10000 10000) ∷ takeOut (at 10000 10000) ∷ []));
       stated = tableNumbers (U ∷ []);

@@ -12,7 +12,7 @@ use Rattle.plane.specs.Point.{samePoint}
 use Rattle.plane.specs.Triangle.{Triangle, proper, strictlyInside}
 use Rattle.chart_spec.specs.Table.{Table, numbered, tableOf, maxTriangles, numbersPerTriangle, tableLength}
 use Rattle.chart_spec.specs.Cells.{entriesOf, maxEntries}
-use Rattle.chart_spec.specs.Refusals.{Refusal, badLength, faultyTriangle, noSuchTriangle, notInside, notThreeAround, noFlip, tableFull, tooManyEntries, Outcome, refused, done, refuseIf, andThen}
+use Rattle.chart_spec.specs.Refusals.{Refusal, badLength, faultyTriangle, noSuchTriangle, notInside, notThreeAround, noFlip, tableFull, tooManyEntries, Outcome, refused, done, refuseIf, andThen, doneOr}
 
 -- a triangle by its corners
 unfoldable pub triangle : Point → Point → Point → Triangle
@@ -24,9 +24,9 @@ rotations t = triangle (t .a) (t .b) (t .c) ∷ triangle (t .b) (t .c) (t .a) �
 
 -- Load
 
--- the lowest numbered triangle with D ≤ 0
-unfoldable pub firstFaulty : Table → List ℕ
-firstFaulty table = placesFrom (λ t. not (proper t)) 0 table
+-- the numbers of the triangles with D ≤ 0, ascending
+unfoldable pub faulty : Table → List ℕ
+faulty table = placesFrom (λ t. not (proper t)) 0 table
 
 -- refusal 5, with the lowest number of the list, unless it is empty
 unfoldable pub refuseFaulty : List ℕ → Table → Outcome Table
@@ -41,7 +41,7 @@ givenTable ns = tableOf ns (length ns / numbersPerTriangle)
 unfoldable pub loadTable : List ℕ → Outcome Table
 loadTable ns =
     refuseIf (not (eqb (length ns % numbersPerTriangle) 0) || ltb tableLength (length ns)) badLength
-    (refuseFaulty (firstFaulty (givenTable ns)) (givenTable ns))
+    (refuseFaulty (faulty (givenTable ns)) (givenTable ns))
 
 -- Split: insertion of a vertex into a triangle
 
@@ -151,10 +151,27 @@ proposed (split t p) table = splitTable t p table
 proposed (takeOut p) table = takeOutTable p table
 proposed (flip i j) table = flipTable i j table
 
--- refusal 11: "the new table has over 16,384 entries"
+-- refusal 11: "the new table has over 16,384 entries", where it has n
+unfoldable pub limited : ℕ → Table → Outcome Table
+limited n table = refuseIf (ltb maxEntries n) tooManyEntries (done table)
+
+-- the new table, unless its entries are too many
 unfoldable pub withinLimit : Table → Outcome Table
-withinLimit table = refuseIf (ltb maxEntries (length (entriesOf table))) tooManyEntries (done table)
+withinLimit table = limited (length (entriesOf table)) table
 
 -- what an event comes to on a plain table: refused with a number from 4 up, or the new plain table
 unfoldable pub eventOn : Event → Table → Outcome Table
 eventOn e table = andThen (proposed e table) (λ t. withinLimit t)
+
+-- "each event below changes it; a refused event changes nothing"
+unfoldable pub afterEvent : Event → Table → Table
+afterEvent e table = doneOr table (eventOn e table)
+
+-- the plain table after a list of events
+unfoldable pub afterEvents : List Event → Table → Table
+afterEvents [] table = table
+afterEvents (e ∷ es) table = afterEvents es (afterEvent e table)
+
+-- "The plain table starts empty"
+unfoldable pub plainTable : List Event → Table
+plainTable es = afterEvents es []

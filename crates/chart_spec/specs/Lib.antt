@@ -3,8 +3,4 @@ pub mod Cells
 pub mod Refusals
 pub mod Edits
 pub mod Overlay
-pub mod Buffers
 pub mod Reading
-pub mod Calls
-pub mod History
-pub mod Log

@@ -17,6 +17,10 @@ pub record Pair : Type 0 where
   pub i : ℕ
   pub j : ℕ
 
+-- "i then j for each pair"
+unfoldable pub pairNumbers : List Pair → List ℕ
+pairNumbers ps = flatMap (λ p. p .i ∷ p .j ∷ []) ps
+
 -- "The answer: pair count, pairs, and the meetings"; the pair count is the length of the pairs
 pub record Hatch : Type 0 where
   pub pairs : List Pair

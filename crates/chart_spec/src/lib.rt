@@ -1,1 +1,1 @@
-// Document 01 as definitions. No code.
+// Document 01 on plain tables as definitions. No code.

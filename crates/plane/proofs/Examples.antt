@@ -30,7 +30,7 @@ orient-example : orient (at 1 2) (at 5 3) (at 2 9) ∷ orient (at 5 3) (at 1 2) 
 unfolding orient
 orient-example = refl
 
--- at (5/2, 9/3) and so on, times W: D(p,q,(X/W, Y/W)) × W
+-- at (4/2, 18/2) and (9/2, 5/2), times W
 orientAt-example : orientAt (at 1 2) (at 5 3) (frac 4 18 2) ∷ orientAt (at 1 2) (at 5 3) (frac 9 5 2) ∷ []
     ≡ pos 54 ∷ negsuc 2 ∷ []
 unfolding orientAt

@@ -1,4 +1,6 @@
 pub mod PointLaws
 pub mod Difference
 pub mod OrientLaws
+pub mod SideLaws
+pub mod ExtremeLaws
 pub mod Examples

@@ -12,3 +12,8 @@ pub mod Separation
 pub mod Boxes
 pub mod Touch
 pub mod Meets
+pub mod FlatSides
+pub mod Parts
+pub mod Segment
+pub mod SideTouch
+pub mod SideMeets

@@ -5,12 +5,14 @@
 -- Assumes nothing.
 use mathlib.Core.Path.{subst}
 use mathlib.Core.Logic.{_↔_}
-use Prim.Native.Nat.{_<_}
+use Prim.Native.Nat.{_≤_, _<_}
 use native.Mathlib.Omega.{arith}
-use lib.Dec.{T}
-use Rattle.plane.specs.Point.{FracPoint}
-use Rattle.plane.specs.Triangle.{Triangle, proper, holdsAt}
+use lib.Dec.{T, le→leb}
+use Rattle.plane.specs.declared.Point.{Point}
+use Rattle.plane.specs.Point.{FracPoint, whole}
+use Rattle.plane.specs.Triangle.{Triangle, proper, holds, holdsAt}
 use Rattle.plane.specs.Box.{Box, triangleMeets}
+use Rattle.plane.proofs.OrientLaws.{orientAt-whole}
 use Rattle.separation.proofs.Cone.{Form, Some, _∩_, halfClosed}
 use Rattle.separation.proofs.Helly.{families-meet}
 use Rattle.separation.proofs.Sides.{at, fraction, closed, closed-reflects, Proper, proper-reflects, corners-closed}
@@ -41,7 +43,16 @@ holdsAt-meets t b p d above h i =
     let c = closed-reflects t (v .point) .to (subst (λ q. T (holdsAt t q)) (v .is) h) in
     touch-reflects t b (not-empty b (v .point) (v .above) r) .from (touches t b v c r)
 
-largest-in : (f : Form) (b : Box) → NotEmpty b → halfClosed f .Has (at (largest f b)) → Some (halfClosed f ∩ rectangle b)
+-- A triangle with D > 0 that holds a grid point of a box, the borders included, meets the box.
+pub holds-meets : (t : Triangle) (b : Box) (p : Point) → T (proper t) → T (holds t p)
+    → b .left ≤ p .x → p .x ≤ b .right → b .top ≤ p .y → p .y ≤ b .bottom → T (triangleMeets t b)
+unfolding holds holdsAt whole
+holds-meets t b p d h l r u m =
+    let k : T (holdsAt t (whole p)) = simp orientAt-whole h in
+    holdsAt-meets t b (whole p) d (omega arith) k (omega (arith, le→leb))
+
+-- the largest corner as a common point of a half-plane and the box
+pub largest-in : (f : Form) (b : Box) → NotEmpty b → halfClosed f .Has (at (largest f b)) → Some (halfClosed f ∩ rectangle b)
 largest-in f b h i = record {
   point = at (largest f b);
   above = omega arith;

@@ -52,13 +52,15 @@ chartTable c = tableOf (c .table) (c .triangleCount)
 unfoldable pub chartEntries : Chart → List Entry
 chartEntries c = take (c .entryCount) (zipEntries (c .keys) (c .levels) (c .items))
 
--- "The chain rule: triangle count ≤ 512, every triangle with D > 0; entry count 1 to 16,384; .."; the rest is `chain`
+-- "triangle count ≤ 512", "entry count 1 to 16,384"
+unfoldable pub countsFit : ℕ → ℕ → Bool
+countsFit n m = leb n maxTriangles && leb 1 m && leb m maxEntries
+
+-- "The chain rule": the counts, "every triangle with D > 0", and the rest, `chain`
 unfoldable pub chainRule : Chart → Bool
 chainRule c =
-    leb (c .triangleCount) maxTriangles
+    countsFit (c .triangleCount) (c .entryCount)
     && all (λ t. proper t) (chartTable c)
-    && leb 1 (c .entryCount)
-    && leb (c .entryCount) maxEntries
     && chain arity depth (c .triangleCount) (chartEntries c)
 
 -- the two lists of entries are the same

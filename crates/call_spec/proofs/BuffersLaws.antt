@@ -6,7 +6,7 @@ use mathlib.Core.List.{List, [], _∷_, nil≢cons, cons≢nil, head-eq-of-cons-
 use lib.Dec.{eqb}
 use Rattle.lists.proofs.Reflects.{Reflects, reflects-and, reflects-then, reflects-iff, reflects-eqb}
 use Rattle.orthtree.specs.Entries.{Entry, sameCell}
-use Rattle.chart_spec.specs.Buffers.{sameEntries}
+use Rattle.call_spec.specs.Buffers.{sameEntries}
 
 -- two entries are the same when key, level and item are
 entry-reflects : (e f : Entry) → Reflects (sameCell e f && eqb (e .item) (f .item)) (e ≡ f)

@@ -3,18 +3,18 @@
 -- does not touch.
 -- Assumes nothing.
 use mathlib.Core.Bool.{Bool, true, false, not, _||_}
-use mathlib.Core.List.{List, [], _∷_, flatMap}
+use mathlib.Core.List.{List, []}
 use mathlib.Core.Option.{Option, none, some}
 use Prim.Native.Nat.{ℕ}
 use lib.Dec.{ltb}
 use lib.ListN.{length}
 use Rattle.plane.specs.declared.Point.{Point}
 use Rattle.chart_spec.specs.Table.{Table}
-use Rattle.chart_spec.specs.Refusals.{Refusal, shortBuffer, brokenChain, staleEntries, tooManyPairs, numberOf, valueOf, Outcome, refused, done, refuseIf, outcomeNumber, doneOr}
-use Rattle.chart_spec.specs.Edits.{Event, load, split, takeOut, flip, eventOn}
-use Rattle.chart_spec.specs.Overlay.{Pair, Hatch, overlayOf}
-use Rattle.chart_spec.specs.Buffers.{Chart, tooShort, chainRule, filed, filedChart, chartTable, chartEntries, padded, pairsLength}
+use Rattle.chart_spec.specs.Refusals.{Refusal, shortBuffer, brokenChain, staleEntries, tooManyPairs, numberOf, valueOf, Outcome, refused, done, refuseIf, andThen, outcomeNumber, doneOr}
+use Rattle.chart_spec.specs.Edits.{load, eventOn, splitTable, takeOutTable, flipTable, withinLimit}
+use Rattle.chart_spec.specs.Overlay.{Hatch, pairNumbers, overlayOf}
+use Rattle.call_spec.specs.Buffers.{Chart, tooShort, chainRule, filed, filedChart, chartTable, chartEntries, padded, pairsLength}
 use Rattle.chart_spec.specs.Reading.{located, listing, sound, totalArea}
 
 -- Load and the edits
 
@@ -33,21 +33,22 @@ changedBy c (done t) = record { number = 0; value = 0; chart = filedChart c t }
 unfoldable pub loadCall : List ℕ → Chart → Changed
 loadCall ns c = changedBy c (refuseIf (tooShort c) shortBuffer (eventOn (load ns) (chartTable c)))
 
--- split, take-out and flip: 1, 2 and 3, then what the event comes to on the chart's table
-unfoldable pub editCall : Event → Chart → Changed
-editCall e c =
+-- split, take-out and flip: 1, 2 and 3, then what the edit makes of the chart's table, and 11
+unfoldable pub editCall : (Table → Outcome Table) → Chart → Changed
+editCall edit c =
     changedBy c
     (refuseIf (tooShort c) shortBuffer
-    (refuseIf (not (chainRule c)) brokenChain (refuseIf (not (filed c)) staleEntries (eventOn e (chartTable c)))))
+    (refuseIf (not (chainRule c)) brokenChain
+    (refuseIf (not (filed c)) staleEntries (andThen (edit (chartTable c)) (λ t. withinLimit t)))))
 
 unfoldable pub splitCall : ℕ → Point → Chart → Changed
-splitCall t p = editCall (split t p)
+splitCall t p = editCall (λ table. splitTable t p table)
 
 unfoldable pub takeOutCall : Point → Chart → Changed
-takeOutCall p = editCall (takeOut p)
+takeOutCall p = editCall (λ table. takeOutTable p table)
 
 unfoldable pub flipCall : ℕ → ℕ → Chart → Changed
-flipCall i j = editCall (flip i j)
+flipCall i j = editCall (λ table. flipTable i j table)
 
 -- Readers
 
@@ -100,10 +101,6 @@ pub record Overlaid : Type 0 where
   pub pairCount : ℕ
   pub meets : ℕ
   pub pairs : List ℕ
-
--- "i then j for each pair"
-unfoldable pub pairNumbers : List Pair → List ℕ
-pairNumbers ps = flatMap (λ p. p .i ∷ p .j ∷ []) ps
 
 -- at refusals the pairs keep their contents, "except at 12": "12, and 8,192 zeros in pairs"
 unfoldable pub pairsRefused : Refusal → List ℕ → List ℕ

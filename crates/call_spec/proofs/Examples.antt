@@ -1,0 +1,239 @@
+-- Examples of the calls, of lists of calls and of the command program's log, on buffers longer than asked that hold other
+-- numbers.
+-- Assumes nothing.
+use mathlib.Core.Path.{_≡_, refl}
+use mathlib.Core.Bool.{Bool, true, false}
+use mathlib.Core.List.{List, [], _∷_, _++_, map}
+use mathlib.Core.Option.{Option, none, some}
+use Prim.Native.Nat.{ℕ}
+use lib.ListN.{set, take, replicate}
+use Rattle.plane.specs.declared.Point.{Point}
+use Rattle.chart_spec.specs.Refusals.{Outcome}
+use Rattle.chart_spec.specs.Edits.{load, split, flip}
+use Rattle.chart_spec.specs.Overlay.{Hatch, withinPairs}
+use Rattle.chart_spec.proofs.MarkedCases.{at}
+use Rattle.call_spec.specs.Buffers.{Chart, countsFit}
+use Rattle.call_spec.specs.Calls.{loadCall, splitCall, takeOutCall, flipCall, locateCall, listingCall, soundCall, areaCall, overlaidBy, overlayCall}
+use Rattle.call_spec.specs.History.{chartAfter}
+use Rattle.call_spec.specs.Log.{logOf, waitStep, hatchLines}
+use Rattle.call_spec.proofs.Evaluate.{evaluate}
+
+-- two triangles with a corner in common
+abbrev numbersA : List ℕ
+numbersA = 40000 ∷ 5000 ∷ 45000 ∷ 5000 ∷ 60000 ∷ 45000 ∷ 65535 ∷ 65535 ∷ 0 ∷ 40000 ∷ 60000 ∷ 45000 ∷ []
+
+-- Calls on buffers
+
+-- buffers one place longer than asked that hold 7, and counts that mean nothing
+abbrev dirty : Chart
+dirty = record {
+  table = replicate 3073 7;
+  keys = replicate 16385 7;
+  levels = replicate 16385 7;
+  items = replicate 16385 7;
+  triangleCount = 9;
+  entryCount = 9;
+}
+
+-- the chart that the load leaves
+abbrev filedA : Chart
+filedA = record {
+  table = numbersA ++ replicate 3060 0 ++ (7 ∷ []);
+  keys = (0 ∷ 1073741824 ∷ 1140850688 ∷ 1157627904 ∷ 1174405120 ∷ 1178599424 ∷ 1182793728 ∷ 1186988032 ∷ 1191182336 ∷ 1207959552 ∷ 1275068416 ∷ 1342177280 ∷ 1610612736 ∷ 1879048192 ∷ 2147483648 ∷ 3221225472 ∷ 3489660928 ∷ 3489660928 ∷ 3758096384 ∷ 4026531840 ∷ []) ++ replicate 16364 0 ++ (7 ∷ []);
+  levels = (1 ∷ 3 ∷ 4 ∷ 4 ∷ 5 ∷ 5 ∷ 5 ∷ 5 ∷ 4 ∷ 3 ∷ 3 ∷ 2 ∷ 2 ∷ 2 ∷ 1 ∷ 2 ∷ 2 ∷ 2 ∷ 2 ∷ 2 ∷ []) ++ replicate 16364 0 ++ (7 ∷ []);
+  items = (65535 ∷ 0 ∷ 65535 ∷ 65535 ∷ 0 ∷ 0 ∷ 0 ∷ 0 ∷ 0 ∷ 65535 ∷ 0 ∷ 0 ∷ 0 ∷ 0 ∷ 1 ∷ 1 ∷ 0 ∷ 1 ∷ 1 ∷ 1 ∷ []) ++ replicate 16364 0 ++ (7 ∷ []);
+  triangleCount = 2;
+  entryCount = 20;
+}
+
+load-example : loadCall numbersA dirty ≡ record { number = 0; value = 0; chart = filedA }
+unfolding evaluate
+load-example = refl
+
+-- the same with other lists or counts
+abbrev withTable : List ℕ → Chart
+withTable t = record {
+  table = t;
+  keys = filedA .keys;
+  levels = filedA .levels;
+  items = filedA .items;
+  triangleCount = 2;
+  entryCount = 20;
+}
+
+abbrev withEntries : List ℕ → List ℕ → List ℕ → ℕ → Chart
+withEntries ks ls is n = record {
+  table = filedA .table;
+  keys = ks;
+  levels = ls;
+  items = is;
+  triangleCount = 2;
+  entryCount = n;
+}
+
+abbrev cut : Chart
+cut = withEntries (filedA .keys) (filedA .levels) (filedA .items) 19
+
+-- refused: everything stays, the counts too
+load-refused-call-example : loadCall (1 ∷ []) dirty ∷ loadCall numbersA (withTable []) ∷ []
+    ≡ record { number = 4; value = 0; chart = dirty } ∷ record { number = 1; value = 0; chart = withTable [] } ∷ []
+unfolding evaluate
+load-refused-call-example = refl
+
+-- 1 for each list of entries that is one short
+short-example :
+    map (λ c. areaCall c .number)
+    (withEntries (take 16383 (filedA .keys)) (filedA .levels) (filedA .items) 20
+    ∷ withEntries (filedA .keys) (take 16383 (filedA .levels)) (filedA .items) 20
+    ∷ withEntries (filedA .keys) (filedA .levels) (take 16383 (filedA .items)) 20
+    -- 2 for a triangle with D = 0 and for no entries
+    ∷ withTable (set (filedA .table) 0 45000)
+    ∷ withEntries (filedA .keys) (filedA .levels) (filedA .items) 0
+    ∷ [])
+    ≡ 1 ∷ 1 ∷ 1 ∷ 2 ∷ 2 ∷ []
+unfolding evaluate
+short-example = refl
+
+-- 512 triangles and 16,384 entries pass, 513, 16,385 and 0 do not
+counts-example : countsFit 512 16384 ∷ countsFit 513 1 ∷ countsFit 0 16385 ∷ countsFit 0 0 ∷ countsFit 0 1 ∷ [] ≡ true ∷ false ∷ false ∷ false ∷ true ∷ []
+unfolding evaluate
+counts-example = refl
+
+-- 1 for a table that is one short, 2 for too few entries, 3 for entries of another table, else 6, 7, 8, 9, 0
+edits-example :
+    map (λ r. r .number)
+    (splitCall 9 (at 50000 50000) (withTable (take 3071 (filedA .table)))
+    ∷ splitCall 9 (at 50000 50000) cut
+    ∷ splitCall 9 (at 50000 50000) (withTable (set (filedA .table) 0 20000))
+    ∷ splitCall 9 (at 50000 50000) filedA
+    ∷ splitCall 0 (at 50000 50000) filedA
+    ∷ takeOutCall (at 50000 50000) filedA
+    ∷ flipCall 0 1 filedA
+    ∷ splitCall 1 (at 50000 50000) filedA
+    ∷ [])
+    ≡ 1 ∷ 2 ∷ 3 ∷ 6 ∷ 7 ∷ 8 ∷ 9 ∷ 0 ∷ []
+unfolding evaluate
+edits-example = refl
+
+-- an edit after an edit: take out what was split, and the chart is as it was
+round-example : takeOutCall (at 50000 50000) (splitCall 1 (at 50000 50000) filedA .chart) ≡ record { number = 0; value = 0; chart = filedA }
+unfolding evaluate
+round-example = refl
+
+-- readers on a chart, on one that is short, and on one whose chain is broken
+readers-example :
+    map (λ c. locateCall c (at 50000 50000)) (filedA ∷ withTable [] ∷ cut ∷ [])
+    ≡ record { number = 0; found = some 1 } ∷ record { number = 1; found = none } ∷ record { number = 2; found = none } ∷ []
+unfolding evaluate
+readers-example = refl
+
+listings-example :
+    map (λ c. listingCall c (at 60000 45000)) (filedA ∷ withTable [] ∷ cut ∷ [])
+    ≡ (0 ∷ 1 ∷ []) ∷ [] ∷ [] ∷ []
+unfolding evaluate
+listings-example = refl
+
+soundness-example :
+    map (λ c. soundCall c) (filedA ∷ withTable [] ∷ cut ∷ [])
+    ≡ record { number = 0; isSound = true } ∷ record { number = 1; isSound = false } ∷ record { number = 2; isSound = false } ∷ []
+unfolding evaluate
+soundness-example = refl
+
+areas-example :
+    map (λ c. areaCall c) (filedA ∷ withTable [] ∷ cut ∷ [])
+    ≡ record { number = 0; area = 1404425000 } ∷ record { number = 1; area = 0 } ∷ record { number = 2; area = 0 } ∷ []
+unfolding evaluate
+areas-example = refl
+
+-- the overlay writes i, j for each pair, then zeros up to 8,192, and leaves the place beyond
+overlaid-example : overlayCall filedA filedA (replicate 8193 7)
+    ≡ record { number = 0; pairCount = 2; meets = 19; pairs = 0 ∷ 0 ∷ 1 ∷ 1 ∷ replicate 8188 0 ++ (7 ∷ []) }
+unfolding evaluate
+overlaid-example = refl
+
+-- 1 is judged of every buffer before 2 of any; a refused overlay leaves the pairs
+overlaid-refused-example :
+    overlayCall cut filedA (replicate 8191 7)
+    ∷ overlayCall filedA cut (replicate 8192 7)
+    ∷ overlayCall cut filedA (replicate 8192 7)
+    ∷ overlayCall filedA (withTable []) (replicate 8192 7)
+    ∷ overlayCall (withTable []) cut (replicate 8192 7)
+    ∷ []
+    ≡ record { number = 1; pairCount = 0; meets = 0; pairs = replicate 8191 7 }
+    ∷ record { number = 2; pairCount = 0; meets = 0; pairs = replicate 8192 7 }
+    ∷ record { number = 2; pairCount = 0; meets = 0; pairs = replicate 8192 7 }
+    ∷ record { number = 1; pairCount = 0; meets = 0; pairs = replicate 8192 7 }
+    ∷ record { number = 1; pairCount = 0; meets = 0; pairs = replicate 8192 7 }
+    ∷ []
+unfolding evaluate
+overlaid-refused-example = refl
+
+-- 4,097 pairs are too many: the pairs are 8,192 zeros and the place beyond stays
+abbrev many : ℕ → Outcome Hatch
+unfolding evaluate
+many n = withinPairs (replicate n (record { i = 3; j = 5 })) 8
+
+over-example : overlaidBy (replicate 8193 7) (many 4097) ≡ record { number = 12; pairCount = 0; meets = 0; pairs = replicate 8192 0 ++ (7 ∷ []) }
+unfolding evaluate
+over-example = refl
+
+-- Command program
+
+-- document 01's own input: 1 U, 2 0, 1 V, 2 1, 7
+log-example : logOf
+    (1 ∷ 0 ∷ 0 ∷ 0 ∷ 0 ∷ 255 ∷ 255 ∷ 0 ∷ 0 ∷ 0 ∷ 0 ∷ 255 ∷ 255 ∷ 2 ∷ 0
+    ∷ 1 ∷ 255 ∷ 255 ∷ 255 ∷ 255 ∷ 0 ∷ 0 ∷ 255 ∷ 255 ∷ 255 ∷ 255 ∷ 0 ∷ 0 ∷ 2 ∷ 1 ∷ 7 ∷ [])
+    ≡ 111 ∷ 118 ∷ 101 ∷ 114 ∷ 108 ∷ 97 ∷ 121 ∷ 32 ∷ 108 ∷ 111 ∷ 103 ∷ 10 ∷ 50 ∷ 32 ∷ 48 ∷ 32 ∷ 55 ∷ 10 ∷ 50 ∷ 32 ∷ 48 ∷ 32 ∷ 52 ∷ 10 ∷ 55 ∷ 32 ∷ 48 ∷ 32 ∷ 48 ∷ 32 ∷ 55 ∷ 10 ∷ []
+unfolding evaluate
+log-example = refl
+
+-- an empty load, a refused edit, and then a byte that is no command, at offset 10
+bad-example : logOf (2 ∷ 1 ∷ 3 ∷ 0 ∷ 0 ∷ 1 ∷ 9 ∷ 0 ∷ 9 ∷ 0 ∷ 8 ∷ 7 ∷ [])
+    ≡ 111 ∷ 118 ∷ 101 ∷ 114 ∷ 108 ∷ 97 ∷ 121 ∷ 32 ∷ 108 ∷ 111 ∷ 103 ∷ 10 ∷ 50 ∷ 32 ∷ 48 ∷ 32 ∷ 49 ∷ 10 ∷ 51 ∷ 32 ∷ 54 ∷ 10 ∷ 98 ∷ 97 ∷ 100 ∷ 32 ∷ 49 ∷ 48 ∷ 10 ∷ []
+unfolding evaluate
+bad-example = refl
+
+-- a chart number above 1; a cut operand
+chart-example : logOf (2 ∷ 2 ∷ []) ++ logOf (7 ∷ 6 ∷ 1 ∷ 1 ∷ 2 ∷ 3 ∷ [])
+    ≡ 111 ∷ 118 ∷ 101 ∷ 114 ∷ 108 ∷ 97 ∷ 121 ∷ 32 ∷ 108 ∷ 111 ∷ 103 ∷ 10 ∷ 98 ∷ 97 ∷ 100 ∷ 32 ∷ 48 ∷ 10 ∷ 111 ∷ 118 ∷ 101 ∷ 114 ∷ 108 ∷ 97 ∷ 121 ∷ 32 ∷ 108 ∷ 111 ∷ 103 ∷ 10 ∷ 55 ∷ 32 ∷ 48 ∷ 32 ∷ 48 ∷ 32 ∷ 49 ∷ 10 ∷ 98 ∷ 97 ∷ 100 ∷ 32 ∷ 49 ∷ 10 ∷ []
+unfolding evaluate
+chart-example = refl
+
+-- the 512th waiting triangle is kept, a 513th is dropped
+waiting-example :
+    map (λ n. waitStep (1 ∷ 2 ∷ 3 ∷ 4 ∷ 5 ∷ 6 ∷ []) (record { chart0 = []; chart1 = []; waiting = replicate n 9 })) (3066 ∷ 3072 ∷ [])
+    ≡ record { printed = []; after = record { chart0 = []; chart1 = []; waiting = replicate 3066 9 ++ (1 ∷ 2 ∷ 3 ∷ 4 ∷ 5 ∷ 6 ∷ []) } }
+    ∷ record { printed = 49 ∷ 32 ∷ 52 ∷ 10 ∷ []; after = record { chart0 = []; chart1 = []; waiting = replicate 3072 9 } }
+    ∷ []
+unfolding evaluate
+waiting-example = refl
+
+-- chart 1 gets two triangles and chart 0 one; locate in both; the overlay's pair is 0 1
+locate-log-example : logOf (1 ∷ 64 ∷ 156 ∷ 136 ∷ 19 ∷ 200 ∷ 175 ∷ 136 ∷ 19 ∷ 96 ∷ 234 ∷ 200 ∷ 175 ∷ 1 ∷ 255 ∷ 255 ∷ 255 ∷ 255 ∷ 0 ∷ 0 ∷ 64 ∷ 156 ∷ 96 ∷ 234 ∷ 200 ∷ 175 ∷ 2 ∷ 1 ∷ 6 ∷ 1 ∷ 200 ∷ 175 ∷ 136 ∷ 19 ∷ 6 ∷ 1 ∷ 48 ∷ 117 ∷ 5 ∷ 0 ∷ 6 ∷ 0 ∷ 200 ∷ 175 ∷ 136 ∷ 19 ∷ 1 ∷ 0 ∷ 0 ∷ 96 ∷ 234 ∷ 32 ∷ 78 ∷ 0 ∷ 0 ∷ 200 ∷ 175 ∷ 32 ∷ 78 ∷ 2 ∷ 0 ∷ 7 ∷ [])
+    ≡ 111 ∷ 118 ∷ 101 ∷ 114 ∷ 108 ∷ 97 ∷ 121 ∷ 32 ∷ 108 ∷ 111 ∷ 103 ∷ 10 ∷ 50 ∷ 32 ∷ 48 ∷ 32 ∷ 50 ∷ 48 ∷ 10 ∷ 54 ∷ 32 ∷ 48 ∷ 32 ∷ 48 ∷ 10 ∷ 54 ∷ 32 ∷ 48 ∷ 32 ∷ 54 ∷ 53 ∷ 53 ∷ 51 ∷ 53 ∷ 10 ∷ 54 ∷ 32 ∷ 48 ∷ 32 ∷ 54 ∷ 53 ∷ 53 ∷ 51 ∷ 53 ∷ 10 ∷ 50 ∷ 32 ∷ 48 ∷ 32 ∷ 55 ∷ 10 ∷ 55 ∷ 32 ∷ 48 ∷ 32 ∷ 49 ∷ 32 ∷ 50 ∷ 50 ∷ 10 ∷ 48 ∷ 32 ∷ 49 ∷ 10 ∷ []
+unfolding evaluate
+locate-log-example = refl
+
+-- a faulty triangle at place 1 and, later, at place 0; a split that is refused; the chart stays as it was
+refused-log-example : logOf (1 ∷ 64 ∷ 156 ∷ 136 ∷ 19 ∷ 200 ∷ 175 ∷ 136 ∷ 19 ∷ 96 ∷ 234 ∷ 200 ∷ 175 ∷ 1 ∷ 1 ∷ 0 ∷ 1 ∷ 0 ∷ 2 ∷ 0 ∷ 2 ∷ 0 ∷ 3 ∷ 0 ∷ 3 ∷ 0 ∷ 2 ∷ 1 ∷ 1 ∷ 64 ∷ 156 ∷ 136 ∷ 19 ∷ 200 ∷ 175 ∷ 136 ∷ 19 ∷ 96 ∷ 234 ∷ 200 ∷ 175 ∷ 1 ∷ 255 ∷ 255 ∷ 255 ∷ 255 ∷ 0 ∷ 0 ∷ 64 ∷ 156 ∷ 96 ∷ 234 ∷ 200 ∷ 175 ∷ 2 ∷ 1 ∷ 1 ∷ 1 ∷ 0 ∷ 1 ∷ 0 ∷ 2 ∷ 0 ∷ 2 ∷ 0 ∷ 3 ∷ 0 ∷ 3 ∷ 0 ∷ 2 ∷ 1 ∷ 3 ∷ 1 ∷ 1 ∷ 0 ∷ 200 ∷ 175 ∷ 136 ∷ 19 ∷ 6 ∷ 1 ∷ 80 ∷ 195 ∷ 80 ∷ 195 ∷ [])
+    ≡ 111 ∷ 118 ∷ 101 ∷ 114 ∷ 108 ∷ 97 ∷ 121 ∷ 32 ∷ 108 ∷ 111 ∷ 103 ∷ 10 ∷ 50 ∷ 32 ∷ 53 ∷ 32 ∷ 49 ∷ 10 ∷ 50 ∷ 32 ∷ 48 ∷ 32 ∷ 50 ∷ 48 ∷ 10 ∷ 50 ∷ 32 ∷ 53 ∷ 32 ∷ 48 ∷ 10 ∷ 51 ∷ 32 ∷ 55 ∷ 10 ∷ 54 ∷ 32 ∷ 48 ∷ 32 ∷ 49 ∷ 10 ∷ []
+unfolding evaluate
+refused-log-example = refl
+
+-- a flip of 0 and 1, a split of triangle 1 and its take-out
+edit-log-example : logOf (1 ∷ 60 ∷ 0 ∷ 10 ∷ 0 ∷ 70 ∷ 0 ∷ 50 ∷ 0 ∷ 0 ∷ 0 ∷ 0 ∷ 0 ∷ 1 ∷ 5 ∷ 0 ∷ 40 ∷ 0 ∷ 0 ∷ 0 ∷ 0 ∷ 0 ∷ 70 ∷ 0 ∷ 50 ∷ 0 ∷ 2 ∷ 0 ∷ 5 ∷ 0 ∷ 0 ∷ 0 ∷ 1 ∷ 0 ∷ 6 ∷ 0 ∷ 1 ∷ 0 ∷ 1 ∷ 0 ∷ 3 ∷ 0 ∷ 1 ∷ 0 ∷ 10 ∷ 0 ∷ 20 ∷ 0 ∷ 4 ∷ 0 ∷ 10 ∷ 0 ∷ 20 ∷ 0 ∷ [])
+    ≡ 111 ∷ 118 ∷ 101 ∷ 114 ∷ 108 ∷ 97 ∷ 121 ∷ 32 ∷ 108 ∷ 111 ∷ 103 ∷ 10 ∷ 50 ∷ 32 ∷ 48 ∷ 32 ∷ 52 ∷ 49 ∷ 10 ∷ 53 ∷ 32 ∷ 48 ∷ 32 ∷ 52 ∷ 48 ∷ 10 ∷ 54 ∷ 32 ∷ 48 ∷ 32 ∷ 49 ∷ 10 ∷ 51 ∷ 32 ∷ 48 ∷ 32 ∷ 53 ∷ 51 ∷ 10 ∷ 52 ∷ 32 ∷ 48 ∷ 32 ∷ 52 ∷ 48 ∷ 10 ∷ []
+unfolding evaluate
+edit-log-example = refl
+
+-- an overlay with too many pairs prints two numbers
+over-log-example : hatchLines (many 4097) ≡ 55 ∷ 32 ∷ 49 ∷ 50 ∷ 10 ∷ []
+unfolding evaluate
+over-log-example = refl
+
+-- Lists of events
+
+-- refused calls leave the chart as it is
+chart-history-example : chartAfter (load numbersA ∷ split 1 (at 45000 5000) ∷ load (1 ∷ []) ∷ flip 0 1 ∷ []) dirty ≡ filedA
+unfolding evaluate
+chart-history-example = refl

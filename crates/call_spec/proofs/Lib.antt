@@ -1,0 +1,3 @@
+pub mod Evaluate
+pub mod BuffersLaws
+pub mod Examples
