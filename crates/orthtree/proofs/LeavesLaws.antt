@@ -1,7 +1,7 @@
 -- The leaves of an orthtree tile the key range of the node that they are below, in rising order.
 -- The idea: the children of a node tile its range, so tilings of the children's ranges put together tile the node's. The
--- recursion counts levels; `leaves-stopped` and `leaves-split` are the equations that a reader expects, and nothing after this
--- file looks at the count.
+-- recursion counts levels; `leaves-stopped` and `leaves-split` are the equations that a reader expects, so that no crate above need
+-- look at the count.
 -- Assumes nothing.
 use mathlib.Core.Path.{_≡_, refl}
 use mathlib.Core.Bool.{Bool, true, false}

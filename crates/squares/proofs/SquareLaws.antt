@@ -57,7 +57,7 @@ unfolding quarters topLeft topRight bottomLeft bottomRight
 quarters-level s = every-cons (refl, every-cons (refl, every-cons (refl, every-cons (refl, every-nil (λ q. q .level ≡ suc (s .level))))))
 
 module _ (s : Square) (ok : Aligned s) (l : s .level < depth) where
-  -- so are the quarters of a square that is not of the deepest level
+  -- the quarters of a square of the tree are squares of the tree, unless it is of the deepest level
   pub quarters-aligned : Every (λ q. Aligned q) (quarters s)
   unfolding quarters topLeft topRight bottomLeft bottomRight
   quarters-aligned =
