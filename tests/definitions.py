@@ -1,5 +1,5 @@
 #!/usr/bin/env python3
-"""Runs the definitions of document 01 (crates/call_spec and below) inside the proof checker on generated input and holds
+"""Runs the definitions of document 01 (crates/call_spec, crates/log_spec and below) inside the proof checker on generated input and holds
 what they compute to what the reference model (model/) answers.
 
 usage: definitions.py SEED COUNT
@@ -17,7 +17,7 @@ import sys
 ROOT = os.path.dirname(os.path.dirname(os.path.abspath(__file__)))
 MODEL = os.path.join(ROOT, "target", "model", "model")
 SCRATCH = os.path.join(ROOT, "target", "definitions")
-CRATES = ["lists", "plane", "separation", "orthtree", "squares", "chart_spec", "call_spec"]
+CRATES = ["lists", "plane", "separation", "orthtree", "squares", "chart_spec", "call_spec", "log_spec"]
 
 
 def model(mode, data):
@@ -213,8 +213,9 @@ use Rattle.chart_spec.specs.Cells.{entriesOf}
 use Rattle.chart_spec.specs.Edits.{triangle}
 use Rattle.call_spec.specs.Buffers.{Chart, padded}
 use Rattle.call_spec.specs.Calls.{Changed, Located, Soundness, Area, Overlaid, loadCall, splitCall, locateCall, listingCall, soundCall, areaCall, overlayCall}
-use Rattle.call_spec.specs.Log.{logOf}
+use Rattle.log_spec.specs.Log.{logOf}
 use Rattle.call_spec.proofs.Evaluate.{evaluate}
+use Rattle.log_spec.proofs.Evaluate.{evaluate as logging}
 use Rattle.chart_spec.proofs.MarkedCases.{at, entryNumbers, foundNumbers}
 
 abbrev buffer : ℕ → ℕ → List ℕ → List ℕ
@@ -265,7 +266,7 @@ def main():
         for k in range(count):
             given, want = kind(rng)
             name = f"{kind.__name__.replace('_case', '')}-{k}"
-            text += f"\n{name} : {given} ≡ {want}\nunfolding evaluate\n{name} = refl\n"
+            text += f"\n{name} : {given} ≡ {want}\nunfolding evaluate logging\n{name} = refl\n"
             cases += 1
     open(os.path.join(trial, "proofs", "Lib.antt"), "w").write("pub mod Cases\n")
     open(os.path.join(trial, "proofs", "Cases.antt"), "w").write(text)

@@ -1,1 +1,1 @@
-// Document 01's public calls, lists of calls and command program as definitions. No code.
+// Document 01's buffers, public calls and lists of calls as definitions. No code.

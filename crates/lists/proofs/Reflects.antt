@@ -1,7 +1,7 @@
 -- A test that computes, and the claim that it decides: `Reflects b P` says that b is true where P holds and false where it
 -- does not. It goes through "and", "or" and "not", so the test of a definition is read off part by part.
 -- Assumes nothing.
-use mathlib.Core.Path.{_≡_}
+use mathlib.Core.Path.{_≡_, refl}
 use mathlib.Core.Bool.{Bool, true, false, not, _&&_, _||_}
 use mathlib.Core.Logic.{_⊎_, inl, inr}
 use Prim.Native.Nat.{ℕ, _≤_, _<_}
@@ -79,3 +79,17 @@ refutes-or {a = false} p q = record { to = λ n. (p .to (λ t. t), q .to n); fro
 pub reflects-not : {b : Bool} {P : Type 0} → Refutes b P → Reflects (not b) P
 reflects-not {b = true} r = record { to = λ t. absurd t; from = λ h. r .from h tt }
 reflects-not {b = false} r = record { to = λ t. r .to (λ n. n); from = λ h. tt }
+
+-- the negation of what a test decides
+pub reflects-no : {b : Bool} {P : Type 0} → Reflects b P → Reflects (not b) (P → ⊥)
+reflects-no {b = true} r = record { to = λ t. absurd t; from = λ n. n (r .to tt) }
+reflects-no {b = false} r = record { to = λ t p. r .from p; from = λ n. tt }
+
+-- a test that passes is true, and one that does not is false
+pub test-true : {b : Bool} → T b → b ≡ true
+test-true {b = true} t = refl
+test-true {b = false} t = absurd t
+
+pub test-false : {b : Bool} → (T b → ⊥) → b ≡ false
+test-false {b = true} n = absurd (n tt)
+test-false {b = false} n = refl

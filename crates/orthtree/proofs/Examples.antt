@@ -7,9 +7,12 @@ use mathlib.Core.List.{List, [], _∷_, _++_, map, flatMap}
 use Prim.Native.Nat.{ℕ, _+_, _*_}
 use lib.Dec.{ltb}
 use Rattle.lists.specs.Lists.{all, any, filter, sumOf}
+use Rattle.lists.proofs.Runs.{runLength}
 use Rattle.orthtree.specs.Morton.{lowestBits, mortonKey}
 use Rattle.orthtree.specs.Leaves.{leavesBelow}
 use Rattle.orthtree.specs.Entries.{Entry, emptyMark, isMark, sameCell, cellHeads, cellHeadsAfter, span, rangeEnd, covers, overlaps, meetings, listedTogether, entryFits, follows, chainAfter, chain}
+use Rattle.orthtree.proofs.MortonChildLaws.{childCorner}
+use Rattle.orthtree.proofs.ChainBlockLaws.{endedBy, startedBy}
 
 -- 5 = 101, 3 = 011 in binary: 011011 for x = 5, y = 3; for three coordinates 1 0 0 from the highest bits, and so on
 morton-example : mortonKey 16 (5 ∷ 3 ∷ []) ∷ mortonKey 16 (3 ∷ 5 ∷ []) ∷ mortonKey 10 (5 ∷ 3 ∷ 0 ∷ []) ∷ mortonKey 10 (0 ∷ 6 ∷ 1 ∷ []) ∷ mortonKey 1 (2 ∷ 3 ∷ []) ∷ []
@@ -95,3 +98,17 @@ broken-example : map (λ es. chain 4 2 3 es)
     ≡ false ∷ false ∷ false ∷ false ∷ false ∷ false ∷ false ∷ false ∷ false ∷ false ∷ false ∷ false ∷ false ∷ false ∷ []
 unfolding chain chainAfter entryFits follows isMark emptyMark sameCell span rangeEnd
 broken-example = refl
+
+-- child 5 of a node in three dimensions moves the first and the third coordinate; its key goes up by 5 children of 8 keys
+child-example : childCorner 2 5 (4 ∷ 0 ∷ 8 ∷ []) ∷ [] ≡ (6 ∷ 0 ∷ 10 ∷ []) ∷ []
+unfolding childCorner
+child-example = refl
+
+child-key-example : mortonKey 4 (6 ∷ 0 ∷ 10 ∷ []) ≡ mortonKey 4 (4 ∷ 0 ∷ 8 ∷ []) + 5 * 8
+unfolding mortonKey lowestBits
+child-key-example = refl
+
+-- of the entries above, those of the cell that has key 6 are at places 4 and 5, and of the cell that has key 11 at place 7
+block-example : endedBy 4 2 6 filed ∷ startedBy 6 filed ∷ endedBy 4 2 11 filed ∷ startedBy 11 filed ∷ [] ≡ 4 ∷ 6 ∷ 7 ∷ 8 ∷ []
+unfolding runLength span rangeEnd
+block-example = refl

@@ -1,2 +1,16 @@
 pub mod EntriesLaws
+pub mod RangeLaws
+pub mod TilingLaws
+pub mod LeavesLaws
+pub mod BelowLaws
+pub mod LeavesUnique
+pub mod ChainLaws
+pub mod ChainTilingLaws
+pub mod ChainCellLaws
+pub mod ChainOrderLaws
+pub mod ChainBlockLaws
+pub mod ChainHeadsLaws
+pub mod MortonLaws
+pub mod MortonRangeLaws
+pub mod MortonChildLaws
 pub mod Examples

@@ -1,1 +1,4 @@
+pub mod SquareLaws
+pub mod ZOrderLaws
+pub mod SquareLeavesLaws
 pub mod Examples

@@ -1,0 +1,42 @@
+-- `filter` of joined lists, and of lists whose elements all pass or all fail.
+-- Each law is an induction on the list.
+-- Assumes nothing.
+use mathlib.Core.Path.{_≡_, refl, _∙_, ap}
+use mathlib.Core.Bool.{Bool, true, false}
+use mathlib.Core.List.{List, [], _∷_, _++_}
+use Rattle.lists.specs.Lists.{filter}
+use Rattle.lists.proofs.ListsLaws.{Every, every-uncons}
+
+module _ {A : Type 0} (f : A → Bool) where
+  -- an element that passes is kept
+  pub filter-pass : (x : A) (xs : List A) → f x ≡ true → filter f (x ∷ xs) ≡ x ∷ filter f xs
+  unfolding filter
+  filter-pass x xs e = rw (filter, e)
+
+  -- one that fails is left out
+  pub filter-fail : (x : A) (xs : List A) → f x ≡ false → filter f (x ∷ xs) ≡ filter f xs
+  unfolding filter
+  filter-fail x xs e = rw (filter, e)
+
+  choice-append : (b : Bool) (x : A) (xs ys : List A) {zs : List A} → zs ≡ xs ++ ys
+      → elim b [ true ↦ x ∷ zs | false ↦ zs ] ≡ elim b [ true ↦ x ∷ xs | false ↦ xs ] ++ ys
+  choice-append true x xs ys e = ap (λ l. x ∷ l) e
+  choice-append false x xs ys e = e
+
+  -- of two lists joined
+  pub filter-append : (xs ys : List A) → filter f (xs ++ ys) ≡ filter f xs ++ filter f ys
+  unfolding filter
+  filter-append [] ys = refl
+  filter-append (x ∷ xs) ys = choice-append (f x) x (filter f xs) (filter f ys) (filter-append xs ys)
+
+  -- where all pass
+  pub filter-all : (xs : List A) → Every (λ x. f x ≡ true) xs → filter f xs ≡ xs
+  unfolding filter
+  filter-all [] h = refl
+  filter-all (x ∷ xs) h = let g = every-uncons h in filter-pass x xs (g .0) ∙ ap (λ l. x ∷ l) (filter-all xs (g .1))
+
+  -- where all fail
+  pub filter-none : (xs : List A) → Every (λ x. f x ≡ false) xs → filter f xs ≡ []
+  unfolding filter
+  filter-none [] h = refl
+  filter-none (x ∷ xs) h = let g = every-uncons h in filter-fail x xs (g .0) ∙ filter-none xs (g .1)
