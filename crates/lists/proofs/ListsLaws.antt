@@ -9,7 +9,7 @@ use native.Mathlib.Decide.{decLe}
 use native.Mathlib.Omega.{arith}
 use native.Mathlib.Nat.{mul-zero, zero-add, add-zero}
 use lib.ListN.{length, getD, set, List·getD-append}
-use lib.Seq.{getD-append-add, sets}
+use lib.Seq.{getD-append-add, sets, length-sets}
 use Rattle.lists.specs.Lists.{all, any, countFrom, upTo}
 use Rattle.lists.proofs.Reflects.{Reflects, reflects-then, reflects-else, reflects-iff}
 
@@ -102,3 +102,7 @@ getD-stride f c e (x ∷ xs) (suc i) m d h k =
 pub sets-join : {A : Type 0} (l : List A) (i j : ℕ) (u v : List A) → j ≡ i + length u → sets (sets l i u) j v ≡ sets l i (u ++ v)
 sets-join l i j [] v e = ap (λ k. sets l k v) (e ∙ add-zero i)
 sets-join l i j (x ∷ u) v e = sets-join (set l i x) (suc i) j u v (omega arith)
+
+-- a run of stores keeps the length
+pub sets-length : {A : Type 0} {l′ : List A} (l : List A) (i : ℕ) (v : List A) → l′ ≡ sets l i v → length l′ ≡ length l
+sets-length l i v e = ap length e ∙ length-sets l i v

@@ -1,14 +1,19 @@
 -- What runs of stores leave: the numbers of a triangle, and of a table.
 -- Assumes nothing.
-use mathlib.Core.Path.{_≡_, refl, _∙_, ap}
-use mathlib.Core.List.{List, _++_}
-use Prim.Native.Nat.{ℕ, _+_}
+use mathlib.Core.Path.{_≡_, refl, sym, _∙_, ap, ap₂}
+use mathlib.Core.List.{List, [], _∷_, _++_, map, flatMap, map-append, append-nil, append-assoc}
+use Prim.Native.Nat.{ℕ, zero, suc, _+_, _*_}
+use native.Mathlib.Nat.{zero-add, add-zero}
+use native.Mathlib.Numerals.{add-one, add-two}
 use native.Mathlib.Omega.{arith}
+use lib.ListN.{length, set, length-append}
 use lib.Seq.{sets}
+use Rattle.lists.specs.Lists.{countFrom, upTo}
 use Rattle.lists.proofs.ListsLaws.{sets-join}
 use Rattle.plane.specs.declared.Point.{Point}
 use Rattle.plane.specs.Triangle.{Triangle}
-use Rattle.shapes.specs.Shape.{sideShape, boxShape, shapeOf}
+use Rattle.chart_spec.specs.Table.{triangleAt, tableOf}
+use Rattle.shapes.specs.Shape.{sideShape, boxShape, shapeOf, sideOffset, offsetsOf}
 
 -- a triangle by its corners
 abbrev pub triangle : Point → Point → Point → Triangle
@@ -28,3 +33,58 @@ put-shape l s₁ s₂ s₃ s₄ k a b c e₁ e₂ e₃ e₄ =
     ∙ sets-join s₁ (k + 8) (k + 16) (sideShape b c) (sideShape c a ++ boxShape a b c) (omega arith)
     ∙ ap (λ s. sets s (k + 8) (sideShape b c ++ (sideShape c a ++ boxShape a b c))) e₁
     ∙ sets-join l k (k + 8) (sideShape a b) (sideShape b c ++ (sideShape c a ++ boxShape a b c)) (omega arith)
+
+-- three offsets
+pub put-offsets : (l : List ℕ) (k u v w : ℕ) (a b c : Point) → u ≡ sideOffset a b → v ≡ sideOffset b c → w ≡ sideOffset c a
+    → set (set (set l k u) (k + 1) v) (k + 2) w ≡ sets l k (offsetsOf (triangle a b c))
+unfolding offsetsOf
+put-offsets l k u v w a b c e f g = cc (add-one k, add-two k)
+
+-- ---- a table's numbers, one triangle after another
+
+upTo-suc : (k n : ℕ) → countFrom k (suc n) ≡ countFrom k n ++ ((k + n) ∷ [])
+unfolding countFrom
+upTo-suc k zero = ap (λ m. m ∷ []) (sym (add-zero k))
+upTo-suc k (suc n) = ap (λ r. k ∷ r) (upTo-suc (suc k) n ∙ ap (λ m. countFrom (suc k) n ++ (m ∷ [])) (omega arith))
+
+-- one triangle more
+pub tableOf-suc : (ns : List ℕ) (n : ℕ) → tableOf ns (suc n) ≡ tableOf ns n ++ (triangleAt ns n ∷ [])
+unfolding tableOf upTo
+tableOf-suc ns n =
+    ap (map (λ i. triangleAt ns i)) (upTo-suc 0 n ∙ ap (λ m. countFrom 0 n ++ (m ∷ [])) (zero-add n))
+    ∙ map-append (λ i. triangleAt ns i) (countFrom 0 n) (n ∷ [])
+
+tableOf-empty : (ns : List ℕ) → tableOf ns 0 ≡ []
+unfolding tableOf upTo countFrom
+tableOf-empty ns = refl
+
+pub tableOf-length : (ns : List ℕ) (n : ℕ) → length (tableOf ns n) ≡ n
+tableOf-length ns zero = ap length (tableOf-empty ns)
+tableOf-length ns (suc n) = rw (tableOf-suc, length-append, tableOf-length ns n) (add-one n)
+
+module _ (f : Triangle → List ℕ) (c : ℕ) (size : (t : Triangle) → length (f t) ≡ c) where
+  flatMap-snoc : (l : List Triangle) (t : Triangle) → flatMap f (l ++ (t ∷ [])) ≡ flatMap f l ++ f t
+  unfolding flatMap
+  flatMap-snoc [] t = append-nil (f t)
+  flatMap-snoc (x ∷ xs) t = ap (λ r. f x ++ r) (flatMap-snoc xs t) ∙ sym (append-assoc (f x) (flatMap f xs) (f t))
+
+  flatMap-length : (l : List Triangle) → length (flatMap f l) ≡ c * length l
+  unfolding flatMap
+  flatMap-length [] = omega arith
+  flatMap-length (x ∷ xs) = length-append (f x) (flatMap f xs) ∙ ap₂ _+_ (size x) (flatMap-length xs) ∙ omega arith
+
+  -- storing the numbers of triangle i after those of the triangles before it
+  pub stored-next : (l l′ l″ ns : List ℕ) (i : ℕ)
+      → l′ ≡ sets l 0 (flatMap f (tableOf ns i))
+      → l″ ≡ sets l′ (c * i) (f (triangleAt ns i))
+      → l″ ≡ sets l 0 (flatMap f (tableOf ns (i + 1)))
+  stored-next l l′ l″ ns i e g =
+      g
+      ∙ ap (λ s. sets s (c * i) (f (triangleAt ns i))) e
+      ∙ sets-join l 0 (c * i) (flatMap f (tableOf ns i)) (f (triangleAt ns i)) (rw (flatMap-length, tableOf-length) (omega arith))
+      ∙ ap (sets l 0) (sym (flatMap-snoc (tableOf ns i) (triangleAt ns i)) ∙ ap (flatMap f) (sym (tableOf-suc ns i) ∙ ap (tableOf ns) (sym (add-one i))))
+
+  -- before the first triangle nothing is stored
+  pub stored-none : (l ns : List ℕ) → l ≡ sets l 0 (flatMap f (tableOf ns 0))
+  unfolding flatMap
+  stored-none l ns = rw (tableOf-empty ns) refl

@@ -98,11 +98,11 @@ pub record OnTriangle (t : Triangle) : Type 0 where
   pub b : OnGrid (t .b)
   pub c : OnGrid (t .c)
 
-shape-length : (t : Triangle) → length (shapeOf t) ≡ 28
+pub shape-length : (t : Triangle) → length (shapeOf t) ≡ 28
 unfolding shapeOf sideShape boxShape
 shape-length t = refl
 
-offsets-length : (t : Triangle) → length (offsetsOf t) ≡ 3
+pub offsets-length : (t : Triangle) → length (offsetsOf t) ≡ 3
 unfolding offsetsOf
 offsets-length t = refl
 

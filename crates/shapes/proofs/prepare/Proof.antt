@@ -1,46 +1,76 @@
+use mathlib.Core.Path.{_≡_}
+use mathlib.Core.List.{flatMap}
+use Prim.Native.Nat.{_≤_, _-_}
+use native.Mathlib.Omega.{arith}
+use lib.Seq.{sets}
+use Rattle.lists.proofs.ListsLaws.{sets-length}
+use Rattle.chart_spec.specs.Table.{tableOf}
+use Rattle.shapes.specs.Shape.{shapeOf, offsetsOf}
+use Rattle.shapes.proofs.ShapeLaws.{shape-length, offsets-length}
+use Rattle.shapes.proofs.PutLaws.{stored-none, stored-next}
 use Rattle.shapes.proofs.prepare.Statement.{statement}
 use Rattle.shapes.proofs.prepare.Tie as tie
-use Rattle.shapes.proofs.prepare.Reads as reads
-use Rattle.shapes.proofs.prepare.Lts as lts
-use Rattle.shapes.proofs.put_triangle.Reads as put-triangle-reads
 
 abbrev Inv-loop : tie.InvT-loop
-Inv-loop table n shape₀ offsets₀ i₀ shape offsets i = ?
+Inv-loop table n shape₀ offsets₀ i₀ shape offsets i =
+    (i ≤ n)
+    × ((shape ≡ sets shape₀ 0 (flatMap (λ t. shapeOf t) (tableOf table i)))
+    × (offsets ≡ sets offsets₀ 0 (flatMap (λ t. offsetsOf t) (tableOf table i))))
 
 abbrev μ-loop : tie.MeasureT-loop
-μ-loop table n shape₀ offsets₀ i₀ shape offsets i = ?
+μ-loop table n shape₀ offsets₀ i₀ shape offsets i = n - i
 
--- src/lib.rt:126:5
 loop-holds : tie.Need-loop-holds Inv-loop μ-loop
-loop-holds c = ?
+loop-holds c =
+    let a = c .before .before .before .args in (
+      omega arith,
+      (
+        stored-none (λ t. shapeOf t) 28 shape-length (a .shape .now) (a .table .now),
+        stored-none (λ t. offsetsOf t) 3 offsets-length (a .offsets .now) (a .table .now),
+      ),
+    )
 
--- src/lib.rt:127:9
 put-triangle-requires : tie.Need-put-triangle-requires Inv-loop μ-loop
-put-triangle-requires c κs = ?
+put-triangle-requires c κs =
+    let v = c .before .before .before .loop .inv in
+    let a = c .before .before .before .before .before .before .before .args in
+    let e = sets-length (a .shape .now) 0 (flatMap (λ t. shapeOf t) (tableOf (a .table .now) (c .before .before .before .loop .i))) (v .1 .0) in
+    let f = sets-length (a .offsets .now) 0 (flatMap (λ t. offsetsOf t) (tableOf (a .table .now) (c .before .before .before .loop .i))) (v .1 .1) in
+    omega arith
 
--- src/lib.rt:128:9
 add-i : tie.Need-add-i Inv-loop μ-loop
-add-i c = ?
+add-i c = omega arith
 
--- src/lib.rt:126:5
 loop-less : tie.Need-loop-less Inv-loop μ-loop
-loop-less c = ?
+loop-less c = omega arith
 
--- src/lib.rt:126:5
 loop-again : tie.Need-loop-again Inv-loop μ-loop
-loop-again c = ?
+loop-again c =
+    let a = c .before .before .before .before .before .before .before .before .before .before .before .before .args in
+    let v = c .before .before .before .before .before .before .before .before .loop .inv in
+    let p = c .before .before .before .before .put-triangle .ensures in (
+      omega arith,
+      (
+        stored-next (λ t. shapeOf t) 28 shape-length (a .shape .now) _ _ (a .table .now) (c .before .before .before .before .before .before .before .before .loop .i) (v .1 .0) (p .0),
+        stored-next (λ t. offsetsOf t) 3 offsets-length (a .offsets .now) _ _ (a .table .now) (c .before .before .before .before .before .before .before .before .loop .i) (v .1 .1) (p .1),
+      ),
+    )
 
--- src/lib.rt:120:1
 same-length : tie.Need-same-length Inv-loop μ-loop
-same-length c = ?
+same-length c =
+    let a = c .before .before .before .before .before .args in
+    sets-length (a .shape .now) 0 (flatMap (λ t. shapeOf t) (tableOf (a .table .now) (c .before .loop .i))) (c .before .loop .inv .1 .0)
 
--- src/lib.rt:120:1
 same-length-2 : tie.Need-same-length-2 Inv-loop μ-loop
-same-length-2 c = ?
+same-length-2 c =
+    let a = c .before .before .before .before .before .args in
+    sets-length (a .offsets .now) 0 (flatMap (λ t. offsetsOf t) (tableOf (a .table .now) (c .before .loop .i))) (c .before .loop .inv .1 .1)
 
--- src/lib.rt:120:1
 returns : tie.Need-returns Inv-loop μ-loop
-returns c = ?
+returns c =
+    let v = c .before .loop .inv in
+    let e : c .before .loop .i ≡ c .before .before .before .before .before .args .n = omega arith in
+    (rw e at (v .1 .0), rw e at (v .1 .1))
 
 pub prepare-spec : {M : Type 1} → statement M
 prepare-spec =

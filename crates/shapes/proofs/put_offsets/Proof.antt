@@ -1,7 +1,6 @@
-use native.Mathlib.Numerals.{add-one, add-two}
 use native.Mathlib.Omega.{arith}
 use lib.ListN.{length-set}
-use Rattle.shapes.specs.Shape.{offsetsOf}
+use Rattle.shapes.proofs.PutLaws.{put-offsets}
 use borrow.Author.Needs.{needs}
 use Rattle.shapes.proofs.put_offsets.Statement.{statement}
 use Rattle.shapes.proofs.put_offsets.Tie as tie
@@ -43,10 +42,12 @@ same-length : tie.Need-same-length
 same-length c = search needs
 
 returns : tie.Need-returns
-unfolding offsetsOf
 returns c =
-    let k = c .before .before .before .before .args .k in
-    rw (← add-one, ← add-two k, c .before .before .offset .ensures, c .before .offset2 .ensures, c .offset3 .ensures)
+    let a = c .before .before .before .before .args in
+    put-offsets (a .offsets .now) (a .k) (c .before .before .offset .result) (c .before .offset2 .result) (c .offset3 .result) (a .a) (a .b) (a .c)
+    (c .before .before .offset .ensures)
+    (c .before .offset2 .ensures)
+    (c .offset3 .ensures)
 
 pub put-offsets-spec : {M : Type 1} → statement M
 put-offsets-spec =
