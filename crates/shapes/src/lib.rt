@@ -90,7 +90,7 @@ fn put_box(shape: &mut [u16], k: usize, a: Point, b: Point, c: Point)
 }
 
 // The point at places k and k + 1 of the table.
-fn point_at(table: &[u16], k: usize) -> Point
+pub fn point_at(table: &[u16], k: usize) -> Point
     requires { ⌜ k + 2 ≤ length (now table) ⌝ }
     ensures { λ r. ⌜ r ≡ pointAt (now (table .entry)) k ⌝ }
 {
