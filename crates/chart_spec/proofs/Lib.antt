@@ -1,5 +1,6 @@
 pub mod Evaluate
 pub mod CellsLaws
 pub mod ReadingLaws
+pub mod FilingLaws
 pub mod MarkedCases
 pub mod Examples
