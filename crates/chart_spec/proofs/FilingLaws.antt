@@ -85,67 +85,49 @@ module _ (s : Square) (l : s .level < 16) where
   -- the top left quarter is a part of its square
   pub topLeft-within : Within (squareBox (topLeft s)) (squareBox s)
   unfolding squareBox topLeft
-  topLeft-within =
-      let h = side-half (s .level) l in
-      record { left = omega arith; right = omega arith; top = omega arith; bottom = omega arith; wide = omega arith; tall = omega arith }
+  topLeft-within = omega (arith, side-half (s .level) l)
 
   -- the top right quarter is a part of its square
   pub topRight-within : Within (squareBox (topRight s)) (squareBox s)
   unfolding squareBox topRight
-  topRight-within =
-      let h = side-half (s .level) l in
-      record { left = omega arith; right = omega arith; top = omega arith; bottom = omega arith; wide = omega arith; tall = omega arith }
+  topRight-within = omega (arith, side-half (s .level) l)
 
   -- the bottom left quarter is a part of its square
   pub bottomLeft-within : Within (squareBox (bottomLeft s)) (squareBox s)
   unfolding squareBox bottomLeft
-  bottomLeft-within =
-      let h = side-half (s .level) l in
-      record { left = omega arith; right = omega arith; top = omega arith; bottom = omega arith; wide = omega arith; tall = omega arith }
+  bottomLeft-within = omega (arith, side-half (s .level) l)
 
   -- the bottom right quarter is a part of its square
   pub bottomRight-within : Within (squareBox (bottomRight s)) (squareBox s)
   unfolding squareBox bottomRight
-  bottomRight-within =
-      let h = side-half (s .level) l in
-      record { left = omega arith; right = omega arith; top = omega arith; bottom = omega arith; wide = omega arith; tall = omega arith }
+  bottomRight-within = omega (arith, side-half (s .level) l)
 
   -- the quarters are parts of their square
   pub quarter-within : Every (λ q. Within (squareBox q) (squareBox s)) (quarters s)
   unfolding quarters
   quarter-within =
-      every-cons (
-        topLeft-within,
-        every-cons (
-          topRight-within,
-          every-cons (
-            bottomLeft-within,
-            every-cons (
-              bottomRight-within,
-              every-nil (λ q. Within (squareBox q) (squareBox s)),
-            ),
-          ),
-        ),
-      )
+      let none = every-nil (λ q. Within (squareBox q) (squareBox s)) in
+      every-cons (topLeft-within, every-cons (topRight-within, every-cons (bottomLeft-within, every-cons (bottomRight-within, none))))
 
 -- a square has points
 pub square-not-empty : (s : Square) → NotEmpty (squareBox s)
 unfolding squareBox
 square-not-empty s = omega arith
 
+-- where all triangles of a table have D > 0, so has each that a number below the count stands for
+pub proper-at : (table : Table) → Every (λ t. T (proper t)) table → (i : ℕ) → i < length table → T (proper (numbered table i))
+unfolding numbered
+proper-at table good i h = good _ (getD-member table i noTriangle h)
+
 module _ (table : Table) (good : Every (λ t. T (proper t)) table) (s : Square) where
   abbrev meeting : ℕ → List Side
   meeting i = filter (λ d. sideMeets d (squareBox s)) (sides (numbered table i))
-
-  proper-at : (i : ℕ) → i < length table → T (proper (numbered table i))
-  unfolding numbered
-  proper-at i h = good _ (getD-member table i noTriangle h)
 
   -- a triangle that does not meet the square has no side that does
   no-side : (i : ℕ) → i < length table → triangleMeets (numbered table i) (squareBox s) ≡ false → meeting i ≡ []
   no-side i h e =
       filter-none (λ d. sideMeets d (squareBox s)) (sides (numbered table i)) (λ d m.
-      test-false (λ t. rw e at (side-triangle-meets (numbered table i) (squareBox s) d (proper-at i h) (square-not-empty s) m t)))
+      test-false (λ t. rw e at (side-triangle-meets (numbered table i) (squareBox s) d (proper-at table good i h) (square-not-empty s) m t)))
 
   -- the sides that meet a square are sides of the triangles that meet it
   pub sides-narrow : sidesMeeting table s ≡ flatMap (λ i. filter (λ d. sideMeets d (squareBox s)) (sides (numbered table i))) (trianglesMeeting table s)
