@@ -2,6 +2,7 @@ pub mod Reflects
 pub mod ListsLaws
 pub mod EveryLaws
 pub mod FilterLaws
+pub mod FlatMapLaws
 pub mod Pointwise
 pub mod Order
 pub mod Runs
