@@ -2,14 +2,14 @@
 -- Assumes nothing.
 use mathlib.Core.Path.{_≡_, refl, sym, _∙_, ap, ap₂}
 use mathlib.Core.Bool.{Bool, true, false, cond}
-use mathlib.Core.List.{List, [], _∷_, _++_}
+use mathlib.Core.List.{List, [], _∷_, _++_, map, map-append}
 use mathlib.Core.Logic.{_≢_}
 use Prim.Native.Nat.{ℕ, zero, suc, _+_, _-_, _≤_, _<_}
 use native.Mathlib.Nat.{add-zero, sub-self, le-refl}
 use native.Mathlib.Numerals.{add-one}
 use native.Mathlib.Omega.{arith}
-use lib.ListN.{length, getD, take, drop, set, length-append, length-take, length-drop}
-use lib.Seq.{sets, take-suc, getD-drop, getD-set-other}
+use lib.ListN.{length, getD, take, drop, set, length-append, length-take, length-drop, length-map}
+use lib.Seq.{sets, take-suc, take-add, drop-drop, getD-drop, getD-set-other}
 use Rattle.lists.specs.Lists.{filter}
 use Rattle.lists.proofs.ListsLaws.{sets-join}
 use Rattle.lists.proofs.FilterLaws.{filter-append}
@@ -102,3 +102,25 @@ module _ (m : ℕ → Bool) (l : List ℕ) (f t : ℕ) (within : t ≤ length l)
             ∙ ap (sets l t) (sym e);
         end = et ∙ ap (λ x. x + length (only b i)) (n .end) ∙ rw (e, length-append) (omega arith);
       }
+
+-- a part up to t is the part up to k and the rest
+pub part-split : (f k t : ℕ) (l : List ℕ) → f ≤ k → k ≤ t → part f t l ≡ part f k l ++ part k t l
+part-split f k t l h g =
+    let e : t - f ≡ (k - f) + (t - k) = omega arith in
+    let p : f + (k - f) ≡ k = omega arith in
+    ap (λ n. take n (drop f l)) e
+    ∙ take-add (k - f) (t - k) (drop f l)
+    ∙ ap (λ r. part f k l ++ take (t - k) r) (drop-drop (k - f) f l ∙ ap (λ n. drop n l) p)
+
+-- one element more of a list that is stored with h added
+pub stored-item : (h : ℕ) (out out′ stack : List ℕ) (f k at : ℕ) → f ≤ k → k < length stack
+    → out′ ≡ sets out at (map (λ i. h + i) (part f k stack))
+    → (w : ℕ) → w ≡ getD stack k 0
+    → set out′ (at + (k - f)) (h + w) ≡ sets out at (map (λ i. h + i) (part f (k + 1) stack))
+stored-item h out out′ stack f k at lo hi e w ew =
+    ap (λ x. set x (at + (k - f)) (h + w)) e
+    ∙ sets-join out at (at + (k - f)) (map (λ i. h + i) (part f k stack)) ((h + w) ∷ [])
+    (ap (λ n. at + n) (sym (length-map (part f k stack) (λ i. h + i) ∙ part-length f k stack (omega arith))))
+    ∙ ap (λ x. sets out at (map (λ i. h + i) (part f k stack) ++ ((h + x) ∷ []))) ew
+    ∙ ap (sets out at) (sym (map-append (λ i. h + i) (part f k stack) (getD stack k 0 ∷ [])))
+    ∙ ap (λ x. sets out at (map (λ i. h + i) x)) (sym (part-snoc f k stack lo hi))

@@ -70,9 +70,9 @@ unfoldable pub addAll : List ℕ → List ℕ → List ℕ → Box → Ends → 
 addAll table s o b e [] = e
 addAll table s o b e (i ∷ is) = addAll table s o b (addTriangle table s o b e i) is
 
--- some point is still an end of every side so far
+-- some point is an end of every side so far, as when there is none
 unfoldable pub alive : Ends → Bool
-alive e = e .first || e .second
+alive e = not (e .some) || (e .first || e .second)
 
 -- the elements of a list from place f up to place t
 abbrev pub part : ℕ → ℕ → List ℕ → List ℕ

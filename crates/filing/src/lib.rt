@@ -10,6 +10,7 @@ ghost use lib.ListN.{length, getD};
 ghost use lib.Seq.{sets};
 ghost use Rattle.lists.specs.Lists.{filter};
 ghost use Rattle.plane.specs.Point.{samePoint};
+ghost use Rattle.chart_spec.specs.Cells.{orMark};
 ghost use Rattle.shapes.specs.Shape.{boxOf, InGrid, triangleMeetsAt};
 ghost use Rattle.filing.specs.Filing.{only, part, Ready, addWhen, addTriangle, addAll, noEnds, alive};
 
@@ -113,4 +114,84 @@ fn add_triangle(table: &[u16], shape: &[u16], offsets: &[u64], i: usize, f: Fram
     let bc = shapes::side_meets(shape, 28 * i + 8, offsets[3 * i + 1], f);
     let ca = shapes::side_meets(shape, 28 * i + 16, offsets[3 * i + 2], f);
     add_when(ca, add_when(bc, add_when(ab, e, a, b), b, c), c, a)
+}
+
+// Before any side.
+fn no_ends() -> Ends
+    ensures { λ r. ⌜ r ≡ noEnds ⌝ }
+{
+    let o = Point { x: 0, y: 0 };
+    Ends {
+        some: false,
+        p: o,
+        q: o,
+        first: true,
+        second: true,
+    }
+}
+
+// Some point is an end of every side so far.
+fn is_alive(e: Ends) -> bool
+    ensures { λ o. ⌜ o ≡ alive e ⌝ }
+{
+    !e.some | (e.first | e.second)
+}
+
+// Some point is an end of every side, of the candidates from `from` up to `to`, that meets the frame.
+fn common_end(
+    table: &[u16],
+    n: usize,
+    shape: &[u16],
+    offsets: &[u64],
+    stack: &[u16],
+    from: usize,
+    to: usize,
+    f: Frame,
+) -> bool
+    requires { ⌜ Ready n from to (now table) (now shape) (now offsets) (now stack) × InGrid f ⌝ }
+    ensures { λ o. ⌜ o ≡ alive (addAll (now (table .entry)) (now (shape .entry)) (now (offsets .entry)) (boxOf f) noEnds (part from to (now (stack .entry)))) ⌝ }
+{
+    let mut e = no_ends();
+    let mut k = from;
+    while k < to {
+        let i = wide(stack[k]);
+        e = add_triangle(table, shape, offsets, i, f, e);
+        if !is_alive(e) {
+            return false;
+        }
+        k += 1;
+    }
+    true
+}
+
+// One entry for each candidate from `from` up to `to`.
+fn put_items(stack: &[u16], from: usize, to: usize, head: u64, out: &mut [u64], at: usize)
+    requires { ⌜ ((from ≤ to) × (to ≤ length (now stack))) × ((at + (to - from) ≤ length (now out)) × (head ≤ 18446744073709486080)) ⌝ }
+    ensures { λ r. ⌜ now (out .exit) ≡ sets (now (out .entry)) at (map (λ i. head + i) (part from to (now (stack .entry)))) ⌝ }
+{
+    let mut k = from;
+    while k < to {
+        out[at + (k - from)] = head + deep(stack[k]);
+        k += 1;
+    }
+}
+
+fn deep(x: u16) -> u64
+    ensures { λ r. ⌜ (r ≡ x) × (r < 65536) ⌝ }
+{
+    x as u64
+}
+
+// The entries of a cell: one for each candidate, or the mark where there is none.
+fn put_cell(stack: &[u16], from: usize, to: usize, head: u64, out: &mut [u64], at: usize) -> usize
+    requires { ⌜ ((from ≤ to) × (to ≤ length (now stack))) × ((at + length (orMark (part from to (now stack))) ≤ length (now out)) × (head ≤ 18446744073709486080)) ⌝ }
+    ensures { λ r. ⌜ now (out .exit) ≡ sets (now (out .entry)) at (map (λ i. head + i) (orMark (part from to (now (stack .entry))))) ⌝ }
+    ensures { λ r. ⌜ r ≡ at + length (orMark (part from to (now (stack .entry)))) ⌝ }
+{
+    if from == to {
+        out[at] = head + 65535;
+        return at + 1;
+    }
+    put_items(stack, from, to, head, out, at);
+    at + (to - from)
 }
