@@ -1,4 +1,5 @@
 pub mod SquareLaws
 pub mod ZOrderLaws
 pub mod SquareLeavesLaws
+pub mod SideLaws
 pub mod Examples
