@@ -2,6 +2,6 @@ pub mod SquareLaws
 pub mod ZOrderLaws
 pub mod SquareLeavesLaws
 pub mod SideLaws
+pub mod Cases
 pub mod SpreadLaws
-pub mod Table
 pub mod Examples
