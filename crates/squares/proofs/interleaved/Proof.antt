@@ -1,4 +1,3 @@
-use mathlib.Core.Path.{refl}
 use Rattle.squares.proofs.SpreadLaws.{morton-weave}
 use borrow.Author.Needs.{needs}
 use Rattle.squares.proofs.interleaved.Statement.{statement}
