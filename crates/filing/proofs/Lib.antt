@@ -1,2 +1,3 @@
 pub mod EndsLaws
 pub mod StackLaws
+pub mod StopLaws

@@ -4,7 +4,7 @@ use mathlib.Core.Path.{_≡_, refl, sym, _∙_, ap, ap₂}
 use mathlib.Core.Bool.{Bool, true, false, cond}
 use mathlib.Core.List.{List, [], _∷_, _++_, map, map-append}
 use mathlib.Core.Logic.{_≢_}
-use Prim.Native.Nat.{ℕ, zero, suc, _+_, _-_, _≤_, _<_}
+use Prim.Native.Nat.{ℕ, zero, suc, _+_, _-_, _≤_, _<_, max}
 use native.Mathlib.Nat.{add-zero, sub-self, le-refl}
 use native.Mathlib.Numerals.{add-one}
 use native.Mathlib.Omega.{arith}
@@ -13,6 +13,8 @@ use lib.Seq.{sets, take-suc, take-add, drop-drop, getD-drop, getD-set-other}
 use Rattle.lists.specs.Lists.{filter}
 use Rattle.lists.proofs.ListsLaws.{sets-join}
 use Rattle.lists.proofs.FilterLaws.{filter-append}
+use Rattle.orthtree.specs.Entries.{emptyMark}
+use Rattle.chart_spec.specs.Cells.{orMark}
 use Rattle.filing.specs.Filing.{only, part}
 
 -- one element more at the end of a part
@@ -124,3 +126,26 @@ stored-item h out out′ stack f k at lo hi e w ew =
     ∙ ap (λ x. sets out at (map (λ i. h + i) (part f k stack) ++ ((h + x) ∷ []))) ew
     ∙ ap (sets out at) (sym (map-append (λ i. h + i) (part f k stack) (getD stack k 0 ∷ [])))
     ∙ ap (λ x. sets out at (map (λ i. h + i) x)) (sym (part-snoc f k stack lo hi))
+
+-- ---- the entries of a cell
+
+mark-length : (l : List ℕ) → length (orMark l) ≡ max 1 (length l)
+unfolding orMark emptyMark
+mark-length [] = refl
+mark-length (x ∷ xs) = omega arith
+
+mark-some : (l : List ℕ) → 0 < length l → orMark l ≡ l
+unfolding orMark
+mark-some [] h = absurd (omega arith)
+mark-some (x ∷ xs) h = refl
+
+module _ (f t : ℕ) (l : List ℕ) (within : t ≤ length l) where
+  pub cell-length : length (orMark (part f t l)) ≡ max 1 (t - f)
+  cell-length = mark-length (part f t l) ∙ ap (max 1) (part-length f t l within)
+
+  pub cell-empty : f ≡ t → orMark (part f t l) ≡ 65535 ∷ []
+  unfolding orMark emptyMark
+  cell-empty e = ap orMark (ap (λ n. part n t l) e ∙ part-none t l)
+
+  pub cell-items : f < t → orMark (part f t l) ≡ part f t l
+  cell-items h = mark-some (part f t l) (rw (part-length f t l within) (omega arith))

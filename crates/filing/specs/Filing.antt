@@ -3,16 +3,20 @@
 use mathlib.Core.Path.{_≡_}
 use mathlib.Core.Bool.{Bool, true, false, cond, not, _&&_, _||_}
 use mathlib.Core.List.{List, [], _∷_, map, flatMap}
-use Prim.Native.Nat.{ℕ, _+_, _*_, _-_, _≤_, _<_}
+use Prim.Native.Nat.{ℕ, _+_, _*_, _-_, _%_, _≤_, _<_}
+use lib.Dec.{T}
 use lib.ListN.{length, getD, take, drop}
+use lib.Seq.{sets}
+use Rattle.lists.specs.Lists.{all, filter}
 use Rattle.orthtree.specs.Entries.{Entry}
 use Rattle.plane.specs.declared.Point.{Point}
-use Rattle.plane.specs.Triangle.{Triangle, Side}
-use Rattle.plane.specs.Box.{Box}
+use Rattle.plane.specs.Triangle.{Side, proper}
+use Rattle.plane.specs.Box.{Box, triangleMeets}
 use Rattle.squares.specs.declared.Square.{Square}
-use Rattle.chart_spec.specs.Table.{Table, pointAt}
-use Rattle.chart_spec.specs.Cells.{isEnd, cellEntries, cellsIn}
-use Rattle.shapes.specs.Shape.{sideMeetsAt}
+use Rattle.squares.specs.Square.{sideAt, squareBox}
+use Rattle.chart_spec.specs.Table.{Table, pointAt, tableOf, numbered}
+use Rattle.chart_spec.specs.Cells.{isEnd, trianglesMeeting, cellEntries, cellsIn}
+use Rattle.shapes.specs.Shape.{sideMeetsAt, Shaped}
 use Rattle.filing.specs.declared.Ends.{Ends}
 
 -- an entry as one number: key, level and item at places 32, 16 and 0
@@ -87,3 +91,28 @@ pub record Ready (n f t : ℕ) (table shape offsets stack : List ℕ) : Type 0 w
   pub tables : 6 * n ≤ length table
   pub shapes : 28 * n ≤ length shape
   pub offs : 3 * n ≤ length offsets
+
+-- a square of the tree: its corner is a multiple of its side, and it lies in the grid
+pub record OnTree (s : Square) : Type 0 where
+  pub deep : s .level ≤ 16
+  pub across : s .x % sideAt (s .level) ≡ 0
+  pub down : s .y % sideAt (s .level) ≡ 0
+  pub right : s .x + sideAt (s .level) ≤ 65536
+  pub bottom : s .y + sideAt (s .level) ≤ 65536
+
+-- the first n triangles of the table have D > 0 and grid points for corners, and the two lists keep their numbers
+pub record Prepared (n : ℕ) (table shape offsets : List ℕ) : Type 0 where
+  pub small : (k : ℕ) → getD table k 0 < 65536
+  pub good : T (all (λ t. proper t) (tableOf table n))
+  pub shaped : Shaped (tableOf table n) shape offsets
+
+-- the triangles that meet the square are among the candidates from f up to t
+pub record Candidates (n f t : ℕ) (table stack : List ℕ) (s : Square) : Type 0 where
+  pub few : t - f ≤ n
+  pub among : filter (λ i. triangleMeets (numbered (tableOf table n) i) (squareBox s)) (part f t stack) ≡ trianglesMeeting (tableOf table n) s
+
+-- what filing a square leaves: its entries where they fit below 16,384, or 16,385; the stack is kept up to t
+pub record Filed (es : List Entry) (at r t : ℕ) (out out′ stack stack′ : List ℕ) : Type 0 where
+  pub fits : at + length es ≤ 16384 → (r ≡ at + length es) × (out′ ≡ sets out at (map (λ e. packed e) es))
+  pub over : 16384 < at + length es → r ≡ 16385
+  pub kept : take t stack′ ≡ take t stack

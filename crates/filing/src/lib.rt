@@ -3,16 +3,19 @@
 
 use plane::Point;
 use shapes::Frame;
+use squares::Square;
 ghost use mathlib.Core.Path.{_≡_};
 ghost use mathlib.Core.List.{map};
-ghost use Prim.Native.Nat.{_+_, _*_, _-_, _≤_, _<_};
+ghost use Prim.Native.Nat.{_+_, _*_, _-_, _≤_, _<_, max};
 ghost use lib.ListN.{length, getD};
 ghost use lib.Seq.{sets};
 ghost use Rattle.lists.specs.Lists.{filter};
 ghost use Rattle.plane.specs.Point.{samePoint};
-ghost use Rattle.chart_spec.specs.Cells.{orMark};
+ghost use Rattle.squares.specs.Square.{squareBox};
+ghost use Rattle.chart_spec.specs.Table.{tableOf};
+ghost use Rattle.chart_spec.specs.Cells.{stopped, trianglesMeeting, orMark};
 ghost use Rattle.shapes.specs.Shape.{boxOf, InGrid, triangleMeetsAt};
-ghost use Rattle.filing.specs.Filing.{only, part, Ready, addWhen, addTriangle, addAll, noEnds, alive};
+ghost use Rattle.filing.specs.Filing.{only, part, Ready, OnTree, Prepared, addWhen, addTriangle, addAll, noEnds, alive};
 
 // What is known of the ends of the sides seen so far: the two ends of the first, and whether each is an end of every one.
 pub struct Ends {
@@ -194,4 +197,73 @@ fn put_cell(stack: &[u16], from: usize, to: usize, head: u64, out: &mut [u64], a
     }
     put_items(stack, from, to, head, out, at);
     at + (to - from)
+}
+
+// The square with its whole border.
+fn frame_of(s: Square) -> Frame
+    requires { ⌜ OnTree s ⌝ }
+    ensures { λ f. ⌜ (boxOf f ≡ squareBox s) × InGrid f ⌝ }
+{
+    let side = s.side();
+    let right = s.x + side;
+    let bottom = s.y + side;
+    Frame {
+        left: s.x as u64,
+        top: s.y as u64,
+        right: right as u64,
+        bottom: bottom as u64,
+    }
+}
+
+// Level 16, or some point is an end of every side that meets the square, whose triangles stand from `from` up to `to`.
+fn is_stopped(
+    table: &[u16],
+    n: usize,
+    shape: &[u16],
+    offsets: &[u64],
+    stack: &[u16],
+    from: usize,
+    to: usize,
+    s: Square,
+    f: Frame,
+) -> bool
+    requires { ⌜ Ready n from to (now table) (now shape) (now offsets) (now stack) × (Prepared n (now table) (now shape) (now offsets) × (OnTree s × ((boxOf f ≡ squareBox s) × InGrid f))) ⌝ }
+    requires { ⌜ part from to (now stack) ≡ trianglesMeeting (tableOf (now table) n) s ⌝ }
+    ensures { λ o. ⌜ o ≡ stopped (tableOf (now (table .entry)) n) s ⌝ }
+{
+    if s.level == 16 {
+        return true;
+    }
+    common_end(table, n, shape, offsets, stack, from, to, f)
+}
+
+// How many entries a cell has whose triangles stand from `from` up to `to`.
+fn entry_count(from: usize, to: usize) -> usize
+    requires { ⌜ from ≤ to ⌝ }
+    ensures { λ r. ⌜ r ≡ max 1 (to - from) ⌝ }
+{
+    if from == to {
+        return 1;
+    }
+    to - from
+}
+
+// The entries of a cell whose triangles stand from `from` up to `to`, or 16385 where they do not fit below 16384.
+fn put_leaf(stack: &[u16], from: usize, to: usize, head: u64, out: &mut [u64], at: usize) -> usize
+    requires { ⌜ ((from ≤ to) × (to ≤ length (now stack))) × ((16384 ≤ length (now out)) × ((at ≤ 16384) × (head ≤ 18446744073709486080))) ⌝ }
+    ensures { λ r. ⌜ (at + length (orMark (part from to (now (stack .entry)))) ≤ 16384 → (r ≡ at + length (orMark (part from to (now (stack .entry))))) × (now (out .exit) ≡ sets (now (out .entry)) at (map (λ i. head + i) (orMark (part from to (now (stack .entry))))))) ⌝ }
+    ensures { λ r. ⌜ (16384 < at + length (orMark (part from to (now (stack .entry)))) → r ≡ 16385) ⌝ }
+{
+    if 16384 - at < entry_count(from, to) {
+        return 16385;
+    }
+    put_cell(stack, from, to, head, out, at)
+}
+
+// Key and level at their places of a packed entry.
+fn head_of(key: u64, level: u32) -> u64
+    requires { ⌜ (key < 4294967296) × (level ≤ 16) ⌝ }
+    ensures { λ r. ⌜ (r ≡ key * 4294967296 + level * 65536) × (r ≤ 18446744073709486080) ⌝ }
+{
+    key * 4294967296 + (level as u64) * 65536
 }
