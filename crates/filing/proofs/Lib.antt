@@ -1,3 +1,5 @@
 pub mod EndsLaws
 pub mod StackLaws
 pub mod StopLaws
+pub mod WalkLaws
+pub mod SquareWalk

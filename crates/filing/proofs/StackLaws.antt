@@ -48,7 +48,7 @@ module _ (m : ℕ → Bool) where
       go true = refl
       go false = refl
 
-  filter-length : (l : List ℕ) → length (filter m l) ≤ length l
+  pub filter-length : (l : List ℕ) → length (filter m l) ≤ length l
   unfolding filter
   filter-length [] = le-refl 0
   filter-length (x ∷ xs) = go (m x) (filter-length xs)

@@ -147,7 +147,7 @@ pub framed : (s : Square) → OnTree s → Framed (squareBox s)
 unfolding squareBox
 framed s p = record { wide = omega arith; tall = omega arith; right = p .right; bottom = p .bottom }
 
-meeting-below : (table : Table) (s : Square) → Every (λ i. i < length table) (trianglesMeeting table s)
+pub meeting-below : (table : Table) (s : Square) → Every (λ i. i < length table) (trianglesMeeting table s)
 meeting-below table s i m = rising-members (meeting-rising table s) i m .1
 
 module _ (n : ℕ) (ns sh o : List ℕ) (h : Prepared n ns sh o) (s : Square) where

@@ -116,3 +116,6 @@ pub record Filed (es : List Entry) (at r t : ℕ) (out out′ stack stack′ : L
   pub fits : at + length es ≤ 16384 → (r ≡ at + length es) × (out′ ≡ sets out at (map (λ e. packed e) es))
   pub over : 16384 < at + length es → r ≡ 16385
   pub kept : take t stack′ ≡ take t stack
+  pub outs : length out′ ≡ length out
+  pub stacks : length stack′ ≡ length stack
+  pub end : r ≤ 16385

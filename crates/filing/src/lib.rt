@@ -6,12 +6,13 @@ use shapes::Frame;
 use squares::Square;
 ghost use mathlib.Core.Path.{_≡_};
 ghost use mathlib.Core.List.{map};
-ghost use Prim.Native.Nat.{_+_, _*_, _-_, _≤_, _<_, max};
+ghost use Prim.Native.Nat.{suc, _+_, _*_, _-_, _≤_, _<_, max};
 ghost use lib.ListN.{length, getD};
 ghost use lib.Seq.{sets};
 ghost use Rattle.lists.specs.Lists.{filter};
 ghost use Rattle.plane.specs.Point.{samePoint};
-ghost use Rattle.squares.specs.Square.{squareBox};
+ghost use Rattle.orthtree.specs.Entries.{span};
+ghost use Rattle.squares.specs.Square.{squareBox, quarters};
 ghost use Rattle.chart_spec.specs.Table.{tableOf};
 ghost use Rattle.chart_spec.specs.Cells.{stopped, trianglesMeeting, orMark};
 ghost use Rattle.shapes.specs.Shape.{boxOf, InGrid, triangleMeetsAt};
@@ -266,4 +267,30 @@ fn head_of(key: u64, level: u32) -> u64
     ensures { λ r. ⌜ (r ≡ key * 4294967296 + level * 65536) × (r ≤ 18446744073709486080) ⌝ }
 {
     key * 4294967296 + (level as u64) * 65536
+}
+
+// Quarter k of a square, in their order.
+fn quarter(s: Square, k: u32) -> Square
+    requires { ⌜ (k < 4) × ((s .level < 16) × ((s .x ≤ 65536) × (s .y ≤ 65536))) ⌝ }
+    ensures { λ q. ⌜ q ≡ getD (quarters s) k s ⌝ }
+{
+    if k == 0 {
+        return s.top_left();
+    }
+    if k == 1 {
+        return s.top_right();
+    }
+    if k == 2 {
+        return s.bottom_left();
+    }
+    s.bottom_right()
+}
+
+// How many keys a quarter of a square of this level covers: 4^(15 - level).
+fn key_step(level: u32) -> u64
+    requires { ⌜ level < 16 ⌝ }
+    ensures { λ r. ⌜ (r ≡ span 4 16 (suc level)) × (r ≤ 1073741824) ⌝ }
+{
+    let side = 32768u64 >> level;
+    side * side
 }
