@@ -12,11 +12,11 @@ ghost use lib.Seq.{sets};
 ghost use Rattle.lists.specs.Lists.{filter};
 ghost use Rattle.plane.specs.Point.{samePoint};
 ghost use Rattle.orthtree.specs.Entries.{span};
-ghost use Rattle.squares.specs.Square.{squareBox, quarters};
+ghost use Rattle.squares.specs.Square.{squareBox, squareKey, quarters};
 ghost use Rattle.chart_spec.specs.Table.{tableOf};
 ghost use Rattle.chart_spec.specs.Cells.{stopped, trianglesMeeting, orMark};
 ghost use Rattle.shapes.specs.Shape.{boxOf, InGrid, triangleMeetsAt};
-ghost use Rattle.filing.specs.Filing.{only, part, Ready, OnTree, Prepared, addWhen, addTriangle, addAll, noEnds, alive};
+ghost use Rattle.filing.specs.Filing.{only, part, Ready, OnTree, Prepared, Candidates, Filed, entriesIn, addWhen, addTriangle, addAll, noEnds, alive};
 
 // What is known of the ends of the sides seen so far: the two ends of the first, and whether each is an end of every one.
 pub struct Ends {
@@ -293,4 +293,53 @@ fn key_step(level: u32) -> u64
 {
     let side = 32768u64 >> level;
     side * side
+}
+
+// Files a square: its entries from `at` on, or 16385 where they do not fit below 16384. Its triangles are among the
+// candidates from `from` up to `to` of the stack.
+fn file_square(
+    table: &[u16],
+    n: usize,
+    shape: &[u16],
+    offsets: &[u64],
+    stack: &mut [u16],
+    from: usize,
+    to: usize,
+    s: Square,
+    key: u64,
+    out: &mut [u64],
+    at: usize,
+) -> usize
+    requires { ⌜ Ready n from to (now table) (now shape) (now offsets) (now stack) × (Prepared n (now table) (now shape) (now offsets) × (Candidates n from to (now table) (now stack) s × OnTree s)) ⌝ }
+    requires { ⌜ (key ≡ squareKey s) × ((to + (17 - s .level) * n ≤ length (now stack)) × ((16384 ≤ length (now out)) × (at ≤ 16385))) ⌝ }
+    ensures { λ r. ⌜ Filed (entriesIn (tableOf (now (table .entry)) n) s) at r to (now (out .entry)) (now (out .exit)) (now (stack .entry)) (now (stack .exit)) ⌝ }
+{
+    if 16384 < at {
+        return 16385;
+    }
+    let f = frame_of(s);
+    let top = narrow(table, n, shape, offsets, stack, from, to, f);
+    if is_stopped(table, n, shape, offsets, stack, to, top, s, f) {
+        return put_leaf(stack, to, top, head_of(key, s.level), out, at);
+    }
+    let step = key_step(s.level);
+    let mut first = key;
+    let mut next = at;
+    for k in 0..4u32 {
+        next = file_square(
+            table,
+            n,
+            shape,
+            offsets,
+            stack,
+            to,
+            top,
+            quarter(s, k),
+            first,
+            out,
+            next,
+        );
+        first += step;
+    }
+    next
 }
