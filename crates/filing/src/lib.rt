@@ -9,14 +9,15 @@ ghost use mathlib.Core.List.{map};
 ghost use Prim.Native.Nat.{suc, _+_, _*_, _-_, _≤_, _<_, max};
 ghost use lib.ListN.{length, getD};
 ghost use lib.Seq.{sets};
-ghost use Rattle.lists.specs.Lists.{filter};
+ghost use Rattle.lists.specs.Lists.{all, filter, upTo};
 ghost use Rattle.plane.specs.Point.{samePoint};
+ghost use Rattle.plane.specs.Triangle.{proper};
 ghost use Rattle.orthtree.specs.Entries.{span};
 ghost use Rattle.squares.specs.Square.{squareBox, squareKey, quarters};
 ghost use Rattle.chart_spec.specs.Table.{tableOf};
-ghost use Rattle.chart_spec.specs.Cells.{stopped, trianglesMeeting, orMark};
+ghost use Rattle.chart_spec.specs.Cells.{stopped, trianglesMeeting, orMark, entriesOf};
 ghost use Rattle.shapes.specs.Shape.{boxOf, InGrid, triangleMeetsAt};
-ghost use Rattle.filing.specs.Filing.{only, part, Ready, OnTree, Prepared, Candidates, Filed, entriesIn, addWhen, addTriangle, addAll, noEnds, alive};
+ghost use Rattle.filing.specs.Filing.{only, part, Ready, OnTree, Prepared, Candidates, Filed, entriesIn, packed, addWhen, addTriangle, addAll, noEnds, alive};
 
 // What is known of the ends of the sides seen so far: the two ends of the first, and whether each is an end of every one.
 pub struct Ends {
@@ -342,4 +343,47 @@ fn file_square(
         first += step;
     }
     next
+}
+
+// The numbers from 0 up to n.
+fn put_numbers(stack: &mut [u16], n: usize)
+    requires { ⌜ (n ≤ length (now stack)) × (n ≤ 512) ⌝ }
+    ensures { λ r. ⌜ now (stack .exit) ≡ sets (now (stack .entry)) 0 (upTo n) ⌝ }
+{
+    let mut i = 0;
+    while i < n {
+        stack[i] = i as u16;
+        i += 1;
+    }
+}
+
+// The entries of a table, packed, from place 0 on, or 16385 where they are more than 16384.
+pub fn file(
+    table: &[u16],
+    n: usize,
+    shape: &mut [u16],
+    offsets: &mut [u64],
+    stack: &mut [u16],
+    out: &mut [u64],
+) -> usize
+    requires { ⌜ ((n ≤ 512) × (6 * n ≤ length (now table))) × (all (λ t. proper t) (tableOf (now table) n) ≡ true) ⌝ }
+    requires { ⌜ ((28 * n ≤ length (now shape)) × (3 * n ≤ length (now offsets))) × ((18 * n ≤ length (now stack)) × (16384 ≤ length (now out))) ⌝ }
+    ensures { λ r. ⌜ (length (entriesOf (tableOf (now (table .entry)) n)) ≤ 16384 → (r ≡ length (entriesOf (tableOf (now (table .entry)) n))) × (now (out .exit) ≡ sets (now (out .entry)) 0 (map (λ e. packed e) (entriesOf (tableOf (now (table .entry)) n))))) ⌝ }
+    ensures { λ r. ⌜ (16384 < length (entriesOf (tableOf (now (table .entry)) n)) → r ≡ 16385) ⌝ }
+{
+    shapes::prepare(table, n, shape, offsets);
+    put_numbers(stack, n);
+    file_square(
+        table,
+        n,
+        shape,
+        offsets,
+        stack,
+        0,
+        n,
+        Square::whole(),
+        0,
+        out,
+        0,
+    )
 }
