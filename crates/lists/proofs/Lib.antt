@@ -1,3 +1,4 @@
 pub mod Reflects
 pub mod ListsLaws
+pub mod IndexLaws
 pub mod Examples
