@@ -5,6 +5,7 @@ use mathlib.Core.Bool.{Bool, true, false, _&&_}
 use mathlib.Core.List.{List, [], _∷_, _++_, map}
 use Prim.Native.Nat.{ℕ, zero, suc, _+_, _<_}
 use native.Mathlib.Nat.{add-zero, add-suc, suc-add, zero-add}
+use native.Mathlib.Numerals.{add-one}
 use lib.Dec.{T}
 use Rattle.lists.specs.Lists.{all, countFrom, upTo}
 use Rattle.lists.proofs.Reflects.{Reflects, reflects-test, reflects-iff}
@@ -70,6 +71,10 @@ all-one f n = then-and (f n) true ∙ and-true (f n)
 pub all-below-more : (f : ℕ → Bool) (n : ℕ) → all f (upTo (suc n)) ≡ all f (upTo n) && f n
 all-below-more f n =
     ap (all f) (upTo-suc n) ∙ all-append f (upTo n) (n ∷ []) ∙ ap (λ b. all f (upTo n) && b) (all-one f n)
+
+-- one turn of a loop that joins its tests by "and"
+pub all-below-step : (f : ℕ → Bool) (i : ℕ) {a b : Bool} → a ≡ all f (upTo i) → b ≡ f i → a && b ≡ all f (upTo (i + 1))
+all-below-step f i p q = ap₂ _&&_ p q ∙ sym (all-below-more f i) ∙ ap (λ n. all f (upTo n)) (sym (add-one i))
 
 -- it is the claim that the test passes at every number below the bound
 pub all-below-reflects : (f : ℕ → Bool) (n : ℕ) → Reflects (all f (upTo n)) ((i : ℕ) → i < n → T (f i))

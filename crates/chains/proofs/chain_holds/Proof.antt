@@ -1,0 +1,134 @@
+use borrow.Author.Needs.{needs}
+use Rattle.chains.proofs.chain_holds.Statement.{statement}
+use Rattle.chains.proofs.chain_holds.Tie as tie
+use Rattle.chains.proofs.chain_holds.Reads as reads
+use Rattle.chains.proofs.chain_holds.Lts as lts
+use Rattle.chains.proofs.count_for_all.Reads as count-for-all-reads
+use Rattle.chains.proofs.ends_tree.Reads as ends-tree-reads
+use Rattle.chains.proofs.faults.Reads as faults-reads
+use Rattle.chains.proofs.levels_fit.Reads as levels-fit-reads
+
+-- src/lib.rt:163:9
+returns : tie.Need-returns
+returns c = ?
+
+-- src/lib.rt:165:9
+levels-fit-requires : tie.Need-levels-fit-requires
+levels-fit-requires c κs = search needs
+
+-- src/lib.rt:166:9
+returns-2 : tie.Need-returns-2
+returns-2 c = ?
+
+-- src/lib.rt:168:16
+sub-last : tie.Need-sub-last
+sub-last c = search needs
+
+-- src/lib.rt:169:16
+count-for-all-requires : tie.Need-count-for-all-requires
+count-for-all-requires c κs = search needs
+
+-- src/lib.rt:169:16
+cast-most : tie.Need-cast-most
+cast-most c = search needs
+
+-- src/lib.rt:170:45
+sub-faults : tie.Need-sub-faults
+sub-faults c = search needs
+
+-- src/lib.rt:170:45
+part-faults-start : tie.Need-part-faults-start
+part-faults-start c = search needs
+
+-- src/lib.rt:170:45
+part-faults-end : tie.Need-part-faults-end
+part-faults-end c = search needs
+
+-- src/lib.rt:170:58
+sub-faults-2 : tie.Need-sub-faults-2
+sub-faults-2 c = search needs
+
+-- src/lib.rt:170:58
+part-faults-start-2 : tie.Need-part-faults-start-2
+part-faults-start-2 c = search needs
+
+-- src/lib.rt:170:58
+part-faults-end-2 : tie.Need-part-faults-end-2
+part-faults-end-2 c = search needs
+
+-- src/lib.rt:170:73
+sub-faults-3 : tie.Need-sub-faults-3
+sub-faults-3 c = search needs
+
+-- src/lib.rt:170:73
+part-faults-start-3 : tie.Need-part-faults-start-3
+part-faults-start-3 c = search needs
+
+-- src/lib.rt:170:73
+part-faults-end-3 : tie.Need-part-faults-end-3
+part-faults-end-3 c = search needs
+
+-- src/lib.rt:170:9
+faults-requires : tie.Need-faults-requires
+faults-requires c κs = ?
+
+-- src/lib.rt:171:6
+shared-slice-read-result : tie.Need-shared-slice-read-result
+shared-slice-read-result c = search needs
+
+-- src/lib.rt:171:65
+mul-ends-tree : tie.Need-mul-ends-tree
+mul-ends-tree c = search needs
+
+-- src/lib.rt:171:65
+shared-slice-read-ends-tree : tie.Need-shared-slice-read-ends-tree
+shared-slice-read-ends-tree c = search needs
+
+-- src/lib.rt:171:77
+shared-slice-read-ends-tree-2 : tie.Need-shared-slice-read-ends-tree-2
+shared-slice-read-ends-tree-2 c = search needs
+
+-- src/lib.rt:171:91
+mul-ends-tree-2 : tie.Need-mul-ends-tree-2
+mul-ends-tree-2 c = search needs
+
+-- src/lib.rt:171:91
+shared-slice-read-ends-tree-3 : tie.Need-shared-slice-read-ends-tree-3
+shared-slice-read-ends-tree-3 c = search needs
+
+-- src/lib.rt:171:55
+ends-tree-requires : tie.Need-ends-tree-requires
+ends-tree-requires c κs = ?
+
+-- src/lib.rt:158:1
+returns-3 : tie.Need-returns-3
+returns-3 c = ?
+
+pub chain-holds-spec : {M : Type 1} → statement M
+chain-holds-spec =
+    tie.close
+    (tie.spec
+    returns
+    levels-fit-requires
+    returns-2
+    sub-last
+    count-for-all-requires
+    cast-most
+    sub-faults
+    part-faults-start
+    part-faults-end
+    sub-faults-2
+    part-faults-start-2
+    part-faults-end-2
+    sub-faults-3
+    part-faults-start-3
+    part-faults-end-3
+    faults-requires
+    shared-slice-read-result
+    mul-ends-tree
+    shared-slice-read-ends-tree
+    shared-slice-read-ends-tree-2
+    mul-ends-tree-2
+    shared-slice-read-ends-tree-3
+    ends-tree-requires
+    returns-3)
