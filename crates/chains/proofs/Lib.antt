@@ -1,3 +1,5 @@
 pub mod TestLaws
 pub mod MaskLaws
 pub mod LinkLaws
+pub mod ChainLaws
+pub mod PartLaws

@@ -3,8 +3,8 @@
 use mathlib.Core.Path.{_≡_, refl, sym, ap, ap₂, _∙_}
 use mathlib.Core.Bool.{Bool, true, false, _&&_}
 use mathlib.Core.List.{List, [], _∷_, _++_, map}
-use Prim.Native.Nat.{ℕ, zero, suc, _+_, _<_}
-use native.Mathlib.Nat.{add-zero, add-suc, suc-add, zero-add}
+use Prim.Native.Nat.{ℕ, zero, suc, _+_, _≤_, _<_}
+use native.Mathlib.Nat.{add-zero, add-suc, suc-add, zero-add, lt-of-lt-of-le}
 use native.Mathlib.Numerals.{add-one}
 use lib.Dec.{T}
 use Rattle.lists.specs.Lists.{all, countFrom, upTo}
@@ -84,3 +84,9 @@ all-below-reflects f n =
 
 pub all-below-at : (f : ℕ → Bool) {n : ℕ} → all f (upTo n) ≡ true → {i : ℕ} → i < n → T (f i)
 all-below-at f {n} e {i} l = all-below-reflects f n .to (rw e tt) i l
+
+-- a lower bound asks less
+pub all-below-fewer : (f : ℕ → Bool) {m n : ℕ} → m ≤ n → all f (upTo n) ≡ true → all f (upTo m) ≡ true
+all-below-fewer f {m} {n} h e =
+    reflects-same (all-below-reflects f m)
+    (record { to = λ t i l. all-below-at f e (lt-of-lt-of-le l h); from = λ g. tt })

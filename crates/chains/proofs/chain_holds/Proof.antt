@@ -1,3 +1,14 @@
+use mathlib.Core.Path.{_≡_, sym, _∙_}
+use Prim.Native.Nat.{_≤_, _-_}
+use native.Mathlib.Omega.{arith}
+use borrow.Author.Tests.{not-true, not-false}
+use lib.Dec.{leb, leb→le}
+use lib.ListN.{getD, length-take, length-drop}
+use Rattle.lists.proofs.IndexLaws.{all-below-at, all-below-fewer}
+use Rattle.squares.specs.Square.{depth}
+use Rattle.call_spec.specs.Buffers.{zipEntries}
+use Rattle.chains.specs.Links.{entryAt}
+use Rattle.chains.proofs.PartLaws.{chain-none, chain-stopped, chain-joined}
 use borrow.Author.Needs.{needs}
 use Rattle.chains.proofs.chain_holds.Statement.{statement}
 use Rattle.chains.proofs.chain_holds.Tie as tie
@@ -10,7 +21,9 @@ use Rattle.chains.proofs.levels_fit.Reads as levels-fit-reads
 
 -- src/lib.rt:163:9
 returns : tie.Need-returns
-returns c = ?
+returns c =
+    let a = c .before .before .before .before .args in
+    chain-none (a .count) (zipEntries (a .keys .now) (a .levels .now) (a .items .now)) (c .if1 .taken)
 
 -- src/lib.rt:165:9
 levels-fit-requires : tie.Need-levels-fit-requires
@@ -18,7 +31,12 @@ levels-fit-requires c κs = search needs
 
 -- src/lib.rt:166:9
 returns-2 : tie.Need-returns-2
-returns-2 c = ?
+returns-2 c =
+    let top = c .before .before .before .before .before .before in
+    let a = top .args in
+    let fit = c .before .levels-fit in
+    chain-stopped (a .count) (a .keys .now) (a .levels .now) (a .items .now) (a .n) (a .n - 1) (omega arith) (top .pre .0) (top .pre .1 .0) (top .pre .1 .1)
+    (sym (fit .ensures) ∙ not-true (fit .result) (c .if2 .taken))
 
 -- src/lib.rt:168:16
 sub-last : tie.Need-sub-last
@@ -70,7 +88,14 @@ part-faults-end-3 c = search needs
 
 -- src/lib.rt:170:9
 faults-requires : tie.Need-faults-requires
-faults-requires c κs = ?
+faults-requires c κs =
+    let top = c .before .before .before .before .before .before .before .before .before .before in
+    let levels = top .args .levels .now in
+    let fit = c .before .before .before .before .before .levels-fit in (
+      omega arith,
+      (simp (length-take, length-drop) (omega arith),
+      all-below-fewer (λ i. leb (getD levels i 0) depth) (omega arith) (sym (fit .ensures) ∙ not-false (fit .result) (c .before .before .before .before .if2 .left))),
+    )
 
 -- src/lib.rt:171:6
 shared-slice-read-result : tie.Need-shared-slice-read-result
@@ -98,11 +123,23 @@ shared-slice-read-ends-tree-3 c = search needs
 
 -- src/lib.rt:171:55
 ends-tree-requires : tie.Need-ends-tree-requires
-ends-tree-requires c κs = ?
+ends-tree-requires c κs =
+    let top = c .before .before .before .before .before .before .before .before .before .before .before .before .before .before .before in
+    let levels = top .args .levels .now in
+    let fit = c .before .before .before .before .before .before .before .before .before .before .levels-fit in
+    leb→le (getD levels (top .args .n - 1) 0) depth
+    (all-below-at (λ i. leb (getD levels i 0) depth) (sym (fit .ensures) ∙ not-false (fit .result) (c .before .before .before .before .before .before .before .before .before .if2 .left)) (omega arith))
 
 -- src/lib.rt:158:1
 returns-3 : tie.Need-returns-3
-returns-3 c = ?
+unfolding entryAt
+returns-3 c =
+    let top = c .before .before .before .before .before .before .before .before .before .before .before .before .before .before .before .before in
+    let a = top .args in
+    let fit = c .before .before .before .before .before .before .before .before .before .before .before .levels-fit in
+    chain-joined (a .count) (a .keys .now) (a .levels .now) (a .items .now) (a .n) (a .n - 1) (omega arith) (top .pre .0) (top .pre .1 .0) (top .pre .1 .1)
+    (sym (fit .ensures) ∙ not-false (fit .result) (c .before .before .before .before .before .before .before .before .before .before .if2 .left))
+    (c .before .before .before .before .before .before .before .before .before .count-for-all .ensures (a .count)) (c .before .before .before .before .before .faults .ensures) (c .ends-tree .ensures)
 
 pub chain-holds-spec : {M : Type 1} → statement M
 chain-holds-spec =
