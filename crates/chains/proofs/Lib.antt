@@ -3,3 +3,4 @@ pub mod MaskLaws
 pub mod LinkLaws
 pub mod ChainLaws
 pub mod PartLaws
+pub mod BufferLaws

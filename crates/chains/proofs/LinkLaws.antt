@@ -22,9 +22,9 @@ unfolding linked aligned follows sameCell isMark emptyMark rangeEnd
 fault-linked k l t k′ l′ t′ m u g h small e eu eg =
     or-zero (bitAnd k m) u ∙ ap (λ b. eqb b 0 && eqb u 0) (and-span k l m h e)
     ∙ and-then (eqb (k % span arity depth l) 0) (λ a.
-      eu ∙ ap₂ _||_ (and-skip (eqb k k′ && eqb l l′ && ltb t t′) (not (eqb t 65535)) (not (eqb t′ 65535)) (λ p.
-        no-mark t t′ small (and-second (eqb k k′ && eqb l l′) (ltb t t′) p)))
-      (eg ∙ ap (eqb k′) (or-span k m (span arity depth l) (and-span k l m h e ∙ eqb-true (k % span arity depth l) 0 a) e)))
+    eu ∙ ap₂ _||_ (and-skip (eqb k k′ && eqb l l′ && ltb t t′) (not (eqb t 65535)) (not (eqb t′ 65535)) (λ p.
+    no-mark t t′ small (and-second (eqb k k′ && eqb l l′) (ltb t t′) p)))
+    (eg ∙ ap (eqb k′) (or-span k m (span arity depth l) (and-span k l m h e ∙ eqb-true (k % span arity depth l) 0 a) e)))
 
 -- the key and the mask add up to one less than 2^32
 pub last-ends : (k l t m : ℕ) → l ≤ depth → m + 1 ≡ span arity depth l

@@ -71,6 +71,7 @@ or-zero a b =
   where
     to : (a ≡ 0) × (b ≡ 0) → bitOr a b ≡ 0
     to p = omega (arith, or-add-and a b)
+
     from : bitOr a b ≡ 0 → (a ≡ 0) × (b ≡ 0)
     from e = (omega (arith, or-add-and a b, and-le-l a b, and-le-r a b), omega (arith, or-add-and a b, and-le-l a b, and-le-r a b))
 
@@ -80,5 +81,6 @@ xor-zero a b = eqb-same (bitXor a b) 0 a b to from
   where
     to : bitXor a b ≡ 0 → a ≡ b
     to e = omega (arith, xor-add-and a b, and-le-l a b, and-le-r a b)
+
     from : a ≡ b → bitXor a b ≡ 0
     from e = ap (bitXor a) (sym e) ∙ xor-self a

@@ -20,7 +20,10 @@ fn point(table: &[u16], k: usize) -> Point
     requires { ⌜ k + 2 ≤ length (now table) ⌝ }
     ensures { λ p. ⌜ p ≡ pointAt (now (table .entry)) k ⌝ }
 {
-    Point { x: table[k], y: table[k + 1] }
+    Point {
+        x: table[k],
+        y: table[k + 1],
+    }
 }
 
 // Triangle i of a list of numbers.
@@ -109,7 +112,11 @@ fn ends_tree(key: u32, level: u8, item: u16) -> bool
 fn gap(last: u32, next: u32) -> u32
     ensures { λ r. ⌜ eqb r 0 ≡ eqb next (last + 1) ⌝ }
 {
-    if next == 0 { 4294967295 } else { (next - 1) ^ last }
+    if next == 0 {
+        4294967295
+    } else {
+        (next - 1) ^ last
+    }
 }
 
 // x, or 0 where b holds.
@@ -125,7 +132,10 @@ fn fault(key: u32, level: u8, item: u16, next_key: u32, next_level: u8, next_ite
     ensures { λ r. ⌜ eqb r 0 ≡ linked (entry key level item) (entry «next_key» «next_level» «next_item») ⌝ }
 {
     let m = low_bits(level);
-    let again = (key == next_key) & (level == next_level) & (item < next_item) & (next_item != 65535);
+    let again = (key == next_key)
+        & (level == next_level)
+        & (item < next_item)
+        & (next_item != 65535);
     (key & m) | unless(again, gap(key | m, next_key))
 }
 
@@ -148,7 +158,14 @@ fn faults<'a, 'b, 'c, 'd, 'e, 'f>(
     let mut i = 0;
     while i < n {
         found = found
-            | fault(keys[i], levels[i], items[i], next_keys[i], next_levels[i], next_items[i]);
+            | fault(
+                keys[i],
+                levels[i],
+                items[i],
+                next_keys[i],
+                next_levels[i],
+                next_items[i],
+            );
         i += 1;
     }
     found
@@ -167,8 +184,19 @@ pub fn chain_holds(keys: &[u32], levels: &[u8], items: &[u16], count: usize, n: 
     }
     let last = n - 1;
     let most = count_for_all(items, n) as usize;
-    let found = faults(keys, levels, items, &keys[1..n], &levels[1..n], &items[1..n], last);
-    (keys[0] == 0) & (most <= count) & (found == 0) & ends_tree(keys[last], levels[last], items[last])
+    let found = faults(
+        keys,
+        levels,
+        items,
+        &keys[1..n],
+        &levels[1..n],
+        &items[1..n],
+        last,
+    );
+    (keys[0] == 0)
+        & (most <= count)
+        & (found == 0)
+        & ends_tree(keys[last], levels[last], items[last])
 }
 
 // A lent buffer is too short.
@@ -179,7 +207,14 @@ pub fn too_short(table: &[u16], keys: &[u32], levels: &[u8], items: &[u16]) -> b
 }
 
 // The chain rule, for any counts.
-pub fn chain_rule(table: &[u16], keys: &[u32], levels: &[u8], items: &[u16], count: usize, n: usize) -> bool
+pub fn chain_rule(
+    table: &[u16],
+    keys: &[u32],
+    levels: &[u8],
+    items: &[u16],
+    count: usize,
+    n: usize,
+) -> bool
     requires { ⌜ tooShort (chartOf (now table) (now keys) (now levels) (now items) count n) ≡ false ⌝ }
     ensures { λ o. ⌜ o ≡ chainRule (chartOf (now (table .entry)) (now (keys .entry)) (now (levels .entry)) (now (items .entry)) count n) ⌝ }
 {

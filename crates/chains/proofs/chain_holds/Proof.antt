@@ -93,8 +93,10 @@ faults-requires c κs =
     let levels = top .args .levels .now in
     let fit = c .before .before .before .before .before .levels-fit in (
       omega arith,
-      (simp (length-take, length-drop) (omega arith),
-      all-below-fewer (λ i. leb (getD levels i 0) depth) (omega arith) (sym (fit .ensures) ∙ not-false (fit .result) (c .before .before .before .before .if2 .left))),
+      (
+        simp (length-take, length-drop) (omega arith),
+        all-below-fewer (λ i. leb (getD levels i 0) depth) (omega arith) (sym (fit .ensures) ∙ not-false (fit .result) (c .before .before .before .before .if2 .left)),
+      ),
     )
 
 -- src/lib.rt:171:6

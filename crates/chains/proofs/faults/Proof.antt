@@ -94,8 +94,8 @@ loop-again c =
       omega arith,
       or-zero (l .found) (c .fault .result)
           ∙ all-below-step
-              (λ k. linkedAt (a .keys .now) (a .levels .now) (a .items .now) (a .next-keys .now) (a .next-levels .now) (a .next-items .now) k)
-              (l .i) (l .inv .1) (c .fault .ensures),
+          (λ k. linkedAt (a .keys .now) (a .levels .now) (a .items .now) (a .next-keys .now) (a .next-levels .now) (a .next-items .now) k)
+          (l .i) (l .inv .1) (c .fault .ensures),
     )
 
 -- src/lib.rt:133:1
