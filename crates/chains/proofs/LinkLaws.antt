@@ -1,13 +1,13 @@
 -- The test of two neighbouring entries, as code makes it, is `linked`; that of the last entry is `endsTree`.
 -- Assumes nothing.
-use mathlib.Core.Path.{_≡_, refl, sym, _∙_, ap, ap₂}
-use mathlib.Core.Bool.{Bool, true, false, not, _&&_, _||_}
+use mathlib.Core.Path.{_≡_, _∙_, ap, ap₂}
+use mathlib.Core.Bool.{not, _&&_, _||_}
 use Prim.Native.Nat.{ℕ, _+_, _%_, _≤_, _<_}
 use native.Mathlib.Omega.{arith}
 use borrow.Author.Tests.{eqb-true}
 use lib.Bits.{bitAnd, bitOr}
 use lib.Dec.{ltb, eqb}
-use Rattle.orthtree.specs.Entries.{Entry, emptyMark, isMark, sameCell, span, rangeEnd, follows}
+use Rattle.orthtree.specs.Entries.{emptyMark, isMark, sameCell, span, rangeEnd, follows}
 use Rattle.squares.specs.Square.{arity, depth}
 use Rattle.chains.specs.Links.{entry, aligned, linked, endsTree}
 use Rattle.chains.proofs.TestLaws.{and-then, and-skip, and-second, eqb-same, no-mark}

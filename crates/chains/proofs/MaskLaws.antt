@@ -1,14 +1,14 @@
 -- The keys that a square covers, less one, as a mask: its bits, and what "and", "or" and "xor" with it tell.
 -- A square's level is one of seventeen, so what is to be known of the spans is computed for each.
 -- Assumes nothing.
-use mathlib.Core.Path.{_≡_, refl, sym, _∙_, ap}
-use mathlib.Core.Bool.{Bool, true, false, _&&_}
+use mathlib.Core.Path.{_≡_, sym, _∙_, ap}
+use mathlib.Core.Bool.{Bool, _&&_}
 use Prim.Native.Nat.{ℕ, _+_, _-_, _*_, _%_, _^_, _≤_, _<_}
 use native.Mathlib.Omega.{arith}
-use lib.Bits.{bitAnd, bitOr, bitXor, and-le-l, and-le-r, and-mask, or-add-and, or-disjoint, or-zero-l, xor-add-and, xor-self}
-use lib.Dec.{T, leb, eqb, leb→le, eqb→eq}
+use lib.Bits.{bitAnd, bitOr, bitXor, and-le-l, and-le-r, and-mask, or-add-and, or-disjoint, xor-add-and, xor-self}
+use lib.Dec.{T, leb, eqb}
 use Rattle.lists.specs.Lists.{all, countFrom, upTo}
-use Rattle.lists.proofs.Reflects.{Reflects, reflects-and, reflects-eqb, reflects-leb, reflects-iff}
+use Rattle.lists.proofs.Reflects.{reflects-and, reflects-eqb, reflects-leb, reflects-iff}
 use Rattle.lists.proofs.IndexLaws.{reflects-same, all-below-reflects}
 use Rattle.orthtree.specs.Entries.{span}
 use Rattle.squares.specs.Square.{arity, depth}

@@ -1,12 +1,13 @@
-// The chain rule of a chart's lent buffers: judged on every call but load, so written for speed. Each loop goes through its
-// lists once and joins what it finds without a branch, so that several entries are judged at a time.
+// The chain rule of a chart's lent buffers. Every call but load judges it, so it is written for speed: a loop has no branch
+// but its own test and joins what it finds by `&`, `|` or the larger of two, so that the compiler judges several entries at a
+// time. Levels and items, which are narrower than keys, have loops of their own: more of them fit into one step.
 
 use plane::Point;
 ghost use mathlib.Core.Path.{_≡_};
-ghost use mathlib.Core.Bool.{Bool, true, false, _&&_, _||_};
-ghost use Prim.Native.Nat.{ℕ, _+_, _*_, _<_, _≤_, _%_};
-ghost use lib.Dec.{leb, ltb, eqb};
-ghost use lib.ListN.{length, getD, take, drop};
+ghost use mathlib.Core.Bool.{true, false, _&&_, _||_};
+ghost use Prim.Native.Nat.{ℕ, _+_, _*_, _≤_};
+ghost use lib.Dec.{leb, eqb};
+ghost use lib.ListN.{length, getD, take};
 ghost use Rattle.lists.specs.Lists.{all, upTo};
 ghost use Rattle.orthtree.specs.Entries.{span, chain};
 ghost use Rattle.plane.specs.Triangle.{proper, corners};
@@ -99,10 +100,10 @@ fn low_bits(level: u8) -> u32
     std::num::wrapping_sub_u32((1u32 << bits) << bits, 1)
 }
 
-// The entry is aligned, and its square is the last.
-fn ends_tree(key: u32, level: u8, item: u16) -> bool
+// An entry with this key and level is aligned, and its square is the last.
+fn ends_tree(key: u32, level: u8) -> bool
     requires { ⌜ level ≤ depth ⌝ }
-    ensures { λ o. ⌜ o ≡ endsTree (entry key level item) ⌝ }
+    ensures { λ o. ⌜ ((item : ℕ) → o ≡ endsTree (entry key level item)) ⌝ }
 {
     let m = low_bits(level);
     (key & m == 0) & (key as u64 + m as u64 == 4294967295)
@@ -193,10 +194,7 @@ pub fn chain_holds(keys: &[u32], levels: &[u8], items: &[u16], count: usize, n: 
         &items[1..n],
         last,
     );
-    (keys[0] == 0)
-        & (most <= count)
-        & (found == 0)
-        & ends_tree(keys[last], levels[last], items[last])
+    (keys[0] == 0) & (most <= count) & (found == 0) & ends_tree(keys[last], levels[last])
 }
 
 // A lent buffer is too short.

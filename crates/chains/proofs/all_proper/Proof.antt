@@ -1,20 +1,13 @@
-use mathlib.Core.Path.{_≡_, refl, sym, _∙_, ap}
-use mathlib.Core.Bool.{true}
-use Prim.Native.Nat.{ℕ, _≤_, _-_, _+_}
+use mathlib.Core.Path.{_≡_, sym, _∙_, ap}
+use Prim.Native.Nat.{_≤_, _-_}
 use native.Mathlib.Omega.{arith}
 use borrow.Author.Needs.{needs}
-use lib.Dec.{leb}
-use lib.ListN.{getD}
 use Rattle.lists.specs.Lists.{all, upTo}
 use Rattle.lists.proofs.IndexLaws.{all-below-none, all-below-step, all-map}
 use Rattle.plane.specs.Triangle.{proper, triangleOf, cornerAt}
 use Rattle.chart_spec.specs.Table.{tableOf, triangleAt}
 use Rattle.chains.proofs.all_proper.Statement.{statement}
 use Rattle.chains.proofs.all_proper.Tie as tie
-use Rattle.chains.proofs.all_proper.Reads as reads
-use Rattle.chains.proofs.all_proper.Lts as lts
-use Rattle.chains.proofs.triangle.Reads as triangle-reads
-use Rattle.geometry.proofs.is_proper.Reads as is-proper-reads
 
 abbrev Inv-loop : tie.InvT-loop
 Inv-loop table n ok₀ i₀ ok i = (i ≤ n) × (ok ≡ all (λ k. proper (triangleAt table k)) (upTo i))
@@ -22,27 +15,21 @@ Inv-loop table n ok₀ i₀ ok i = (i ≤ n) × (ok ≡ all (λ k. proper (trian
 abbrev μ-loop : tie.MeasureT-loop
 μ-loop table n ok₀ i₀ ok i = n - i
 
--- src/lib.rt:37:5
 loop-holds : tie.Need-loop-holds Inv-loop μ-loop
 loop-holds c = (search needs, sym (all-below-none (λ k. proper (triangleAt (c .before .args .table .now) k))))
 
--- src/lib.rt:38:39
 triangle-requires : tie.Need-triangle-requires Inv-loop μ-loop
 triangle-requires c κs = omega arith
 
--- src/lib.rt:38:19
 is-proper-requires : tie.Need-is-proper-requires Inv-loop μ-loop
 is-proper-requires c κs = search needs
 
--- src/lib.rt:39:9
 add-i : tie.Need-add-i Inv-loop μ-loop
 add-i c = search needs
 
--- src/lib.rt:37:5
 loop-less : tie.Need-loop-less Inv-loop μ-loop
 loop-less c = search needs
 
--- src/lib.rt:37:5
 loop-again : tie.Need-loop-again Inv-loop μ-loop
 unfolding triangleOf cornerAt
 loop-again c =
@@ -53,7 +40,6 @@ loop-again c =
           (c .is-proper .ensures ∙ ap (λ t. proper (triangleOf t)) (c .before .triangle .ensures)),
     )
 
--- src/lib.rt:31:1
 returns : tie.Need-returns Inv-loop μ-loop
 unfolding tableOf
 returns c =

@@ -1,17 +1,11 @@
-use native.Mathlib.Omega.{arith}
 use Rattle.chains.proofs.TestLaws.{item-count}
 use borrow.Author.Needs.{needs}
 use Rattle.chains.proofs.count_for.Statement.{statement}
 use Rattle.chains.proofs.count_for.Tie as tie
-use Rattle.chains.proofs.count_for.Reads as reads
-use Rattle.chains.proofs.count_for.Lts as lts
-use Rattle.std.proofs.num.wrapping_add_u16.Reads as wrapping-add-u16-reads
 
--- src/lib.rt:68:5
 wrapping-add-u16-requires : tie.Need-wrapping-add-u16-requires
 wrapping-add-u16-requires c κs = search needs
 
--- src/lib.rt:65:1
 returns : tie.Need-returns
 returns c = λ count. item-count (c .before .args .item) (c .wrapping-add-u16 .result) count (search needs) (c .wrapping-add-u16 .ensures)
 

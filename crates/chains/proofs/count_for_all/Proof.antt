@@ -1,19 +1,14 @@
-use mathlib.Core.Path.{_≡_, refl, sym, _∙_, ap}
-use mathlib.Core.Bool.{true}
-use Prim.Native.Nat.{ℕ, _≤_, _-_, _+_}
+use mathlib.Core.Path.{_≡_, sym, _∙_, ap}
+use Prim.Native.Nat.{ℕ, _≤_, _-_}
 use native.Mathlib.Omega.{arith}
 use borrow.Author.Needs.{needs}
 use lib.Dec.{leb, leb·zero}
 use lib.ListN.{getD}
 use Rattle.lists.specs.Lists.{all, upTo}
-use Rattle.lists.proofs.IndexLaws.{all-below-none, all-below-step, all-map}
+use Rattle.lists.proofs.IndexLaws.{all-below-none, all-below-step}
 use Rattle.chains.specs.Links.{itemFits}
 use Rattle.chains.proofs.count_for_all.Statement.{statement}
 use Rattle.chains.proofs.count_for_all.Tie as tie
-use Rattle.chains.proofs.count_for_all.Reads as reads
-use Rattle.chains.proofs.count_for_all.Lts as lts
-use Rattle.chains.proofs.count_for.Reads as count-for-reads
-use Rattle.chains.proofs.larger.Reads as larger-reads
 
 abbrev Inv-loop : tie.InvT-loop
 Inv-loop items n most₀ i₀ most i = (i ≤ n) × ((count : ℕ) → leb most count ≡ all (λ k. itemFits count (getD items k 0)) (upTo i))
@@ -21,35 +16,27 @@ Inv-loop items n most₀ i₀ most i = (i ≤ n) × ((count : ℕ) → leb most 
 abbrev μ-loop : tie.MeasureT-loop
 μ-loop items n most₀ i₀ most i = n - i
 
--- src/lib.rt:78:5
 loop-holds : tie.Need-loop-holds Inv-loop μ-loop
 loop-holds c = (search needs, λ count. leb·zero count ∙ sym (all-below-none (λ k. itemFits count (getD (c .before .args .items .now) k 0))))
 
--- src/lib.rt:79:39
 mul-count-for : tie.Need-mul-count-for Inv-loop μ-loop
 mul-count-for c = search needs
 
--- src/lib.rt:79:39
 shared-slice-read-count-for : tie.Need-shared-slice-read-count-for Inv-loop μ-loop
 shared-slice-read-count-for c = search needs
 
--- src/lib.rt:79:29
 count-for-requires : tie.Need-count-for-requires Inv-loop μ-loop
 count-for-requires c κs = search needs
 
--- src/lib.rt:79:9
 larger-requires : tie.Need-larger-requires Inv-loop μ-loop
 larger-requires c κs = search needs
 
--- src/lib.rt:80:9
 add-i : tie.Need-add-i Inv-loop μ-loop
 add-i c = search needs
 
--- src/lib.rt:78:5
 loop-less : tie.Need-loop-less Inv-loop μ-loop
 loop-less c = search needs
 
--- src/lib.rt:78:5
 loop-again : tie.Need-loop-again Inv-loop μ-loop
 loop-again c =
     let items = c .before .before .before .before .before .before .args .items .now in
@@ -59,7 +46,6 @@ loop-again c =
       λ count. c .larger .ensures count ∙ all-below-step (λ k. itemFits count (getD items k 0)) (l .i) (l .inv .1 count) (one .ensures count),
     )
 
--- src/lib.rt:72:1
 returns : tie.Need-returns Inv-loop μ-loop
 returns c =
     let items = c .before .before .before .args .items .now in

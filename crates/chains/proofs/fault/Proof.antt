@@ -2,25 +2,16 @@ use Rattle.chains.proofs.LinkLaws.{fault-linked}
 use borrow.Author.Needs.{needs}
 use Rattle.chains.proofs.fault.Statement.{statement}
 use Rattle.chains.proofs.fault.Tie as tie
-use Rattle.chains.proofs.fault.Reads as reads
-use Rattle.chains.proofs.fault.Lts as lts
-use Rattle.chains.proofs.gap.Reads as gap-reads
-use Rattle.chains.proofs.low_bits.Reads as low-bits-reads
-use Rattle.chains.proofs.unless.Reads as unless-reads
 
--- src/lib.rt:122:9
 low-bits-requires : tie.Need-low-bits-requires
 low-bits-requires c κs = search needs
 
--- src/lib.rt:124:31
 gap-requires : tie.Need-gap-requires
 gap-requires c κs = search needs
 
--- src/lib.rt:124:17
 unless-requires : tie.Need-unless-requires
 unless-requires c κs = search needs
 
--- src/lib.rt:118:1
 returns : tie.Need-returns
 returns c =
     let top = c .before .before .before in

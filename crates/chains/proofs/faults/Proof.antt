@@ -11,9 +11,6 @@ use Rattle.chains.specs.Links.{linkedAt, entryAt}
 use Rattle.chains.proofs.MaskLaws.{or-zero}
 use Rattle.chains.proofs.faults.Statement.{statement}
 use Rattle.chains.proofs.faults.Tie as tie
-use Rattle.chains.proofs.faults.Reads as reads
-use Rattle.chains.proofs.faults.Lts as lts
-use Rattle.chains.proofs.fault.Reads as fault-reads
 
 abbrev Inv-loop : tie.InvT-loop
 Inv-loop keys levels items next-keys next-levels next-items n found₀ i₀ found i =
@@ -23,53 +20,41 @@ Inv-loop keys levels items next-keys next-levels next-items n found₀ i₀ foun
 abbrev μ-loop : tie.MeasureT-loop
 μ-loop keys levels items next-keys next-levels next-items n found₀ i₀ found i = n - i
 
--- src/lib.rt:149:5
 loop-holds : tie.Need-loop-holds Inv-loop μ-loop
 loop-holds c =
     let a = c .before .before .before .before .before .before .args in
     (search needs, sym (all-below-none (λ k. linkedAt (a .keys .now) (a .levels .now) (a .items .now) (a .next-keys .now) (a .next-levels .now) (a .next-items .now) k)))
 
--- src/lib.rt:151:21
 mul-fault : tie.Need-mul-fault Inv-loop μ-loop
 mul-fault c = search needs
 
--- src/lib.rt:151:21
 shared-slice-read-fault : tie.Need-shared-slice-read-fault Inv-loop μ-loop
 shared-slice-read-fault c = search needs
 
--- src/lib.rt:151:30
 shared-slice-read-fault-2 : tie.Need-shared-slice-read-fault-2 Inv-loop μ-loop
 shared-slice-read-fault-2 c = search needs
 
--- src/lib.rt:151:41
 mul-fault-2 : tie.Need-mul-fault-2 Inv-loop μ-loop
 mul-fault-2 c = search needs
 
--- src/lib.rt:151:41
 shared-slice-read-fault-3 : tie.Need-shared-slice-read-fault-3 Inv-loop μ-loop
 shared-slice-read-fault-3 c = search needs
 
--- src/lib.rt:151:51
 mul-fault-3 : tie.Need-mul-fault-3 Inv-loop μ-loop
 mul-fault-3 c = search needs
 
--- src/lib.rt:151:51
 shared-slice-read-fault-4 : tie.Need-shared-slice-read-fault-4 Inv-loop μ-loop
 shared-slice-read-fault-4 c = search needs
 
--- src/lib.rt:151:65
 shared-slice-read-fault-5 : tie.Need-shared-slice-read-fault-5 Inv-loop μ-loop
 shared-slice-read-fault-5 c = search needs
 
--- src/lib.rt:151:81
 mul-fault-4 : tie.Need-mul-fault-4 Inv-loop μ-loop
 mul-fault-4 c = search needs
 
--- src/lib.rt:151:81
 shared-slice-read-fault-6 : tie.Need-shared-slice-read-fault-6 Inv-loop μ-loop
 shared-slice-read-fault-6 c = search needs
 
--- src/lib.rt:151:15
 fault-requires : tie.Need-fault-requires Inv-loop μ-loop
 fault-requires c κs =
     let top = c .before .before .before .before .before .before .before .before .before .before .before .before .before .before in
@@ -77,15 +62,12 @@ fault-requires c κs =
     let i = c .before .before .before .before .before .before .before .loop .i in
     leb→le (getD levels i 0) depth (all-below-at (λ k. leb (getD levels k 0) depth) (top .pre .1 .1) (c .before .before .before .before .before .before .loop-test .taken))
 
--- src/lib.rt:152:9
 add-i : tie.Need-add-i Inv-loop μ-loop
 add-i c = search needs
 
--- src/lib.rt:149:5
 loop-less : tie.Need-loop-less Inv-loop μ-loop
 loop-less c = search needs
 
--- src/lib.rt:149:5
 loop-again : tie.Need-loop-again Inv-loop μ-loop
 unfolding entryAt
 loop-again c =
@@ -98,7 +80,6 @@ loop-again c =
           (l .i) (l .inv .1) (c .fault .ensures),
     )
 
--- src/lib.rt:133:1
 returns : tie.Need-returns Inv-loop μ-loop
 returns c =
     let a = c .before .before .before .before .before .before .before .before .args in

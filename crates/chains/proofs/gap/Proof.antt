@@ -7,18 +7,13 @@ use Rattle.chains.proofs.MaskLaws.{xor-zero}
 use borrow.Author.Needs.{needs}
 use Rattle.chains.proofs.gap.Statement.{statement}
 use Rattle.chains.proofs.gap.Tie as tie
-use Rattle.chains.proofs.gap.Reads as reads
-use Rattle.chains.proofs.gap.Lts as lts
 
--- src/lib.rt:107:41
 sub-result : tie.Need-sub-result
 sub-result c = search needs
 
--- src/lib.rt:104:1
 returns : tie.Need-returns
 returns c = sym (ne-eqb (c .before .args .next) (c .before .args .last + 1) (λ e. omega arith))
 
--- src/lib.rt:104:1
 returns-2 : tie.Need-returns-2
 returns-2 c =
     let next = c .before .args .next in

@@ -2,14 +2,10 @@ use Rattle.chains.proofs.TestLaws.{larger-right, larger-left}
 use native.Mathlib.Omega.{arith}
 use Rattle.chains.proofs.larger.Statement.{statement}
 use Rattle.chains.proofs.larger.Tie as tie
-use Rattle.chains.proofs.larger.Reads as reads
-use Rattle.chains.proofs.larger.Lts as lts
 
--- src/lib.rt:58:1
 returns : tie.Need-returns
 returns c = λ m. larger-right (c .before .args .a) (c .before .args .b) m (omega arith)
 
--- src/lib.rt:58:1
 returns-2 : tie.Need-returns-2
 returns-2 c = λ m. larger-left (c .before .args .a) (c .before .args .b) m (omega arith)
 

@@ -1,17 +1,14 @@
 use mathlib.Core.Path.{_≡_, refl, sym, _∙_, ap}
-use mathlib.Core.Bool.{true}
-use Prim.Native.Nat.{ℕ, _≤_, _-_, _+_}
+use Prim.Native.Nat.{_≤_, _-_}
 use native.Mathlib.Omega.{arith}
 use borrow.Author.Needs.{needs}
 use lib.Dec.{leb}
 use lib.ListN.{getD}
 use Rattle.lists.specs.Lists.{all, upTo}
-use Rattle.lists.proofs.IndexLaws.{all-below-none, all-below-step, all-map}
+use Rattle.lists.proofs.IndexLaws.{all-below-none, all-below-step}
 use Rattle.squares.specs.Square.{depth}
 use Rattle.chains.proofs.levels_fit.Statement.{statement}
 use Rattle.chains.proofs.levels_fit.Tie as tie
-use Rattle.chains.proofs.levels_fit.Reads as reads
-use Rattle.chains.proofs.levels_fit.Lts as lts
 
 abbrev Inv-loop : tie.InvT-loop
 Inv-loop levels n ok₀ i₀ ok i = (i ≤ n) × (ok ≡ all (λ k. leb (getD levels k 0) depth) (upTo i))
@@ -19,23 +16,18 @@ Inv-loop levels n ok₀ i₀ ok i = (i ≤ n) × (ok ≡ all (λ k. leb (getD le
 abbrev μ-loop : tie.MeasureT-loop
 μ-loop levels n ok₀ i₀ ok i = n - i
 
--- src/lib.rt:51:5
 loop-holds : tie.Need-loop-holds Inv-loop μ-loop
 loop-holds c = (search needs, sym (all-below-none (λ k. leb (getD (c .args .levels .now) k 0) depth)))
 
--- src/lib.rt:52:20
 shared-slice-read-ok : tie.Need-shared-slice-read-ok Inv-loop μ-loop
 shared-slice-read-ok c = search needs
 
--- src/lib.rt:53:9
 add-i : tie.Need-add-i Inv-loop μ-loop
 add-i c = search needs
 
--- src/lib.rt:51:5
 loop-less : tie.Need-loop-less Inv-loop μ-loop
 loop-less c = search needs
 
--- src/lib.rt:51:5
 loop-again : tie.Need-loop-again Inv-loop μ-loop
 loop-again c =
     let top = c .before .before .before in
@@ -43,7 +35,6 @@ loop-again c =
     let l = c .before .before .loop in
     (omega arith, all-below-step (λ k. leb (getD levels k 0) depth) (l .i) (l .inv .1) refl)
 
--- src/lib.rt:45:1
 returns : tie.Need-returns Inv-loop μ-loop
 returns c =
     let top = c .before .before in

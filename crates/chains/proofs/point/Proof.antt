@@ -3,30 +3,22 @@ use Rattle.chart_spec.specs.Table.{pointAt}
 use borrow.Author.Needs.{needs}
 use Rattle.chains.proofs.point.Statement.{statement}
 use Rattle.chains.proofs.point.Tie as tie
-use Rattle.chains.proofs.point.Reads as reads
-use Rattle.chains.proofs.point.Lts as lts
 
--- src/lib.rt:23:16
 mul-t3 : tie.Need-mul-t3
 mul-t3 c = search needs
 
--- src/lib.rt:23:16
 shared-slice-read-t5 : tie.Need-shared-slice-read-t5
 shared-slice-read-t5 c = search needs
 
--- src/lib.rt:23:35
 add-t6 : tie.Need-add-t6
 add-t6 c = search needs
 
--- src/lib.rt:23:29
 mul-t7 : tie.Need-mul-t7
 mul-t7 c = search needs
 
--- src/lib.rt:23:29
 shared-slice-read-t9 : tie.Need-shared-slice-read-t9
 shared-slice-read-t9 c = search needs
 
--- src/lib.rt:19:1
 returns : tie.Need-returns
 unfolding pointAt
 returns c = refl

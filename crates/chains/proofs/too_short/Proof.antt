@@ -2,10 +2,7 @@ use mathlib.Core.Path.{refl}
 use Rattle.call_spec.specs.Buffers.{tooShort}
 use Rattle.chains.proofs.too_short.Statement.{statement}
 use Rattle.chains.proofs.too_short.Tie as tie
-use Rattle.chains.proofs.too_short.Reads as reads
-use Rattle.chains.proofs.too_short.Lts as lts
 
--- src/lib.rt:175:1
 returns : tie.Need-returns
 unfolding tooShort
 returns c = λ count n. refl

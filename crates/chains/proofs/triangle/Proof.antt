@@ -3,35 +3,25 @@ use Rattle.chart_spec.specs.Table.{triangleAt}
 use borrow.Author.Needs.{needs}
 use Rattle.chains.proofs.triangle.Statement.{statement}
 use Rattle.chains.proofs.triangle.Tie as tie
-use Rattle.chains.proofs.triangle.Reads as reads
-use Rattle.chains.proofs.triangle.Lts as lts
-use Rattle.chains.proofs.point.Reads as point-reads
 
--- src/lib.rt:31:13
 mul-k : tie.Need-mul-k
 mul-k c = search needs
 
--- src/lib.rt:32:6
 point-requires : tie.Need-point-requires
 point-requires c κs = search needs
 
--- src/lib.rt:32:36
 add-point : tie.Need-add-point
 add-point c = search needs
 
--- src/lib.rt:32:23
 point-requires-2 : tie.Need-point-requires-2
 point-requires-2 c κs = search needs
 
--- src/lib.rt:32:57
 add-point-2 : tie.Need-add-point-2
 add-point-2 c = search needs
 
--- src/lib.rt:32:44
 point-requires-3 : tie.Need-point-requires-3
 point-requires-3 c κs = search needs
 
--- src/lib.rt:27:1
 returns : tie.Need-returns
 unfolding triangleAt
 returns c =
