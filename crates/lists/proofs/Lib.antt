@@ -6,4 +6,5 @@ pub mod FlatMapLaws
 pub mod Pointwise
 pub mod Order
 pub mod Runs
+pub mod IndexLaws
 pub mod Examples

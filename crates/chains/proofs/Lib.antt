@@ -1,0 +1,6 @@
+pub mod TestLaws
+pub mod MaskLaws
+pub mod LinkLaws
+pub mod ChainLaws
+pub mod PartLaws
+pub mod BufferLaws

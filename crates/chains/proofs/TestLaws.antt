@@ -1,0 +1,78 @@
+-- Laws on tests: "and" where the second test may use that the first passes, and the tests that code makes in other words
+-- than the definitions.
+-- Assumes nothing.
+use mathlib.Core.Path.{_≡_, refl, sym, _∙_, ap}
+use mathlib.Core.Bool.{Bool, true, false, false≢true, not, _&&_, _||_}
+use Prim.Native.Nat.{ℕ, suc, _+_, _%_, _≤_, _<_}
+use native.Mathlib.Decide.{decLe}
+use native.Mathlib.Omega.{arith}
+use borrow.Author.Tests.{ltb-true, le-leb, eq-eqb, ne-eqb}
+use lib.Dec.{leb, ltb, eqb}
+use Rattle.lists.proofs.Reflects.{Reflects, reflects-and, reflects-leb, reflects-eqb, reflects-iff}
+use Rattle.lists.proofs.IndexLaws.{reflects-same}
+use Rattle.orthtree.specs.Entries.{emptyMark}
+use Rattle.chains.specs.Links.{itemFits}
+
+-- a test from what it decides
+pub reflects-true : {b : Bool} {P : Type 0} → Reflects b P → P → b ≡ true
+reflects-true {b = true} r p = refl
+reflects-true {b = false} r p = absurd (r .from p)
+
+pub reflects-false : {b : Bool} {P : Type 0} → Reflects b P → (P → ⊥) → b ≡ false
+reflects-false {b = true} r n = absurd (n (r .to tt))
+reflects-false {b = false} r n = refl
+
+-- the second test counts only where the first passes
+pub and-then : (a : Bool) {b c : Bool} → (a ≡ true → b ≡ c) → a && b ≡ a && c
+and-then true h = h refl
+and-then false h = refl
+
+-- a test that follows from the first may be left out
+pub and-skip : (a b c : Bool) → (a ≡ true → b ≡ true) → a && c ≡ a && b && c
+and-skip true b c h = ap (λ d. d && c) (sym (h refl))
+and-skip false b c h = refl
+
+pub and-second : (a b : Bool) → a && b ≡ true → b ≡ true
+and-second true b h = h
+and-second false b h = absurd (false≢true h)
+
+-- two comparisons that pass together are one
+pub leb-same : (a b c d : ℕ) → (a ≤ b → c ≤ d) → (c ≤ d → a ≤ b) → leb a b ≡ leb c d
+leb-same a b c d f g = reflects-same (reflects-leb a b) (reflects-iff g f (reflects-leb c d))
+
+pub eqb-same : (a b c d : ℕ) → (a ≡ b → c ≡ d) → (c ≡ d → a ≡ b) → eqb a b ≡ eqb c d
+eqb-same a b c d f g = reflects-same (reflects-eqb a b) (reflects-iff g f (reflects-eqb c d))
+
+-- the larger of two numbers is at most m when both are
+pub larger-right : (a b m : ℕ) → a ≤ b → leb b m ≡ leb a m && leb b m
+larger-right a b m h =
+    reflects-same (reflects-leb b m)
+    (reflects-iff (λ p. p .1) (λ l. (omega arith, l)) (reflects-and (reflects-leb a m) (reflects-leb b m)))
+
+pub larger-left : (a b m : ℕ) → b ≤ a → leb a m ≡ leb a m && leb b m
+larger-left a b m h =
+    reflects-same (reflects-leb a m)
+    (reflects-iff (λ p. p .0) (λ l. (l, omega arith)) (reflects-and (reflects-leb a m) (reflects-leb b m)))
+
+or-false : (a : Bool) {b : Bool} → b ≡ false → a ≡ a || b
+or-false true h = refl
+or-false false h = sym h
+
+or-true : (a : Bool) {b : Bool} → b ≡ true → a || b ≡ true
+or-true true h = refl
+or-true false h = h
+
+-- one more than an item, where the mark's is 0, is at most the count when the item fits
+pub item-count : (item r count : ℕ) → item < 65536 → r ≡ (item + 1) % 65536 → leb r count ≡ itemFits count item
+unfolding itemFits emptyMark
+item-count item r count h e = elim (decLe item 65534) [
+  | yes l ↦
+      leb-same r count (suc item) count (λ x. omega arith) (λ x. omega arith)
+      ∙ or-false (ltb item count) (ne-eqb item 65535 (λ q. omega arith))
+  | no n ↦ le-leb r count (omega arith) ∙ sym (or-true (ltb item count) (eq-eqb item 65535 (omega arith)))
+]
+
+-- an item below another one of 16 bits is no mark
+pub no-mark : (i j : ℕ) → j < 65536 → ltb i j ≡ true → not (eqb i emptyMark) ≡ true
+unfolding emptyMark
+no-mark i j h e = let l = ltb-true i j e in ap not (ne-eqb i 65535 (λ q. omega arith))

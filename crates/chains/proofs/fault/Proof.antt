@@ -1,0 +1,25 @@
+use Rattle.chains.proofs.LinkLaws.{fault-linked}
+use borrow.Author.Needs.{needs}
+use Rattle.chains.proofs.fault.Statement.{statement}
+use Rattle.chains.proofs.fault.Tie as tie
+
+low-bits-requires : tie.Need-low-bits-requires
+low-bits-requires c κs = search needs
+
+gap-requires : tie.Need-gap-requires
+gap-requires c κs = search needs
+
+unless-requires : tie.Need-unless-requires
+unless-requires c κs = search needs
+
+returns : tie.Need-returns
+returns c =
+    let top = c .before .before .before in
+    let a = top .args in
+    let m = c .before .before .low-bits in
+    let g = c .before .gap in
+    fault-linked (a .key) (a .level) (a .item) (a .next-key) (a .next-level) (a .next-item) (m .result) (c .unless .result) (g .result)
+    (top .pre) (search needs) (m .ensures) (c .unless .ensures) (g .ensures)
+
+pub fault-spec : {M : Type 1} → statement M
+fault-spec = tie.close (tie.spec low-bits-requires gap-requires unless-requires returns)
