@@ -3,3 +3,4 @@ pub mod StackLaws
 pub mod StopLaws
 pub mod WalkLaws
 pub mod SquareWalk
+pub mod WholeWalk

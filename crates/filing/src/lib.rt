@@ -5,6 +5,7 @@ use plane::Point;
 use shapes::Frame;
 use squares::Square;
 ghost use mathlib.Core.Path.{_≡_};
+ghost use mathlib.Core.Bool.{true};
 ghost use mathlib.Core.List.{map};
 ghost use Prim.Native.Nat.{suc, _+_, _*_, _-_, _≤_, _<_, max};
 ghost use lib.ListN.{length, getD};

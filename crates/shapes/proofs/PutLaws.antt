@@ -68,7 +68,7 @@ module _ (f : Triangle → List ℕ) (c : ℕ) (size : (t : Triangle) → length
   flatMap-snoc [] t = append-nil (f t)
   flatMap-snoc (x ∷ xs) t = ap (λ r. f x ++ r) (flatMap-snoc xs t) ∙ sym (append-assoc (f x) (flatMap f xs) (f t))
 
-  flatMap-length : (l : List Triangle) → length (flatMap f l) ≡ c * length l
+  pub flatMap-length : (l : List Triangle) → length (flatMap f l) ≡ c * length l
   unfolding flatMap
   flatMap-length [] = omega arith
   flatMap-length (x ∷ xs) = length-append (f x) (flatMap f xs) ∙ ap₂ _+_ (size x) (flatMap-length xs) ∙ omega arith

@@ -47,7 +47,6 @@ abbrev file-square-μ-loop : file-square-lts.MeasureT-loop
 file-square-μ-loop table n shape offsets stack₀ from to s key out₀ at top step first₀ next₀ k₀ stack out first next k =
     4 - k
 
--- src/lib.rt:318:9
 file-square-returns : (t : ℕ) → file-square-lts.Need-returns (
   frame-of-reads.Asked,
   frame-of-reads.Learnt,
@@ -80,7 +79,6 @@ file-square-returns t c =
       end = omega arith;
     }
 
--- src/lib.rt:320:9
 file-square-frame-of-requires : (t : ℕ) → file-square-lts.Need-frame-of-requires (
   frame-of-reads.Asked,
   frame-of-reads.Learnt,
@@ -102,7 +100,6 @@ file-square-frame-of-requires : (t : ℕ) → file-square-lts.Need-frame-of-requ
 file-square-frame-of-requires t c κs =
     c .before .before .before .before .before .before .pre .1 .0 .1 .1 .1
 
--- src/lib.rt:321:9
 file-square-narrow-requires : (t : ℕ) → file-square-lts.Need-narrow-requires (
   frame-of-reads.Asked,
   frame-of-reads.Learnt,
@@ -128,7 +125,6 @@ file-square-narrow-requires t c κs =
     let tr = pre .0 .1 .1 .1 in
     (pre .0 .0, (narrow-room (a .n) (a .table .now) (a .shape .now) (a .offsets .now) h (a .s) tr (a .from) (a .to) (a .stack .now) (pre .0 .1 .1 .0) (pre .1 .1 .0), c .before .frame-of .ensures .1))
 
--- src/lib.rt:322:8
 file-square-is-stopped-requires : (t : ℕ) → file-square-lts.Need-is-stopped-requires (
   frame-of-reads.Asked,
   frame-of-reads.Learnt,
@@ -155,7 +151,6 @@ file-square-is-stopped-requires t c κs =
     let w = after-narrow (a .n) (a .table .now) (a .shape .now) (a .offsets .now) h (a .s) tr (a .from) (a .to) _ (a .stack .now) _ _ (pre .0 .0) (pre .0 .1 .1 .0) (c .before .before .before .before .before .frame-of .ensures .0) (pre .1 .1 .0) (c .before .before .before .narrow .ensures .0) (c .before .before .before .narrow .ensures .1) in
     ((w .ready, (h, (tr, (c .before .before .before .before .before .frame-of .ensures .0, c .before .before .before .before .before .frame-of .ensures .1)))), w .triangles)
 
--- src/lib.rt:323:41
 file-square-head-of-requires : (t : ℕ) → file-square-lts.Need-head-of-requires (
   frame-of-reads.Asked,
   frame-of-reads.Learnt,
@@ -181,7 +176,6 @@ file-square-head-of-requires t c κs =
     let tr = pre .0 .1 .1 .1 in
     (rw (pre .1 .0) (key-small (a .n) (a .table .now) (a .shape .now) (a .offsets .now) h (a .s) tr), tr .deep)
 
--- src/lib.rt:323:9
 file-square-put-leaf-requires : (t : ℕ) → file-square-lts.Need-put-leaf-requires (
   frame-of-reads.Asked,
   frame-of-reads.Learnt,
@@ -208,7 +202,6 @@ file-square-put-leaf-requires t c κs =
     let w = after-narrow (a .n) (a .table .now) (a .shape .now) (a .offsets .now) h (a .s) tr (a .from) (a .to) _ (a .stack .now) _ _ (pre .0 .0) (pre .0 .1 .1 .0) (c .before .before .before .before .before .before .before .before .before .before .frame-of .ensures .0) (pre .1 .1 .0) (c .before .before .before .before .before .before .before .before .narrow .ensures .0) (c .before .before .before .before .before .before .before .before .narrow .ensures .1) in
     ((w .ready .order, w .ready .within), (pre .1 .1 .1 .0, (c .before .before .before .before .before .before .before .before .before .before .before .if1 .left, c .before .head-of .ensures .1)))
 
--- src/lib.rt:323:9
 file-square-same-length : (t : ℕ) → file-square-lts.Need-same-length (
   frame-of-reads.Asked,
   frame-of-reads.Learnt,
@@ -230,7 +223,6 @@ file-square-same-length : (t : ℕ) → file-square-lts.Need-same-length (
 file-square-same-length t c =
     search needs
 
--- src/lib.rt:323:9
 file-square-same-length-2 : (t : ℕ) → file-square-lts.Need-same-length-2 (
   frame-of-reads.Asked,
   frame-of-reads.Learnt,
@@ -252,7 +244,6 @@ file-square-same-length-2 : (t : ℕ) → file-square-lts.Need-same-length-2 (
 file-square-same-length-2 t c =
     search needs
 
--- src/lib.rt:323:9
 file-square-returns-2 : (t : ℕ) → file-square-lts.Need-returns-2 (
   frame-of-reads.Asked,
   frame-of-reads.Learnt,
@@ -282,7 +273,6 @@ file-square-returns-2 t c =
     (c .before .before .before .before .head-of .ensures .0 ∙ ap (λ x. x * 4294967296 + a .s .level * 65536) (pre .1 .0))
     (c .before .before .put-leaf .ensures .0) (c .before .before .put-leaf .ensures .1) (w .kept) (search needs) (w .same)
 
--- src/lib.rt:325:9
 file-square-key-step-requires : (t : ℕ) → file-square-lts.Need-key-step-requires (
   frame-of-reads.Asked,
   frame-of-reads.Learnt,
@@ -310,7 +300,6 @@ file-square-key-step-requires t c κs =
     let lev = level-below (a .n) (a .table .now) (a .shape .now) (a .offsets .now) h (a .s) tr st in
     lev
 
--- src/lib.rt:328:5
 file-square-loop-holds : (t : ℕ) → file-square-lts.Need-loop-holds (
   frame-of-reads.Asked,
   frame-of-reads.Learnt,
@@ -337,7 +326,6 @@ file-square-loop-holds t c =
     let tr = pre .0 .1 .1 .1 in
     (omega arith, (omega (arith, pre .1 .0), filed-none (a .at) (a .out .now) _ (c .before .before .before .before .before .before .before .before .before .if1 .left)))
 
--- src/lib.rt:337:13
 file-square-quarter-requires : (t : ℕ) → file-square-lts.Need-quarter-requires (
   frame-of-reads.Asked,
   frame-of-reads.Learnt,
@@ -365,7 +353,6 @@ file-square-quarter-requires t c κs =
     let lev = level-below (a .n) (a .table .now) (a .shape .now) (a .offsets .now) h (a .s) tr st in
     (c .before .loop-test .taken, (lev, (omega (arith, tr .right), omega (arith, tr .bottom))))
 
--- src/lib.rt:329:9
 file-square-file-square-requires : (t : ℕ) → file-square-lts.Need-file-square-requires (
   frame-of-reads.Asked,
   frame-of-reads.Learnt,
@@ -423,7 +410,6 @@ file-square-file-square-requires t c κs =
       ),
     )
 
--- src/lib.rt:342:9
 file-square-add-first : (t : ℕ) → file-square-lts.Need-add-first (
   frame-of-reads.Asked,
   frame-of-reads.Learnt,
@@ -453,7 +439,6 @@ file-square-add-first t c =
     let m : k * span 4 16 (suc (a .s .level)) ≤ 4 * 1073741824 = mul-le-mul {n₂ = 4} {m₂ = 1073741824} (omega (arith, lt)) (rw (st .0) at (st .1)) in
     omega (arith, m, st .1, key-small (a .n) (a .table .now) (a .shape .now) (a .offsets .now) h (a .s) tr, c .before .before .before .before .before .before .before .before .before .loop .inv .1 .0)
 
--- src/lib.rt:328:9
 file-square-add-k : (t : ℕ) → file-square-lts.Need-add-k (
   frame-of-reads.Asked,
   frame-of-reads.Learnt,
@@ -475,7 +460,6 @@ file-square-add-k : (t : ℕ) → file-square-lts.Need-add-k (
 file-square-add-k t c =
     search needs
 
--- src/lib.rt:328:5
 file-square-loop-less : (t : ℕ) → file-square-lts.Need-loop-less (
   frame-of-reads.Asked,
   frame-of-reads.Learnt,
@@ -497,7 +481,6 @@ file-square-loop-less : (t : ℕ) → file-square-lts.Need-loop-less (
 file-square-loop-less t c =
     omega (arith, c .before .before .before .before .before .before .before .before .loop-test .taken)
 
--- src/lib.rt:328:5
 file-square-loop-again : (t : ℕ) → file-square-lts.Need-loop-again (
   frame-of-reads.Asked,
   frame-of-reads.Learnt,
@@ -536,7 +519,6 @@ file-square-loop-again t c =
       ),
     )
 
--- src/lib.rt:300:1
 file-square-same-length-3 : (t : ℕ) → file-square-lts.Need-same-length-3 (
   frame-of-reads.Asked,
   frame-of-reads.Learnt,
@@ -558,7 +540,6 @@ file-square-same-length-3 : (t : ℕ) → file-square-lts.Need-same-length-3 (
 file-square-same-length-3 t c =
     search needs
 
--- src/lib.rt:300:1
 file-square-same-length-4 : (t : ℕ) → file-square-lts.Need-same-length-4 (
   frame-of-reads.Asked,
   frame-of-reads.Learnt,
@@ -580,7 +561,6 @@ file-square-same-length-4 : (t : ℕ) → file-square-lts.Need-same-length-4 (
 file-square-same-length-4 t c =
     search needs
 
--- src/lib.rt:300:1
 file-square-returns-3 : (t : ℕ) → file-square-lts.Need-returns-3 (
   frame-of-reads.Asked,
   frame-of-reads.Learnt,
