@@ -12,7 +12,7 @@ use Rattle.plane.specs.Box.{Box}
 use Rattle.chart_spec.specs.Table.{Table}
 use Rattle.shapes.specs.declared.Frame.{Frame}
 
--- a side from p to q: how far it goes up, down, back and on, each cut off at 0, then its bounding box
+-- a side from p to q: how far y grows, y falls, x falls and x grows along it, each 0 where it does not, then its bounding box
 unfoldable pub sideShape : Point → Point → List ℕ
 sideShape p q =
     (q .y - p .y) ∷ (p .y - q .y) ∷ (p .x - q .x) ∷ (q .x - p .x)
@@ -27,7 +27,7 @@ boxShape a b c =
 unfoldable pub shapeOf : Triangle → List ℕ
 shapeOf t = sideShape (t .a) (t .b) ++ (sideShape (t .b) (t .c) ++ (sideShape (t .c) (t .a) ++ boxShape (t .a) (t .b) (t .c)))
 
--- V of a point from up, down, back and on
+-- V of a point (x, y) from these four, with mx and my for 65,536 less x and y
 abbrev pub weigh : ℕ → ℕ → ℕ → ℕ → ℕ → ℕ → ℕ → ℕ → ℕ
 weigh up down back on x mx y my = down * x + up * mx + on * y + back * my
 
