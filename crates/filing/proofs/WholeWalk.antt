@@ -2,14 +2,15 @@
 -- Assumes nothing.
 use mathlib.Core.Path.{_≡_, refl, sym, _∙_, ap}
 use mathlib.Core.Bool.{true}
-use mathlib.Core.List.{List, [], _∷_, flatMap}
-use Prim.Native.Nat.{ℕ, zero, suc, _+_, _*_, _-_, _≤_, _<_}
+use mathlib.Core.List.{List, flatMap}
+use Prim.Native.Nat.{ℕ, _+_, _*_, _-_, _≤_, _<_}
 use native.Mathlib.Nat.{zero-add}
 use native.Mathlib.Omega.{arith}
 use lib.ListN.{length, getD, take, drop}
 use lib.Seq.{sets, length-sets}
-use Rattle.lists.specs.Lists.{all, filter, upTo, countFrom}
+use Rattle.lists.specs.Lists.{all, filter, upTo}
 use Rattle.lists.proofs.ListsLaws.{upTo-to}
+use Rattle.lists.proofs.IndexLaws.{upTo-length}
 use Rattle.lists.proofs.FlatMapLaws.{places-filter}
 use Rattle.plane.specs.Box.{triangleMeets}
 use Rattle.plane.specs.Triangle.{proper}
@@ -23,14 +24,6 @@ use Rattle.shapes.proofs.ShapeLaws.{shape-length, offsets-length}
 use Rattle.shapes.proofs.PutLaws.{tableOf-length, flatMap-length}
 use Rattle.filing.specs.Filing.{part, Ready, OnTree, Prepared, Candidates}
 use Rattle.filing.proofs.WalkLaws.{part-stored, ready-stored}
-
-pub upTo-length : (n : ℕ) → length (upTo n) ≡ n
-unfolding upTo countFrom
-upTo-length n = go 0 n
-  where
-    go : (k n : ℕ) → length (countFrom k n) ≡ n
-    go k zero = refl
-    go k (suc n) = ap suc (go (suc k) n)
 
 -- a list that is stored from place 0 on stands there
 pub take-stored : (l v : List ℕ) (n : ℕ) → length v ≡ n → n ≤ length l → take n (sets l 0 v) ≡ v

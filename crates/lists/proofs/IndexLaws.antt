@@ -7,6 +7,7 @@ use Prim.Native.Nat.{ℕ, zero, suc, _+_, _≤_, _<_}
 use native.Mathlib.Nat.{add-zero, add-suc, suc-add, zero-add, lt-of-lt-of-le}
 use native.Mathlib.Numerals.{add-one}
 use lib.Dec.{T}
+use lib.ListN.{length}
 use Rattle.lists.specs.Lists.{all, countFrom, upTo}
 use Rattle.lists.proofs.Reflects.{Reflects, reflects-test, reflects-iff}
 use Rattle.lists.proofs.ListsLaws.{Every, all-reflects, upTo-to, upTo-from}
@@ -58,6 +59,16 @@ countFrom-suc k (suc n) =
 pub upTo-suc : (n : ℕ) → upTo (suc n) ≡ upTo n ++ (n ∷ [])
 unfolding upTo
 upTo-suc n = countFrom-suc 0 n ∙ ap (λ m. countFrom 0 n ++ (m ∷ [])) (zero-add n)
+
+countFrom-length : (k n : ℕ) → length (countFrom k n) ≡ n
+unfolding countFrom
+countFrom-length k zero = refl
+countFrom-length k (suc n) = ap suc (countFrom-length (suc k) n)
+
+-- as many numbers as the bound
+pub upTo-length : (n : ℕ) → length (upTo n) ≡ n
+unfolding upTo
+upTo-length n = countFrom-length 0 n
 
 -- a test at every number below 0, and below one number more
 pub all-below-none : (f : ℕ → Bool) → all f (upTo 0) ≡ true

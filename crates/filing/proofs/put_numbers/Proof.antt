@@ -8,8 +8,7 @@ use lib.ListN.{length}
 use lib.Seq.{sets}
 use Rattle.lists.specs.Lists.{upTo, countFrom}
 use Rattle.lists.proofs.ListsLaws.{sets-length, sets-join}
-use Rattle.lists.proofs.IndexLaws.{upTo-suc}
-use Rattle.filing.proofs.WholeWalk.{upTo-length}
+use Rattle.lists.proofs.IndexLaws.{upTo-suc, upTo-length}
 use Rattle.filing.proofs.put_numbers.Statement.{statement}
 use Rattle.filing.proofs.put_numbers.Tie as tie
 
