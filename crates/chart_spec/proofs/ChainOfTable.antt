@@ -18,8 +18,7 @@ use Rattle.orthtree.specs.Entries.{Entry, emptyMark, chain}
 use Rattle.orthtree.proofs.ChainTilingLaws.{Listing, marked, listed}
 use Rattle.plane.specs.Box.{triangleMeets}
 use Rattle.squares.specs.declared.Square.{Square}
-use Rattle.squares.specs.Square.{depth, topLeft, topRight, bottomLeft, bottomRight, quarters, squareKey, squareBox}
-use Rattle.squares.proofs.SquareLaws.{Aligned}
+use Rattle.squares.specs.Square.{depth, topLeft, topRight, bottomLeft, bottomRight, quarters, squareKey, squareBox, Aligned}
 use Rattle.squares.proofs.ZOrderLaws.{zOrder-bound}
 use Rattle.squares.proofs.SquareLeavesLaws.{leaves-aligned, squares-chain}
 use Rattle.chart_spec.specs.Table.{Table}

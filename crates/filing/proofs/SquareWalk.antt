@@ -18,8 +18,8 @@ use Rattle.lists.proofs.FlatMapLaws.{flatMap-append}
 use Rattle.orthtree.specs.Entries.{Entry, span}
 use Rattle.plane.specs.Box.{Box, triangleMeets}
 use Rattle.squares.specs.declared.Square.{Square}
-use Rattle.squares.specs.Square.{quarters, topLeft, topRight, bottomLeft, bottomRight, squareKey, squareBox}
-use Rattle.squares.proofs.SquareLaws.{Aligned, quarters-aligned, quarters-level, quarter-key}
+use Rattle.squares.specs.Square.{quarters, topLeft, topRight, bottomLeft, bottomRight, squareKey, squareBox, Aligned}
+use Rattle.squares.proofs.SquareLaws.{quarters-aligned, quarters-level, quarter-key}
 use Rattle.squares.proofs.ZOrderLaws.{zOrder-bound}
 use Rattle.chart_spec.specs.Table.{Table, tableOf, numbered}
 use Rattle.chart_spec.specs.Cells.{commonEnd, sidesMeeting, stopped, trianglesMeeting, orMark, entryOf, cellEntries}
@@ -27,7 +27,7 @@ use Rattle.chart_spec.proofs.FilingLaws.{entriesIn-stopped, entriesIn-split, me
 use Rattle.shapes.specs.Shape.{triangleMeetsAt}
 use Rattle.shapes.proofs.ShapeLaws.{triangle-meets-at}
 use Rattle.shapes.proofs.PutLaws.{tableOf-length}
-use Rattle.filing.specs.Filing.{part, packed, entriesIn, Ready, OnTree, Prepared, Candidates, Filed}
+use Rattle.filing.specs.Filing.{part, packed, entriesIn, Ready, Prepared, Candidates, Filed}
 use Rattle.filing.proofs.StackLaws.{part-length, filter-length}
 use Rattle.filing.proofs.StopLaws.{framed, corners-small, meeting-below}
 use Rattle.filing.proofs.WalkLaws.{filter-agree, part-stored, take-before, ready-stored}
@@ -52,10 +52,7 @@ part-members n f t l w o h i m =
     let g = member-at m in
     rw (← g .2) (rw (part-at f t l (g .0) w (g .1)) (h (f + g .0) (omega arith) (omega (arith, part-length f t l w, g .1))))
 
-module _ (n : ℕ) (ns sh o : List ℕ) (h : Prepared n ns sh o) (s : Square) (p : OnTree s) where
-  pub aligned : Aligned s
-  aligned = record { deep = p .deep; across = p .across; down = p .down; right = p .right; bottom = p .bottom }
-
+module _ (n : ℕ) (ns sh o : List ℕ) (h : Prepared n ns sh o) (s : Square) (p : Aligned s) where
   pub below : Every (λ i. i < n) (trianglesMeeting (tableOf ns n) s)
   below i m = rw (tableOf-length ns n) at (meeting-below (tableOf ns n) s i m)
 
@@ -131,16 +128,14 @@ module _ (n : ℕ) (ns sh o : List ℕ) (h : Prepared n ns sh o) (s : Square) (p
         four : (k : ℕ) → k < 4 → k < length (quarters s)
         four k lt = rw (quarters-four s) lt
 
-    pub quarter-tree : (k : ℕ) → k < 4 → OnTree (q k)
-    quarter-tree k lt =
-        let a = quarters-aligned s aligned lev (q k) (in-quarters k lt) in
-        record { deep = a .deep; across = a .across; down = a .down; right = a .right; bottom = a .bottom }
+    pub quarter-tree : (k : ℕ) → k < 4 → Aligned (q k)
+    quarter-tree k lt = quarters-aligned s p lev (q k) (in-quarters k lt)
 
     pub quarter-level : (k : ℕ) → k < 4 → q k .level ≡ suc (s .level)
     quarter-level k lt = quarters-level s (q k) (in-quarters k lt)
 
     pub quarter-first : (k : ℕ) → k < 4 → squareKey (q k) ≡ squareKey s + k * span 4 16 (suc (s .level))
-    quarter-first k lt = quarter-key s aligned lev k lt
+    quarter-first k lt = quarter-key s p lev k lt
 
     pub quarter-candidates : (f t : ℕ) (l : List ℕ) (k : ℕ) → k < 4 → t - f ≤ n → part f t l ≡ trianglesMeeting (tableOf ns n) s → Candidates n f t ns l (q k)
     quarter-candidates f t l k lt few e = record {
@@ -186,7 +181,7 @@ pub record Narrowed (n t top : ℕ) (ns sh o l l₁ : List ℕ) (s : Square) : T
   pub few : top - t ≤ n
   pub room : top + (16 - s .level) * n ≤ length l₁
 
-module _ (n : ℕ) (ns sh o : List ℕ) (h : Prepared n ns sh o) (s : Square) (p : OnTree s) where
+module _ (n : ℕ) (ns sh o : List ℕ) (h : Prepared n ns sh o) (s : Square) (p : Aligned s) where
   pub narrow-room : (f t : ℕ) (l : List ℕ) → Candidates n f t ns l s → t + (17 - s .level) * n ≤ length l → t + (t - f) ≤ length l
   narrow-room f t l c r = room-one (17 - s .level) n (t - f) t (length l) (omega (arith, p .deep)) (c .few) r
 

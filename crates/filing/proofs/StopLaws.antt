@@ -21,7 +21,7 @@ use Rattle.plane.specs.Box.{Box, sideMeets}
 use Rattle.plane.proofs.ExtremeLaws.{Framed, OnGrid}
 use Rattle.chart_spec.specs.Table.{Table, pointAt, triangleAt, tableOf, numbered, noTriangle}
 use Rattle.squares.specs.declared.Square.{Square}
-use Rattle.squares.specs.Square.{squareBox}
+use Rattle.squares.specs.Square.{squareBox, Aligned}
 use Rattle.chart_spec.specs.Cells.{isEnd, sidesMeeting, commonEnd, stopped, trianglesMeeting}
 use Rattle.chart_spec.proofs.FilingLaws.{sides-narrow}
 use Rattle.chart_spec.proofs.ChainOfTable.{meeting-rising}
@@ -29,7 +29,7 @@ use Rattle.shapes.specs.Shape.{sideMeetsAt, Shaped}
 use Rattle.shapes.proofs.ShapeLaws.{OnTriangle, first-meets, second-meets, third-meets}
 use Rattle.shapes.proofs.PutLaws.{tableOf-length}
 use Rattle.filing.specs.declared.Ends.{Ends}
-use Rattle.filing.specs.Filing.{addSide, addWhen, addTriangle, addAll, noEnds, alive, OnTree, Prepared}
+use Rattle.filing.specs.Filing.{addSide, addWhen, addTriangle, addAll, noEnds, alive, Prepared}
 
 -- ---- the ends of a list of sides
 
@@ -143,7 +143,7 @@ module _ (n : ℕ) (ns s o : List ℕ) (h : Prepared n ns s o) (b : Box) (f : Fr
 
 -- ---- squares
 
-pub framed : (s : Square) → OnTree s → Framed (squareBox s)
+pub framed : (s : Square) → Aligned s → Framed (squareBox s)
 unfolding squareBox
 framed s p = record { wide = omega arith; tall = omega arith; right = p .right; bottom = p .bottom }
 
@@ -159,7 +159,7 @@ module _ (n : ℕ) (ns sh o : List ℕ) (h : Prepared n ns sh o) (s : Square) wh
   unfolding stopped
   stopped-deep e = rw (eq-eqb (s .level) 16 e) refl
 
-  pub stopped-sides : (s .level ≡ 16 → ⊥) → OnTree s → (is : List ℕ) → is ≡ trianglesMeeting (tableOf ns n) s
+  pub stopped-sides : (s .level ≡ 16 → ⊥) → Aligned s → (is : List ℕ) → is ≡ trianglesMeeting (tableOf ns n) s
       → alive (addAll ns sh o (squareBox s) noEnds is) ≡ stopped (tableOf ns n) s
   unfolding stopped
   stopped-sides d p is e =

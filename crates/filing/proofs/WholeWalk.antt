@@ -15,14 +15,15 @@ use Rattle.lists.proofs.FlatMapLaws.{places-filter}
 use Rattle.plane.specs.Box.{triangleMeets}
 use Rattle.plane.specs.Triangle.{proper}
 use Rattle.squares.specs.declared.Square.{Square}
-use Rattle.squares.specs.Square.{wholeSquare, sideAt, squareBox, squareKey, zOrder}
+use Rattle.squares.specs.Square.{wholeSquare, squareBox, squareKey, zOrder, Aligned}
+use Rattle.squares.proofs.SquareLaws.{whole-aligned}
 use Rattle.orthtree.specs.Morton.{lowestBits, mortonKey}
 use Rattle.chart_spec.specs.Table.{Table, tableOf, numbered}
 use Rattle.chart_spec.specs.Cells.{trianglesMeeting}
 use Rattle.shapes.specs.Shape.{shapeOf, offsetsOf}
 use Rattle.shapes.proofs.ShapeLaws.{shape-length, offsets-length}
 use Rattle.shapes.proofs.PutLaws.{tableOf-length, flatMap-length}
-use Rattle.filing.specs.Filing.{part, Ready, OnTree, Prepared, Candidates}
+use Rattle.filing.specs.Filing.{part, Ready, Prepared, Candidates}
 use Rattle.filing.proofs.WalkLaws.{part-stored, ready-stored}
 
 -- a list that is stored from place 0 on stands there
@@ -54,10 +55,6 @@ whole-candidates n ns l h = record {
       ∙ places-filter _ (λ t. triangleMeets t (squareBox wholeSquare)) (tableOf ns n);
 }
 
-pub whole-tree : OnTree wholeSquare
-unfolding wholeSquare sideAt
-whole-tree = record { deep = omega arith; across = refl; down = refl; right = omega arith; bottom = omega arith }
-
 pub whole-key : 0 ≡ squareKey wholeSquare
 unfolding wholeSquare squareKey zOrder mortonKey lowestBits
 whole-key = refl
@@ -82,13 +79,13 @@ module _ (n : ℕ) (ns : List ℕ) where
       → sh₁ ≡ sets sh 0 (flatMap (λ t. shapeOf t) (tableOf ns n)) → o₁ ≡ sets o 0 (flatMap (λ t. offsetsOf t) (tableOf ns n)) → l₁ ≡ sets l 0 (upTo n)
       → s ≡ wholeSquare → 6 * n ≤ length ns → 28 * n ≤ length sh → 3 * n ≤ length o → 18 * n ≤ length l
       → ((k : ℕ) → getD ns k 0 < 65536) → all (λ t. proper t) (tableOf ns n) ≡ true
-      → Ready n 0 n ns sh₁ o₁ l₁ × (Prepared n ns sh₁ o₁ × (Candidates n 0 n ns l₁ s × OnTree s))
+      → Ready n 0 n ns sh₁ o₁ l₁ × (Prepared n ns sh₁ o₁ × (Candidates n 0 n ns l₁ s × Aligned s))
   whole-start sh sh₁ o o₁ l l₁ s es eo el e ht hs ho hl small good =
       let fit : n ≤ length l = omega arith in
       rw (es, eo, el, e) (
         whole-ready n ns (sets sh 0 (flatMap (λ t. shapeOf t) (tableOf ns n))) (sets o 0 (flatMap (λ t. offsetsOf t) (tableOf ns n))) l ht
             (rw (length-sets sh 0 (flatMap (λ t. shapeOf t) (tableOf ns n))) hs) (rw (length-sets o 0 (flatMap (λ t. offsetsOf t) (tableOf ns n))) ho) fit,
-        (whole-prepared sh o hs ho small good, (whole-candidates n ns l fit, whole-tree)),
+        (whole-prepared sh o hs ho small good, (whole-candidates n ns l fit, whole-aligned)),
       )
 
   pub whole-room : (l l₁ : List ℕ) (s : Square) → l₁ ≡ sets l 0 (upTo n) → s ≡ wholeSquare → 18 * n ≤ length l → n + (17 - s .level) * n ≤ length l₁

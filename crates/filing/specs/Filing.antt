@@ -3,7 +3,7 @@
 use mathlib.Core.Path.{_≡_}
 use mathlib.Core.Bool.{Bool, true, false, cond, not, _&&_, _||_}
 use mathlib.Core.List.{List, [], _∷_, map, flatMap}
-use Prim.Native.Nat.{ℕ, _+_, _*_, _-_, _%_, _≤_, _<_}
+use Prim.Native.Nat.{ℕ, _+_, _*_, _-_, _≤_, _<_}
 use lib.Dec.{T}
 use lib.ListN.{length, getD, take, drop}
 use lib.Seq.{sets}
@@ -13,7 +13,7 @@ use Rattle.plane.specs.declared.Point.{Point}
 use Rattle.plane.specs.Triangle.{Side, proper}
 use Rattle.plane.specs.Box.{Box, triangleMeets}
 use Rattle.squares.specs.declared.Square.{Square}
-use Rattle.squares.specs.Square.{sideAt, squareBox}
+use Rattle.squares.specs.Square.{squareBox}
 use Rattle.chart_spec.specs.Table.{Table, pointAt, tableOf, numbered}
 use Rattle.chart_spec.specs.Cells.{isEnd, trianglesMeeting, cellEntries, cellsIn}
 use Rattle.shapes.specs.Shape.{sideMeetsAt, Shaped}
@@ -91,14 +91,6 @@ pub record Ready (n f t : ℕ) (table shape offsets stack : List ℕ) : Type 0 w
   pub tables : 6 * n ≤ length table
   pub shapes : 28 * n ≤ length shape
   pub offs : 3 * n ≤ length offsets
-
--- a square of the tree: its corner is a multiple of its side, and it lies in the grid
-pub record OnTree (s : Square) : Type 0 where
-  pub deep : s .level ≤ 16
-  pub across : s .x % sideAt (s .level) ≡ 0
-  pub down : s .y % sideAt (s .level) ≡ 0
-  pub right : s .x + sideAt (s .level) ≤ 65536
-  pub bottom : s .y + sideAt (s .level) ≤ 65536
 
 -- the first n triangles of the table have D > 0 and grid points for corners, and the two lists keep their numbers
 pub record Prepared (n : ℕ) (table shape offsets : List ℕ) : Type 0 where

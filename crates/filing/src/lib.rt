@@ -14,11 +14,11 @@ ghost use Rattle.lists.specs.Lists.{all, filter, upTo};
 ghost use Rattle.plane.specs.Point.{samePoint};
 ghost use Rattle.plane.specs.Triangle.{proper};
 ghost use Rattle.orthtree.specs.Entries.{span};
-ghost use Rattle.squares.specs.Square.{squareBox, squareKey, quarters};
+ghost use Rattle.squares.specs.Square.{squareBox, squareKey, quarters, Aligned};
 ghost use Rattle.chart_spec.specs.Table.{tableOf};
 ghost use Rattle.chart_spec.specs.Cells.{stopped, trianglesMeeting, orMark, entriesOf};
 ghost use Rattle.shapes.specs.Shape.{boxOf, InGrid, triangleMeetsAt};
-ghost use Rattle.filing.specs.Filing.{only, part, Ready, OnTree, Prepared, Candidates, Filed, entriesIn, packed, addWhen, addTriangle, addAll, noEnds, alive};
+ghost use Rattle.filing.specs.Filing.{only, part, Ready, Prepared, Candidates, Filed, entriesIn, packed, addWhen, addTriangle, addAll, noEnds, alive};
 
 // What is known of the ends of the sides seen so far: the two ends of the first, and whether each is an end of every one.
 pub struct Ends {
@@ -204,7 +204,7 @@ fn put_cell(stack: &[u16], from: usize, to: usize, head: u64, out: &mut [u64], a
 
 // The square with its whole border.
 fn frame_of(s: Square) -> Frame
-    requires { ⌜ OnTree s ⌝ }
+    requires { ⌜ Aligned s ⌝ }
     ensures { λ f. ⌜ (boxOf f ≡ squareBox s) × InGrid f ⌝ }
 {
     let side = s.side();
@@ -230,7 +230,7 @@ fn is_stopped(
     s: Square,
     f: Frame,
 ) -> bool
-    requires { ⌜ Ready n from to (now table) (now shape) (now offsets) (now stack) × (Prepared n (now table) (now shape) (now offsets) × (OnTree s × ((boxOf f ≡ squareBox s) × InGrid f))) ⌝ }
+    requires { ⌜ Ready n from to (now table) (now shape) (now offsets) (now stack) × (Prepared n (now table) (now shape) (now offsets) × (Aligned s × ((boxOf f ≡ squareBox s) × InGrid f))) ⌝ }
     requires { ⌜ part from to (now stack) ≡ trianglesMeeting (tableOf (now table) n) s ⌝ }
     ensures { λ o. ⌜ o ≡ stopped (tableOf (now (table .entry)) n) s ⌝ }
 {
@@ -312,7 +312,7 @@ fn file_square(
     out: &mut [u64],
     at: usize,
 ) -> usize
-    requires { ⌜ Ready n from to (now table) (now shape) (now offsets) (now stack) × (Prepared n (now table) (now shape) (now offsets) × (Candidates n from to (now table) (now stack) s × OnTree s)) ⌝ }
+    requires { ⌜ Ready n from to (now table) (now shape) (now offsets) (now stack) × (Prepared n (now table) (now shape) (now offsets) × (Candidates n from to (now table) (now stack) s × Aligned s)) ⌝ }
     requires { ⌜ (key ≡ squareKey s) × ((to + (17 - s .level) * n ≤ length (now stack)) × ((16384 ≤ length (now out)) × (at ≤ 16385))) ⌝ }
     ensures { λ r. ⌜ Filed (entriesIn (tableOf (now (table .entry)) n) s) at r to (now (out .entry)) (now (out .exit)) (now (stack .entry)) (now (stack .exit)) ⌝ }
 {

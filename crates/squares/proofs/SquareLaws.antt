@@ -4,7 +4,7 @@
 -- Assumes nothing.
 use mathlib.Core.Path.{_≡_, refl, subst}
 use mathlib.Core.List.{[], _∷_}
-use Prim.Native.Nat.{ℕ, zero, suc, _+_, _*_, _-_, _%_, _^_, _≤_, _<_, _∣_}
+use Prim.Native.Nat.{ℕ, zero, suc, _+_, _*_, _-_, _%_, _^_, _<_, _∣_}
 use native.Mathlib.Nat.{add-zero, zero-mul, one-mul, pow-succ', dvd-mul-left, mod-mod-of-dvd, zero-mod, add-mod-right}
 use native.Mathlib.Omega.{arith}
 use lib.ListN.{getD}
@@ -17,15 +17,7 @@ use Rattle.orthtree.proofs.MortonRangeLaws.{morton-aligned}
 use Rattle.orthtree.proofs.LeavesLaws.{Tree}
 use Rattle.orthtree.proofs.MortonChildLaws.{childCorner, child-key}
 use Rattle.squares.specs.declared.Square.{Square}
-use Rattle.squares.specs.Square.{depth, arity, sideAt, wholeSquare, topLeft, topRight, bottomLeft, bottomRight, quarters, zOrder, squareKey}
-
--- the square is one of the tree: its corner is a multiple of its side, and it lies in the grid
-pub record Aligned (s : Square) : Type 0 where
-  pub deep : s .level ≤ depth
-  pub across : s .x % sideAt (s .level) ≡ 0
-  pub down : s .y % sideAt (s .level) ≡ 0
-  pub right : s .x + sideAt (s .level) ≤ 65536
-  pub bottom : s .y + sideAt (s .level) ≤ 65536
+use Rattle.squares.specs.Square.{depth, arity, sideAt, wholeSquare, topLeft, topRight, bottomLeft, bottomRight, quarters, zOrder, squareKey, Aligned}
 
 -- a side is twice that of a quarter
 pub side-half : (level : ℕ) → level < depth → sideAt level ≡ 2 * sideAt (suc level)

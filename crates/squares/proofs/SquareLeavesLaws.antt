@@ -19,8 +19,8 @@ use Rattle.orthtree.proofs.ChainTilingLaws.{Listing, entry, entriesFrom, tiling
 use Rattle.orthtree.proofs.ChainCellLaws.{cell-of-key}
 use Rattle.plane.specs.declared.Point.{Point}
 use Rattle.squares.specs.declared.Square.{Square}
-use Rattle.squares.specs.Square.{depth, arity, wholeSquare, quarters, zOrder, squareKey}
-use Rattle.squares.proofs.SquareLaws.{Aligned, whole-aligned, squareKey-aligned, square-tree}
+use Rattle.squares.specs.Square.{depth, arity, wholeSquare, quarters, zOrder, squareKey, Aligned}
+use Rattle.squares.proofs.SquareLaws.{whole-aligned, squareKey-aligned, square-tree}
 use Rattle.squares.proofs.ZOrderLaws.{InGrid, InSquare, zOrder-bound, point-in-square}
 
 abbrev keys : Square → ℕ

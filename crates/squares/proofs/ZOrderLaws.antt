@@ -17,8 +17,8 @@ use Rattle.orthtree.proofs.MortonLaws.{morton-bound, morton-injective, morton-b
 use Rattle.orthtree.proofs.MortonRangeLaws.{key-in-range}
 use Rattle.plane.specs.declared.Point.{Point}
 use Rattle.squares.specs.declared.Square.{Square}
-use Rattle.squares.specs.Square.{depth, arity, sideAt, zOrder, squareKey}
-use Rattle.squares.proofs.SquareLaws.{Aligned, corner-multiples, side-positive}
+use Rattle.squares.specs.Square.{depth, arity, sideAt, zOrder, squareKey, Aligned}
+use Rattle.squares.proofs.SquareLaws.{corner-multiples, side-positive}
 
 -- every key is below 2 ^ 32
 pub zOrder-bound : (p : Point) → zOrder p < 2 ^ 32

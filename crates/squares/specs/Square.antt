@@ -1,8 +1,9 @@
 -- Document 01, "Squares and Z-order": squares, quarters, Z and keys. When a side or a triangle meets a square is in the
 -- crate plane, Box.
 -- Assumes nothing.
+use mathlib.Core.Path.{_≡_}
 use mathlib.Core.List.{List, [], _∷_}
-use Prim.Native.Nat.{ℕ, suc, _+_, _-_, _^_}
+use Prim.Native.Nat.{ℕ, suc, _+_, _-_, _%_, _^_, _≤_}
 use Rattle.orthtree.specs.Morton.{mortonKey}
 use Rattle.plane.specs.declared.Point.{Point}
 use Rattle.plane.specs.Box.{Box}
@@ -60,3 +61,11 @@ squareBox s = record {
   right = s .x + sideAt (s .level);
   bottom = s .y + sideAt (s .level);
 }
+
+-- a square of the tree: its corner is a multiple of its side, and it lies in the grid
+pub record Aligned (s : Square) : Type 0 where
+  pub deep : s .level ≤ depth
+  pub across : s .x % sideAt (s .level) ≡ 0
+  pub down : s .y % sideAt (s .level) ≡ 0
+  pub right : s .x + sideAt (s .level) ≤ 65536
+  pub bottom : s .y + sideAt (s .level) ≤ 65536
