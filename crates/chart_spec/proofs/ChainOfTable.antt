@@ -22,8 +22,7 @@ use Rattle.squares.specs.Square.{depth, topLeft, topRight, bottomLeft, bottomRi
 use Rattle.squares.proofs.ZOrderLaws.{zOrder-bound}
 use Rattle.squares.proofs.SquareLeavesLaws.{leaves-aligned, squares-chain}
 use Rattle.chart_spec.specs.Table.{Table}
-use Rattle.chart_spec.specs.Cells.{stopped, cellsIn, cells, trianglesMeeting, orMark, entryOf, cellEntries, entriesOf}
-use Rattle.chart_spec.proofs.FilingLaws.{entriesIn}
+use Rattle.chart_spec.specs.Cells.{stopped, cellsIn, cells, trianglesMeeting, orMark, entryOf, cellEntries, entriesIn, entriesOf}
 
 orMark-count : (is : List ℕ) → length (orMark is) ≡ max 1 (length is)
 unfolding orMark
@@ -71,7 +70,7 @@ module _ (table : Table) where
 
 -- a square has entries
 pub entriesIn-positive : (table : Table) (s : Square) → 0 < length (entriesIn table s)
-unfolding cellsIn
+unfolding entriesIn cellsIn
 entriesIn-positive table s = positive-induct table (depth - s .level) s
 
 listing-of : {n : ℕ} {is : List ℕ} → Rising 0 n is → Listing n (orMark is)

@@ -16,7 +16,6 @@ use Rattle.lists.proofs.ListsLaws.{Every, every-cons, upTo-to, getD-member}
 use Rattle.lists.proofs.EveryLaws.{every-nil}
 use Rattle.lists.proofs.FilterLaws.{filter-none}
 use Rattle.lists.proofs.FlatMapLaws.{flatMap-flatMap, filter-flatMap, flatMap-filter, filter-narrow, places-filter, flatMap-places}
-use Rattle.orthtree.specs.Entries.{Entry}
 use Rattle.orthtree.proofs.LeavesLaws.{leaves-stopped, leaves-split}
 use Rattle.plane.specs.Triangle.{Side, sides, proper}
 use Rattle.plane.specs.Box.{sideMeets, triangleMeets}
@@ -27,11 +26,7 @@ use Rattle.squares.specs.declared.Square.{Square}
 use Rattle.squares.specs.Square.{depth, wholeSquare, topLeft, topRight, bottomLeft, bottomRight, quarters, squareBox}
 use Rattle.squares.proofs.SquareLaws.{side-half, quarters-level}
 use Rattle.chart_spec.specs.Table.{Table, tableSides, numbered, noTriangle}
-use Rattle.chart_spec.specs.Cells.{sidesMeeting, stopped, cellsIn, cells, trianglesMeeting, cellEntries, entriesOf}
-
--- the entries of the cells within a square
-abbrev pub entriesIn : Table → Square → List Entry
-entriesIn table s = flatMap (λ q. cellEntries table q) (cellsIn table s)
+use Rattle.chart_spec.specs.Cells.{sidesMeeting, stopped, cellsIn, cells, trianglesMeeting, cellEntries, entriesIn, entriesOf}
 
 -- a stopped square is its only cell
 pub cellsIn-stopped : (table : Table) (s : Square) → stopped table s ≡ true → cellsIn table s ≡ s ∷ []
@@ -46,14 +41,14 @@ cellsIn-split table s l e = leaves-split depth (λ q. quarters q) (λ q. q .leve
 
 -- the entries of a stopped square are those of one cell
 pub entriesIn-stopped : (table : Table) (s : Square) → stopped table s ≡ true → entriesIn table s ≡ cellEntries table s
-unfolding flatMap
+unfolding entriesIn flatMap
 entriesIn-stopped table s e = ap (flatMap (λ q. cellEntries table q)) (cellsIn-stopped table s e) ∙ append-nil (cellEntries table s)
 
 -- the entries of a square that is not stopped are those of its quarters, in order
 pub entriesIn-split : (table : Table) (s : Square) → s .level < 16 → stopped table s ≡ false
     → entriesIn table s
     ≡ entriesIn table (topLeft s) ++ (entriesIn table (topRight s) ++ (entriesIn table (bottomLeft s) ++ entriesIn table (bottomRight s)))
-unfolding flatMap quarters
+unfolding entriesIn flatMap quarters
 entriesIn-split table s l e =
     ap (flatMap (λ q. cellEntries table q)) (cellsIn-split table s l e)
     ∙ flatMap-flatMap (λ q. cellEntries table q) (λ q. cellsIn table q) (quarters s)
@@ -63,7 +58,7 @@ entriesIn-split table s l e =
 
 -- the entries within the whole square are those of the table
 pub entriesIn-whole : (table : Table) → entriesIn table wholeSquare ≡ entriesOf table
-unfolding entriesOf cells
+unfolding entriesIn entriesOf cells
 entriesIn-whole table = refl
 
 -- the triangles that meet a square, looked for among all numbers

@@ -58,6 +58,10 @@ entryOf s i = record { key = squareKey s; level = s .level; item = i }
 unfoldable pub cellEntries : Table → Square → List Entry
 cellEntries table s = map (λ i. entryOf s i) (orMark (trianglesMeeting table s))
 
+-- the entries of the cells within a square
+unfoldable pub entriesIn : Table → Square → List Entry
+entriesIn table s = flatMap (λ q. cellEntries table q) (cellsIn table s)
+
 -- the entries of a table, cell after cell
 unfoldable pub entriesOf : Table → List Entry
 entriesOf table = flatMap (λ s. cellEntries table s) (cells table)

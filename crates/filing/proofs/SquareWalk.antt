@@ -22,12 +22,12 @@ use Rattle.squares.specs.Square.{quarters, topLeft, topRight, bottomLeft, botto
 use Rattle.squares.proofs.SquareLaws.{quarters-aligned, quarters-level, quarter-key}
 use Rattle.squares.proofs.ZOrderLaws.{zOrder-bound}
 use Rattle.chart_spec.specs.Table.{Table, tableOf, numbered}
-use Rattle.chart_spec.specs.Cells.{commonEnd, sidesMeeting, stopped, trianglesMeeting, orMark, entryOf, cellEntries}
+use Rattle.chart_spec.specs.Cells.{commonEnd, sidesMeeting, stopped, trianglesMeeting, orMark, entryOf, cellEntries, entriesIn}
 use Rattle.chart_spec.proofs.FilingLaws.{entriesIn-stopped, entriesIn-split, meeting-narrow, quarter-within}
 use Rattle.shapes.specs.Shape.{triangleMeetsAt}
 use Rattle.shapes.proofs.ShapeLaws.{triangle-meets-at}
 use Rattle.shapes.proofs.PutLaws.{tableOf-length}
-use Rattle.filing.specs.Filing.{part, packed, entriesIn, Ready, Prepared, Candidates, Filed}
+use Rattle.filing.specs.Filing.{part, packed, Ready, Prepared, Candidates, Filed}
 use Rattle.filing.proofs.StackLaws.{part-length, filter-length}
 use Rattle.filing.proofs.StopLaws.{framed, corners-small, meeting-below}
 use Rattle.filing.proofs.WalkLaws.{filter-agree, part-stored, take-before, ready-stored}
@@ -92,7 +92,6 @@ module _ (n : ℕ) (ns sh o : List ℕ) (h : Prepared n ns sh o) (s : Square) (p
       → (16384 < at + length (orMark is) → r ≡ 16385)
       → take t l′ ≡ take t l → length out′ ≡ length out → length l′ ≡ length l
       → Filed (entriesIn (tableOf ns n) s) at r t out out′ l l′
-  unfolding entriesIn
   filed-leaf at r t out out′ l l′ is head st ei eh fits over kept outs stacks =
       let pc = packed-cell head eh in
       let len : length (orMark is) ≡ length (cellEntries (tableOf ns n) s) =
@@ -158,7 +157,7 @@ module _ (n : ℕ) (ns sh o : List ℕ) (h : Prepared n ns sh o) (s : Square) (p
 
     -- all four are the square's
     pub quarters-all : stopped (tableOf ns n) s ≡ false → flatMap (λ x. entriesIn (tableOf ns n) x) (take 4 (quarters s)) ≡ entriesIn (tableOf ns n) s
-    unfolding flatMap quarters entriesIn
+    unfolding flatMap quarters
     quarters-all st =
         ap (λ r. entriesIn (tableOf ns n) (topLeft s) ++ (entriesIn (tableOf ns n) (topRight s) ++ (entriesIn (tableOf ns n) (bottomLeft s) ++ r))) (append-nil (entriesIn (tableOf ns n) (bottomRight s)))
         ∙ sym (entriesIn-split (tableOf ns n) s lev st)

@@ -2,7 +2,7 @@
 -- Assumes nothing.
 use mathlib.Core.Path.{_≡_}
 use mathlib.Core.Bool.{Bool, true, false, cond, not, _&&_, _||_}
-use mathlib.Core.List.{List, [], _∷_, map, flatMap}
+use mathlib.Core.List.{List, [], _∷_, map}
 use Prim.Native.Nat.{ℕ, _+_, _*_, _-_, _≤_, _<_}
 use lib.Dec.{T}
 use lib.ListN.{length, getD, take, drop}
@@ -14,18 +14,14 @@ use Rattle.plane.specs.Triangle.{Side, proper}
 use Rattle.plane.specs.Box.{Box, triangleMeets}
 use Rattle.squares.specs.declared.Square.{Square}
 use Rattle.squares.specs.Square.{squareBox}
-use Rattle.chart_spec.specs.Table.{Table, pointAt, tableOf, numbered}
-use Rattle.chart_spec.specs.Cells.{isEnd, trianglesMeeting, cellEntries, cellsIn}
+use Rattle.chart_spec.specs.Table.{pointAt, tableOf, numbered}
+use Rattle.chart_spec.specs.Cells.{isEnd, trianglesMeeting}
 use Rattle.shapes.specs.Shape.{sideMeetsAt, Shaped}
 use Rattle.filing.specs.declared.Ends.{Ends}
 
 -- an entry as one number: key, level and item at places 32, 16 and 0
 unfoldable pub packed : Entry → ℕ
 packed e = e .key * 4294967296 + e .level * 65536 + e .item
-
--- the entries of the cells within a square
-unfoldable pub entriesIn : Table → Square → List Entry
-entriesIn table s = flatMap (λ q. cellEntries table q) (cellsIn table s)
 
 -- the list of one element where the test passes, else the empty list
 abbrev pub only : Bool → ℕ → List ℕ

@@ -16,9 +16,9 @@ ghost use Rattle.plane.specs.Triangle.{proper};
 ghost use Rattle.orthtree.specs.Entries.{span};
 ghost use Rattle.squares.specs.Square.{squareBox, squareKey, quarters, Aligned};
 ghost use Rattle.chart_spec.specs.Table.{tableOf};
-ghost use Rattle.chart_spec.specs.Cells.{stopped, trianglesMeeting, orMark, entriesOf};
+ghost use Rattle.chart_spec.specs.Cells.{stopped, trianglesMeeting, orMark, entriesIn, entriesOf};
 ghost use Rattle.shapes.specs.Shape.{boxOf, InGrid, triangleMeetsAt};
-ghost use Rattle.filing.specs.Filing.{only, part, Ready, Prepared, Candidates, Filed, entriesIn, packed, addWhen, addTriangle, addAll, noEnds, alive};
+ghost use Rattle.filing.specs.Filing.{only, part, Ready, Prepared, Candidates, Filed, packed, addWhen, addTriangle, addAll, noEnds, alive};
 
 // What is known of the ends of the sides seen so far: the two ends of the first, and whether each is an end of every one.
 pub struct Ends {

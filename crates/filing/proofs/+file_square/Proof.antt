@@ -9,7 +9,8 @@ use borrow.Author.Needs.{needs}
 use Rattle.orthtree.specs.Entries.{span}
 use Rattle.squares.specs.Square.{quarters, squareKey}
 use Rattle.chart_spec.specs.Table.{tableOf}
-use Rattle.filing.specs.Filing.{entriesIn, Filed, Candidates}
+use Rattle.chart_spec.specs.Cells.{entriesIn}
+use Rattle.filing.specs.Filing.{Filed}
 use Rattle.filing.proofs.WalkLaws.{filed-none, filed-join, ready-kept, part-kept, take-less}
 use Rattle.filing.proofs.SquareWalk.{Narrowed, after-narrow, narrow-room, level-below, key-small, filed-leaf, quarter-tree, quarter-level, quarter-first, quarter-candidates, quarters-more, quarters-all}
 use borrow.Fn.Kinds.{In}

@@ -6,7 +6,6 @@ use Rattle.squares.specs.Square.{squareKey}
 use Rattle.chart_spec.specs.Table.{tableOf}
 use Rattle.chart_spec.specs.Cells.{entriesOf}
 use Rattle.chart_spec.proofs.FilingLaws.{entriesIn-whole}
-use Rattle.filing.specs.Filing.{entriesIn}
 use Rattle.filing.proofs.WholeWalk.{whole-start, whole-key, whole-room}
 use borrow.Author.Needs.{needs}
 use Rattle.filing.proofs.file.Statement.{statement}
@@ -48,7 +47,6 @@ same-length-4 : tie.Need-same-length-4
 same-length-4 c = search needs
 
 returns : tie.Need-returns
-unfolding entriesIn
 returns c =
     let f = rw (c .before .before .before .before .before .before .whole .ensures, entriesIn-whole) at (c .before .before .before .before .file-square .ensures) in
     let z = zero-add (length (entriesOf (tableOf (c .before .before .before .before .before .before .before .before .before .before .before .before .before .before .before .before .before .before .before .before .before .before .before .before .before .before .args .table .now) (c .before .before .before .before .before .before .before .before .before .before .before .before .before .before .before .before .before .before .before .before .before .before .before .before .before .before .args .n)))) in
