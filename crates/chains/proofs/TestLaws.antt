@@ -3,7 +3,7 @@
 -- Assumes nothing.
 use mathlib.Core.Path.{_≡_, refl, sym, _∙_, ap}
 use mathlib.Core.Bool.{Bool, true, false, false≢true, not, _&&_, _||_}
-use Prim.Native.Nat.{ℕ, suc, _+_, _%_, _≤_, _<_}
+use Prim.Native.Nat.{ℕ, suc, _+_, _%_, _≤_, _<_, max}
 use native.Mathlib.Decide.{decLe}
 use native.Mathlib.Omega.{arith}
 use borrow.Author.Tests.{ltb-true, le-leb, eq-eqb, ne-eqb}
@@ -44,15 +44,10 @@ pub eqb-same : (a b c d : ℕ) → (a ≡ b → c ≡ d) → (c ≡ d → a ≡ 
 eqb-same a b c d f g = reflects-same (reflects-eqb a b) (reflects-iff g f (reflects-eqb c d))
 
 -- the larger of two numbers is at most m when both are
-pub larger-right : (a b m : ℕ) → a ≤ b → leb b m ≡ leb a m && leb b m
-larger-right a b m h =
-    reflects-same (reflects-leb b m)
-    (reflects-iff (λ p. p .1) (λ l. (omega arith, l)) (reflects-and (reflects-leb a m) (reflects-leb b m)))
-
-pub larger-left : (a b m : ℕ) → b ≤ a → leb a m ≡ leb a m && leb b m
-larger-left a b m h =
-    reflects-same (reflects-leb a m)
-    (reflects-iff (λ p. p .0) (λ l. (l, omega arith)) (reflects-and (reflects-leb a m) (reflects-leb b m)))
+pub leb-max : (a b m : ℕ) → leb (max a b) m ≡ leb a m && leb b m
+leb-max a b m =
+    reflects-same (reflects-leb (max a b) m)
+    (reflects-iff (λ p. omega arith) (λ l. (omega arith, omega arith)) (reflects-and (reflects-leb a m) (reflects-leb b m)))
 
 or-false : (a : Bool) {b : Bool} → b ≡ false → a ≡ a || b
 or-false true h = refl

@@ -2,39 +2,18 @@
 // but its own test and joins what it finds by `&`, `|` or the larger of two, so that the compiler judges several entries at a
 // time. Levels and items, which are narrower than keys, have loops of their own: more of them fit into one step.
 
-use plane::Point;
 ghost use mathlib.Core.Path.{_≡_};
-ghost use mathlib.Core.Bool.{true, false, _&&_, _||_};
+ghost use mathlib.Core.Bool.{true, false, _||_};
 ghost use Prim.Native.Nat.{ℕ, _+_, _*_, _≤_};
 ghost use lib.Dec.{leb, eqb};
 ghost use lib.ListN.{length, getD, take};
 ghost use Rattle.lists.specs.Lists.{all, upTo};
 ghost use Rattle.orthtree.specs.Entries.{span, chain};
-ghost use Rattle.plane.specs.Triangle.{proper, corners};
+ghost use Rattle.plane.specs.Triangle.{proper};
 ghost use Rattle.squares.specs.Square.{arity, depth};
-ghost use Rattle.chart_spec.specs.Table.{pointAt, triangleAt, tableOf};
+ghost use Rattle.chart_spec.specs.Table.{tableOf};
 ghost use Rattle.call_spec.specs.Buffers.{zipEntries, tooShort, chainRule};
 ghost use Rattle.chains.specs.Links.{chartOf, entry, itemFits, linked, linkedAt, endsTree};
-
-// The point at places k and k + 1 of a list of numbers.
-fn point(table: &[u16], k: usize) -> Point
-    requires { ⌜ k + 2 ≤ length (now table) ⌝ }
-    ensures { λ p. ⌜ p ≡ pointAt (now (table .entry)) k ⌝ }
-{
-    Point {
-        x: table[k],
-        y: table[k + 1],
-    }
-}
-
-// Triangle i of a list of numbers.
-fn triangle(table: &[u16], i: usize) -> [Point; 3]
-    requires { ⌜ 6 * i + 6 ≤ length (now table) ⌝ }
-    ensures { λ r. ⌜ r ≡ corners (triangleAt (now (table .entry)) i) ⌝ }
-{
-    let k = 6 * i;
-    [point(table, k), point(table, k + 2), point(table, k + 4)]
-}
 
 // Each of the first n triangles has D > 0.
 pub fn all_proper(table: &[u16], n: usize) -> bool
@@ -44,7 +23,7 @@ pub fn all_proper(table: &[u16], n: usize) -> bool
     let mut ok = true;
     let mut i = 0;
     while i < n {
-        ok = ok & geometry::is_proper(triangle(table, i));
+        ok = ok & geometry::is_proper(numbers::triangle_at(table, i));
         i += 1;
     }
     ok
@@ -64,12 +43,6 @@ fn levels_fit(levels: &[u8], n: usize) -> bool
     ok
 }
 
-fn larger(a: u16, b: u16) -> u16
-    ensures { λ r. ⌜ ((m : ℕ) → leb r m ≡ leb a m && leb b m) ⌝ }
-{
-    if a < b { b } else { a }
-}
-
 // The lowest triangle count for which an item fits: one more than it, and 0 for the mark.
 fn count_for(item: u16) -> u16
     ensures { λ r. ⌜ ((count : ℕ) → leb r count ≡ itemFits count item) ⌝ }
@@ -85,7 +58,7 @@ fn count_for_all(items: &[u16], n: usize) -> u16
     let mut most = 0;
     let mut i = 0;
     while i < n {
-        most = larger(most, count_for(items[i]));
+        most = numbers::larger(most, count_for(items[i]));
         i += 1;
     }
     most

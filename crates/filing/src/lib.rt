@@ -42,12 +42,6 @@ fn push_when(b: bool, stack: &mut [u16], top: usize, i: u16) -> usize
     top
 }
 
-fn wide(x: u16) -> usize
-    ensures { λ r. ⌜ (r ≡ x) × (r < 65536) ⌝ }
-{
-    x as usize
-}
-
 fn same(p: Point, q: Point) -> bool
     ensures { λ o. ⌜ o ≡ samePoint p q ⌝ }
 {
@@ -101,7 +95,7 @@ fn narrow(
     let mut k = from;
     while k < to {
         let i = stack[k];
-        let b = shapes::triangle_meets(shape, offsets, wide(i), f);
+        let b = shapes::triangle_meets(shape, offsets, numbers::index(i), f);
         top = push_when(b, stack, top, i);
         k += 1;
     }
@@ -113,9 +107,9 @@ fn add_triangle(table: &[u16], shape: &[u16], offsets: &[u64], i: usize, f: Fram
     requires { ⌜ (6 * i + 6 ≤ length (now table)) × ((28 * i + 28 ≤ length (now shape)) × ((3 * i + 3 ≤ length (now offsets)) × InGrid f)) ⌝ }
     ensures { λ r. ⌜ r ≡ addTriangle (now (table .entry)) (now (shape .entry)) (now (offsets .entry)) (boxOf f) e i ⌝ }
 {
-    let a = shapes::point_at(table, 6 * i);
-    let b = shapes::point_at(table, 6 * i + 2);
-    let c = shapes::point_at(table, 6 * i + 4);
+    let a = numbers::point_at(table, 6 * i);
+    let b = numbers::point_at(table, 6 * i + 2);
+    let c = numbers::point_at(table, 6 * i + 4);
     let ab = shapes::side_meets(shape, 28 * i, offsets[3 * i], f);
     let bc = shapes::side_meets(shape, 28 * i + 8, offsets[3 * i + 1], f);
     let ca = shapes::side_meets(shape, 28 * i + 16, offsets[3 * i + 2], f);
@@ -160,7 +154,7 @@ fn common_end(
     let mut e = no_ends();
     let mut k = from;
     while k < to {
-        let i = wide(stack[k]);
+        let i = numbers::index(stack[k]);
         e = add_triangle(table, shape, offsets, i, f, e);
         if !is_alive(e) {
             return false;
@@ -177,15 +171,9 @@ fn put_items(stack: &[u16], from: usize, to: usize, head: u64, out: &mut [u64], 
 {
     let mut k = from;
     while k < to {
-        out[at + (k - from)] = head + deep(stack[k]);
+        out[at + (k - from)] = head + numbers::wide(stack[k]);
         k += 1;
     }
-}
-
-fn deep(x: u16) -> u64
-    ensures { λ r. ⌜ (r ≡ x) × (r < 65536) ⌝ }
-{
-    x as u64
 }
 
 // The entries of a cell: one for each candidate, or the mark where there is none.

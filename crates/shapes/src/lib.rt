@@ -6,12 +6,12 @@
 
 use plane::Point;
 ghost use mathlib.Core.Path.{_≡_};
-ghost use Prim.Native.Nat.{_+_, _*_, _-_, _≤_, _<_, min, max};
-ghost use lib.ListN.{length, getD};
+ghost use Prim.Native.Nat.{_+_, _*_, _-_, _≤_};
+ghost use lib.ListN.{length};
 ghost use lib.Seq.{sets};
 ghost use mathlib.Core.List.{flatMap};
 ghost use Rattle.shapes.specs.Shape.{sideShape, boxShape, shapeOf, sideOffset, offsetsOf, boxOf, InGrid, reachAt, baseAt, touchesAt, triangleMeetsAt, sideMeetsAt};
-ghost use Rattle.chart_spec.specs.Table.{pointAt, triangleAt, tableOf};
+ghost use Rattle.chart_spec.specs.Table.{triangleAt, tableOf};
 
 // A box of the grid: left ≤ right ≤ 65536 and top ≤ bottom ≤ 65536.
 pub struct Frame {
@@ -21,18 +21,6 @@ pub struct Frame {
     pub bottom: u64,
 }
 
-fn smaller(a: u16, b: u16) -> u16
-    ensures { λ r. ⌜ r ≡ min a b ⌝ }
-{
-    if a < b { a } else { b }
-}
-
-fn larger(a: u16, b: u16) -> u16
-    ensures { λ r. ⌜ r ≡ max a b ⌝ }
-{
-    if a < b { b } else { a }
-}
-
 // a - b, or 0 where b is larger.
 fn beyond(a: u16, b: u16) -> u16
     ensures { λ r. ⌜ r ≡ a - b ⌝ }
@@ -40,27 +28,21 @@ fn beyond(a: u16, b: u16) -> u16
     if b < a { a - b } else { 0 }
 }
 
-fn wide(x: u16) -> u64
-    ensures { λ r. ⌜ (r ≡ x) × (r < 65536) ⌝ }
-{
-    x as u64
-}
-
 fn times(a: u16, b: u64) -> u64
     requires { ⌜ b ≤ 65536 ⌝ }
     ensures { λ r. ⌜ (r ≡ a * b) × (r ≤ 4294901760) ⌝ }
 {
-    wide(a) * b
+    numbers::wide(a) * b
 }
 
 // V(p) of the side from p to q.
 fn offset(p: Point, q: Point) -> u64
     ensures { λ r. ⌜ r ≡ sideOffset p q ⌝ }
 {
-    times(beyond(p.y, q.y), wide(p.x))
-        + times(beyond(q.y, p.y), 65536 - wide(p.x))
-        + times(beyond(q.x, p.x), wide(p.y))
-        + times(beyond(p.x, q.x), 65536 - wide(p.y))
+    times(beyond(p.y, q.y), numbers::wide(p.x))
+        + times(beyond(q.y, p.y), 65536 - numbers::wide(p.x))
+        + times(beyond(q.x, p.x), numbers::wide(p.y))
+        + times(beyond(p.x, q.x), 65536 - numbers::wide(p.y))
 }
 
 // The eight numbers of the side from p to q, from k on.
@@ -72,10 +54,10 @@ fn put_side(shape: &mut [u16], k: usize, p: Point, q: Point)
     shape[k + 1] = beyond(p.y, q.y);
     shape[k + 2] = beyond(p.x, q.x);
     shape[k + 3] = beyond(q.x, p.x);
-    shape[k + 4] = smaller(p.x, q.x);
-    shape[k + 5] = smaller(p.y, q.y);
-    shape[k + 6] = larger(p.x, q.x);
-    shape[k + 7] = larger(p.y, q.y);
+    shape[k + 4] = numbers::smaller(p.x, q.x);
+    shape[k + 5] = numbers::smaller(p.y, q.y);
+    shape[k + 6] = numbers::larger(p.x, q.x);
+    shape[k + 7] = numbers::larger(p.y, q.y);
 }
 
 // The bounding box of three points, from k on.
@@ -83,21 +65,10 @@ fn put_box(shape: &mut [u16], k: usize, a: Point, b: Point, c: Point)
     requires { ⌜ k + 4 ≤ length (now shape) ⌝ }
     ensures { λ r. ⌜ now (shape .exit) ≡ sets (now (shape .entry)) k (boxShape a b c) ⌝ }
 {
-    shape[k] = smaller(a.x, smaller(b.x, c.x));
-    shape[k + 1] = smaller(a.y, smaller(b.y, c.y));
-    shape[k + 2] = larger(a.x, larger(b.x, c.x));
-    shape[k + 3] = larger(a.y, larger(b.y, c.y));
-}
-
-// The point at places k and k + 1 of the table.
-pub fn point_at(table: &[u16], k: usize) -> Point
-    requires { ⌜ k + 2 ≤ length (now table) ⌝ }
-    ensures { λ r. ⌜ r ≡ pointAt (now (table .entry)) k ⌝ }
-{
-    Point {
-        x: table[k],
-        y: table[k + 1],
-    }
+    shape[k] = numbers::smaller(a.x, numbers::smaller(b.x, c.x));
+    shape[k + 1] = numbers::smaller(a.y, numbers::smaller(b.y, c.y));
+    shape[k + 2] = numbers::larger(a.x, numbers::larger(b.x, c.x));
+    shape[k + 3] = numbers::larger(a.y, numbers::larger(b.y, c.y));
 }
 
 // The 28 numbers of a triangle, from k on.
@@ -127,9 +98,9 @@ fn put_triangle(table: &[u16], i: usize, shape: &mut [u16], offsets: &mut [u64])
     ensures { λ r. ⌜ now (shape .exit) ≡ sets (now (shape .entry)) (28 * i) (shapeOf (triangleAt (now (table .entry)) i)) ⌝ }
     ensures { λ r. ⌜ now (offsets .exit) ≡ sets (now (offsets .entry)) (3 * i) (offsetsOf (triangleAt (now (table .entry)) i)) ⌝ }
 {
-    let a = point_at(table, 6 * i);
-    let b = point_at(table, 6 * i + 2);
-    let c = point_at(table, 6 * i + 4);
+    let a = numbers::point_at(table, 6 * i);
+    let b = numbers::point_at(table, 6 * i + 2);
+    let c = numbers::point_at(table, 6 * i + 4);
     put_shape(shape, 28 * i, a, b, c);
     put_offsets(offsets, 3 * i, a, b, c);
 }
@@ -174,10 +145,10 @@ fn touches(shape: &[u16], k: usize, f: Frame) -> bool
     requires { ⌜ k + 4 ≤ length (now shape) ⌝ }
     ensures { λ o. ⌜ o ≡ touchesAt (now (shape .entry)) k (boxOf f) ⌝ }
 {
-    (f.left <= wide(shape[k + 2]))
-        & (wide(shape[k]) <= f.right)
-        & (f.top <= wide(shape[k + 3]))
-        & (wide(shape[k + 1]) <= f.bottom)
+    (f.left <= numbers::wide(shape[k + 2]))
+        & (numbers::wide(shape[k]) <= f.right)
+        & (f.top <= numbers::wide(shape[k + 3]))
+        & (numbers::wide(shape[k + 1]) <= f.bottom)
 }
 
 // Triangle i meets the frame.

@@ -18,8 +18,8 @@ abbrev μ-loop : tie.MeasureT-loop
 loop-holds : tie.Need-loop-holds Inv-loop μ-loop
 loop-holds c = (search needs, sym (all-below-none (λ k. proper (triangleAt (c .before .args .table .now) k))))
 
-triangle-requires : tie.Need-triangle-requires Inv-loop μ-loop
-triangle-requires c κs = omega arith
+triangle-at-requires : tie.Need-triangle-at-requires Inv-loop μ-loop
+triangle-at-requires c κs = omega arith
 
 is-proper-requires : tie.Need-is-proper-requires Inv-loop μ-loop
 is-proper-requires c κs = search needs
@@ -37,7 +37,7 @@ loop-again c =
     let l = c .before .before .before .loop in (
       omega arith,
       all-below-step (λ k. proper (triangleAt table k)) (l .i) (l .inv .1)
-          (c .is-proper .ensures ∙ ap (λ t. proper (triangleOf t)) (c .before .triangle .ensures)),
+          (c .is-proper .ensures ∙ ap (λ t. proper (triangleOf t)) (c .before .triangle-at .ensures)),
     )
 
 returns : tie.Need-returns Inv-loop μ-loop
@@ -56,7 +56,7 @@ all-proper-spec =
     Inv-loop
     μ-loop
     loop-holds
-    triangle-requires
+    triangle-at-requires
     is-proper-requires
     add-i
     loop-less

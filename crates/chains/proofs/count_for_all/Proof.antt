@@ -7,6 +7,7 @@ use lib.ListN.{getD}
 use Rattle.lists.specs.Lists.{all, upTo}
 use Rattle.lists.proofs.IndexLaws.{all-below-none, all-below-step}
 use Rattle.chains.specs.Links.{itemFits}
+use Rattle.chains.proofs.TestLaws.{leb-max}
 use Rattle.chains.proofs.count_for_all.Statement.{statement}
 use Rattle.chains.proofs.count_for_all.Tie as tie
 
@@ -43,7 +44,7 @@ loop-again c =
     let l = c .before .before .before .before .loop in
     let one = c .before .count-for in (
       omega arith,
-      λ count. c .larger .ensures count ∙ all-below-step (λ k. itemFits count (getD items k 0)) (l .i) (l .inv .1 count) (one .ensures count),
+      λ count. ap (λ m. leb m count) (c .larger .ensures) ∙ leb-max (l .most) (one .result) count ∙ all-below-step (λ k. itemFits count (getD items k 0)) (l .i) (l .inv .1 count) (one .ensures count),
     )
 
 returns : tie.Need-returns Inv-loop μ-loop

@@ -33,17 +33,17 @@ loop-holds c =
       ),
     )
 
-mul-wide : tie.Need-mul-wide Inv-loop μ-loop
-mul-wide c = omega arith
+mul-index : tie.Need-mul-index Inv-loop μ-loop
+mul-index c = omega arith
 
-shared-slice-read-wide : tie.Need-shared-slice-read-wide Inv-loop μ-loop
-shared-slice-read-wide c =
+shared-slice-read-index : tie.Need-shared-slice-read-index Inv-loop μ-loop
+shared-slice-read-index c =
     let a = c .before .before .before .before .before .before .before .before .args in
     let g = c .before .before .before .before .before .before .before .before .pre .0 in
     omega (arith, g .within)
 
-wide-requires : tie.Need-wide-requires Inv-loop μ-loop
-wide-requires c κs = tt
+index-requires : tie.Need-index-requires Inv-loop μ-loop
+index-requires c κs = tt
 
 add-triangle-requires : tie.Need-add-triangle-requires Inv-loop μ-loop
 add-triangle-requires c κs =
@@ -51,7 +51,7 @@ add-triangle-requires c κs =
     let g = c .before .before .before .before .before .before .before .before .before .pre .0 in
     let v = c .before .before .before .loop .inv in
     let h = g .held (c .before .before .before .loop .k) (v .0 .0) (c .before .before .loop-test .taken) in
-    let w = c .wide .ensures .0 in
+    let w = c .index .ensures .0 in
     (omega (arith, g .tables), (omega (arith, g .shapes), (omega (arith, g .offs), c .before .before .before .before .before .before .before .before .before .pre .1)))
 
 is-alive-requires : tie.Need-is-alive-requires Inv-loop μ-loop
@@ -64,7 +64,7 @@ returns c =
     let v = c .before .before .before .before .before .before .loop .inv in
     let e : c .before .before .add-triangle .result ≡ addAll (a .table .now) (a .shape .now) (a .offsets .now) (boxOf (a .f)) noEnds (part (a .from) (c .before .before .before .before .before .before .loop .k + 1) (a .stack .now)) =
     c .before .before .add-triangle .ensures
-    ∙ ap₂ (addTriangle (a .table .now) (a .shape .now) (a .offsets .now) (boxOf (a .f))) (v .1 .0) (c .before .before .before .wide .ensures .0)
+    ∙ ap₂ (addTriangle (a .table .now) (a .shape .now) (a .offsets .now) (boxOf (a .f))) (v .1 .0) (c .before .before .before .index .ensures .0)
     ∙ sym (addAll-snoc (a .table .now) (a .shape .now) (a .offsets .now) (boxOf (a .f)) noEnds (part (a .from) (c .before .before .before .before .before .before .loop .k) (a .stack .now)) (getD (a .stack .now) (c .before .before .before .before .before .before .loop .k) 0))
     ∙ ap (addAll (a .table .now) (a .shape .now) (a .offsets .now) (boxOf (a .f)) noEnds) (sym (part-snoc (a .from) (c .before .before .before .before .before .before .loop .k) (a .stack .now) (v .0 .0) (omega (arith, g .within))))
     in
@@ -87,7 +87,7 @@ loop-again c =
     let v = c .before .before .before .before .before .before .loop .inv in
     let e : c .before .before .add-triangle .result ≡ addAll (a .table .now) (a .shape .now) (a .offsets .now) (boxOf (a .f)) noEnds (part (a .from) (c .before .before .before .before .before .before .loop .k + 1) (a .stack .now)) =
     c .before .before .add-triangle .ensures
-    ∙ ap₂ (addTriangle (a .table .now) (a .shape .now) (a .offsets .now) (boxOf (a .f))) (v .1 .0) (c .before .before .before .wide .ensures .0)
+    ∙ ap₂ (addTriangle (a .table .now) (a .shape .now) (a .offsets .now) (boxOf (a .f))) (v .1 .0) (c .before .before .before .index .ensures .0)
     ∙ sym (addAll-snoc (a .table .now) (a .shape .now) (a .offsets .now) (boxOf (a .f)) noEnds (part (a .from) (c .before .before .before .before .before .before .loop .k) (a .stack .now)) (getD (a .stack .now) (c .before .before .before .before .before .before .loop .k) 0))
     ∙ ap (addAll (a .table .now) (a .shape .now) (a .offsets .now) (boxOf (a .f)) noEnds) (sym (part-snoc (a .from) (c .before .before .before .before .before .before .loop .k) (a .stack .now) (v .0 .0) (omega (arith, g .within))))
     in
@@ -109,9 +109,9 @@ common-end-spec =
     μ-loop
     no-ends-requires
     loop-holds
-    mul-wide
-    shared-slice-read-wide
-    wide-requires
+    mul-index
+    shared-slice-read-index
+    index-requires
     add-triangle-requires
     is-alive-requires
     returns

@@ -10,11 +10,6 @@ use Rattle.filing.specs.Filing.{part}
 use Rattle.filing.proofs.StackLaws.{Narrowing, narrowing-start, narrowing-read, narrowing-room, narrowing-next}
 use Rattle.filing.proofs.narrow.Statement.{statement}
 use Rattle.filing.proofs.narrow.Tie as tie
-use Rattle.filing.proofs.narrow.Reads as reads
-use Rattle.filing.proofs.narrow.Lts as lts
-use Rattle.filing.proofs.push_when.Reads as push-when-reads
-use Rattle.filing.proofs.wide.Reads as wide-reads
-use Rattle.shapes.proofs.triangle_meets.Reads as triangle-meets-reads
 
 abbrev Inv-loop : tie.InvT-loop
 Inv-loop table n shape offsets stack₀ from to f top₀ k₀ stack top k =
@@ -23,7 +18,6 @@ Inv-loop table n shape offsets stack₀ from to f top₀ k₀ stack top k =
 abbrev μ-loop : tie.MeasureT-loop
 μ-loop table n shape offsets stack₀ from to f top₀ k₀ stack top k = to - k
 
--- src/lib.rt:95:5
 loop-holds : tie.Need-loop-holds Inv-loop μ-loop
 loop-holds c =
     let a = c .before .before .before .before .args in
@@ -31,11 +25,9 @@ loop-holds c =
     let m : ℕ → Bool = λ i. triangleMeetsAt (a .shape .now) (a .offsets .now) i (boxOf (a .f)) in
     narrowing-start m (a .stack .now) (a .from) (a .to) (g .within) (g .order)
 
--- src/lib.rt:96:17
 mul-i : tie.Need-mul-i Inv-loop μ-loop
 mul-i c = omega arith
 
--- src/lib.rt:96:17
 slice-read-i : tie.Need-slice-read-i Inv-loop μ-loop
 slice-read-i c =
     let a = c .before .before .before .before .before .before .before .args in
@@ -45,11 +37,9 @@ slice-read-i c =
     let e = sets-length (a .stack .now) (a .to) (filter m (part (a .from) (c .before .before .loop .k) (a .stack .now))) (v .stored) in
     omega (arith, g .within)
 
--- src/lib.rt:97:56
-wide-requires : tie.Need-wide-requires Inv-loop μ-loop
-wide-requires c κs = tt
+index-requires : tie.Need-index-requires Inv-loop μ-loop
+index-requires c κs = tt
 
--- src/lib.rt:97:13
 triangle-meets-requires : tie.Need-triangle-meets-requires Inv-loop μ-loop
 triangle-meets-requires c κs =
     let a = c .before .before .before .before .before .before .before .before .args in
@@ -58,10 +48,9 @@ triangle-meets-requires c κs =
     let v = c .before .before .before .loop .inv in
     let r = narrowing-read m (a .stack .now) (a .from) (a .to) (g .within) (c .before .before .before .loop .stack) (c .before .before .before .loop .k) (c .before .before .before .loop .top) v (c .before .before .loop-test .taken) in
     let h = g .held (c .before .before .before .loop .k) (v .low) (c .before .before .loop-test .taken) in
-    let w = c .wide .ensures .0 in
+    let w = c .index .ensures .0 in
     (omega (arith, g .shapes), (omega (arith, g .offs), c .before .before .before .before .before .before .before .before .pre .1 .1))
 
--- src/lib.rt:98:9
 push-when-requires : tie.Need-push-when-requires Inv-loop μ-loop
 push-when-requires c κs =
     let a = c .before .before .before .before .before .before .before .before .before .before .args in
@@ -72,15 +61,12 @@ push-when-requires c κs =
     let r = narrowing-room m (a .stack .now) (a .from) (a .to) (g .within) (c .before .before .before .before .before .loop .stack) (c .before .before .before .before .before .loop .k) (c .before .before .before .before .before .loop .top) v in
     omega (arith, v .low, c .before .before .before .before .before .before .before .before .before .before .pre .1 .0)
 
--- src/lib.rt:99:9
 add-k : tie.Need-add-k Inv-loop μ-loop
 add-k c = omega arith
 
--- src/lib.rt:95:5
 loop-less : tie.Need-loop-less Inv-loop μ-loop
 loop-less c = omega arith
 
--- src/lib.rt:95:5
 loop-again : tie.Need-loop-again Inv-loop μ-loop
 loop-again c =
     let a = c .before .before .before .before .before .before .before .before .before .before .before .before .before .args in
@@ -93,11 +79,10 @@ loop-again c =
     v
     (c .before .before .before .before .before .before .before .loop-test .taken)
     refl
-    (c .before .before .before .before .triangle-meets .ensures ∙ ap m (c .before .before .before .before .before .wide .ensures .0))
+    (c .before .before .before .before .triangle-meets .ensures ∙ ap m (c .before .before .before .before .before .index .ensures .0))
     (c .before .before .push-when .ensures .0)
     (c .before .before .push-when .ensures .1)
 
--- src/lib.rt:78:1
 same-length : tie.Need-same-length Inv-loop μ-loop
 same-length c =
     let a = c .before .before .before .before .before .before .args in
@@ -105,7 +90,6 @@ same-length c =
     let m : ℕ → Bool = λ i. triangleMeetsAt (a .shape .now) (a .offsets .now) i (boxOf (a .f)) in
     sets-length (a .stack .now) (a .to) (filter m (part (a .from) (c .before .loop .k) (a .stack .now))) (c .before .loop .inv .stored)
 
--- src/lib.rt:78:1
 returns : tie.Need-returns Inv-loop μ-loop
 returns c =
     let v = c .before .loop .inv in
@@ -121,7 +105,7 @@ narrow-spec =
     loop-holds
     mul-i
     slice-read-i
-    wide-requires
+    index-requires
     triangle-meets-requires
     push-when-requires
     add-k

@@ -21,14 +21,14 @@ loop-holds c =
     let a = c .before .before .args in
     ((omega arith, omega arith), rw (part-none (a .from) (a .stack .now)) refl)
 
-mul-deep : tie.Need-mul-deep Inv-loop μ-loop
-mul-deep c = omega arith
+mul-wide : tie.Need-mul-wide Inv-loop μ-loop
+mul-wide c = omega arith
 
-shared-slice-read-deep : tie.Need-shared-slice-read-deep Inv-loop μ-loop
-shared-slice-read-deep c = omega arith
+shared-slice-read-wide : tie.Need-shared-slice-read-wide Inv-loop μ-loop
+shared-slice-read-wide c = omega arith
 
-deep-requires : tie.Need-deep-requires Inv-loop μ-loop
-deep-requires c κs = tt
+wide-requires : tie.Need-wide-requires Inv-loop μ-loop
+wide-requires c κs = tt
 
 add-out : tie.Need-add-out Inv-loop μ-loop
 add-out c = omega arith
@@ -68,7 +68,7 @@ loop-again c =
     let a = c .before .before .before .before .before .before .args in
     let v = c .before .before .before .loop .inv in (
       (omega arith, omega arith),
-      stored-item (a .head) (a .out .now) (c .before .before .before .loop .out) (a .stack .now) (a .from) (c .before .before .before .loop .k) (a .at) (v .0 .0) (omega arith) (v .1) (c .deep .result) (c .deep .ensures .0),
+      stored-item (a .head) (a .out .now) (c .before .before .before .loop .out) (a .stack .now) (a .from) (c .before .before .before .loop .k) (a .at) (v .0 .0) (omega arith) (v .1) (c .wide .result) (c .wide .ensures .0),
     )
 
 same-length : tie.Need-same-length Inv-loop μ-loop
@@ -91,9 +91,9 @@ put-items-spec =
     Inv-loop
     μ-loop
     loop-holds
-    mul-deep
-    shared-slice-read-deep
-    deep-requires
+    mul-wide
+    shared-slice-read-wide
+    wide-requires
     add-out
     sub-out
     add-out-2

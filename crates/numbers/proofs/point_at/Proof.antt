@@ -1,8 +1,8 @@
 use mathlib.Core.Path.{refl}
 use Rattle.chart_spec.specs.Table.{pointAt}
 use borrow.Author.Needs.{needs}
-use Rattle.chains.proofs.point.Statement.{statement}
-use Rattle.chains.proofs.point.Tie as tie
+use Rattle.numbers.proofs.point_at.Statement.{statement}
+use Rattle.numbers.proofs.point_at.Tie as tie
 
 mul-t3 : tie.Need-mul-t3
 mul-t3 c = search needs
@@ -23,6 +23,6 @@ returns : tie.Need-returns
 unfolding pointAt
 returns c = refl
 
-pub point-spec : {M : Type 1} → statement M
-point-spec =
+pub point-at-spec : {M : Type 1} → statement M
+point-at-spec =
     tie.close (tie.spec mul-t3 shared-slice-read-t5 add-t6 mul-t7 shared-slice-read-t9 returns)
