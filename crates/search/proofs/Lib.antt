@@ -1,1 +1,3 @@
 pub mod HalvesLaws
+pub mod PartLaws
+pub mod BlockLaws
