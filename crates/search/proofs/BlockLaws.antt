@@ -21,6 +21,13 @@ use Rattle.orthtree.proofs.ChainOrderLaws.{Before, before-end, chain-ordered, c
 use Rattle.orthtree.proofs.ChainBlockLaws.{endedAt, startedAt, endedBy, startedBy, chain-block, chain-block-some}
 use Rattle.search.specs.Passes.{Rises, Passes}
 
+-- the entries of the cell that has the key k are those from place from up to place to, at least one, with one key
+pub record CellPart (arity depth k : ℕ) (es : List Entry) (d : Entry) (from to : ℕ) : Type 0 where
+  pub some : from < to
+  pub within : to ≤ length es
+  pub key : (i : ℕ) → from ≤ i → i < to → getD es i d .key ≡ getD es from d .key
+  pub entries : filter (λ e. covers arity depth k e) es ≡ take (to - from) (drop from es)
+
 -- keys reach their own value at place r, from which the key at place m on is not below it
 reach : (keys : List ℕ) (n m r : ℕ) → m < n → Passes keys n (getD keys m 0) r → r ≤ m
 reach keys n m r l q = elim (decLe r m) [
@@ -90,12 +97,11 @@ module _ (arity depth count : ℕ) (pos : 0 < arity) (es : List Entry) (rule : T
       ]
 
       module _ (from : ℕ) (q : Passes keys n (getD keys (to - 1) 0) from) where
-        -- the cell's entries are at least one
-        pub from-below : from < to
+        from-below : from < to
         from-below = omega (arith, to-positive, reach keys n (to - 1) from last-in q)
 
-        -- and have the same key
-        pub block-key : (i : ℕ) → from ≤ i → i < to → getD keys i 0 ≡ getD keys (to - 1) 0
+        -- keys between the two places are the same
+        block-key : (i : ℕ) → from ≤ i → i < to → getD keys i 0 ≡ getD keys (to - 1) 0
         block-key i h l = omega (arith, keys-rise .later i (to - 1) (omega arith) last-in, q .after i h (omega (arith, last-in)))
 
         -- entries before place from are of cells that end at or before the key
@@ -107,7 +113,7 @@ module _ (arity depth count : ℕ) (pos : 0 < arity) (es : List Entry) (rule : T
                 absurd (omega (arith, s .key, same i (omega (arith, from-below, last-in)), q .before i l, last-key))
             go (inr h) = omega (arith, last-key, last-started)
 
-        -- the one there is of the cell that has it
+        -- the entry there is of the cell that has it
         first-goes-on : k < rangeEnd arity depth (getD es from d)
         unfolding rangeEnd
         first-goes-on = go (decLe (to - 1) from)
@@ -122,13 +128,19 @@ module _ (arity depth count : ℕ) (pos : 0 < arity) (es : List Entry) (rule : T
             go (yes g) = let e : from ≡ to - 1 = omega (arith, from-below) in rw e last-goes-on
             go (no g) = next (before-at from (to - 1) (omega arith) last-in)
 
-        -- so the cell's entries start at place from
-        pub from-ended : from ≡ endedBy arity depth k es
+        from-ended : from ≡ endedBy arity depth k es
         from-ended =
             run-unique (endedAt arity depth k) es from d (omega (arith, from-below, p .within))
             (λ i l. le-leb (rangeEnd arity depth (getD es i d)) k (early-ended i l))
             (λ l. lt-leb (rangeEnd arity depth (getD es from d)) k first-goes-on)
 
-        -- the entries of the cell that has the key k are those from place from up to place to
-        pub cell-part : filter (λ e. covers arity depth k e) es ≡ take (to - from) (drop from es)
-        cell-part = chain-block arity depth k count pos es rule ∙ sym (ap₂ (λ t f. take (t - f) (drop f es)) to-started from-ended)
+        -- the two places are where the entries of the cell that has the key k start and end
+        pub cell-part : CellPart arity depth k es d from to
+        cell-part = record {
+          some = from-below;
+          within = omega (arith, p .within);
+          key = λ i h l. same i (omega (arith, p .within)) ∙ block-key i h l
+              ∙ sym (same from (omega (arith, from-below, p .within)) ∙ block-key from (omega arith) from-below);
+          entries = chain-block arity depth k count pos es rule
+              ∙ sym (ap₂ (λ t f. take (t - f) (drop f es)) to-started from-ended);
+        }
