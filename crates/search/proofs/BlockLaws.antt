@@ -28,7 +28,7 @@ pub record CellPart (arity depth k : ℕ) (es : List Entry) (d : Entry) (from to
   pub key : (i : ℕ) → from ≤ i → i < to → getD es i d .key ≡ getD es from d .key
   pub entries : filter (λ e. covers arity depth k e) es ≡ take (to - from) (drop from es)
 
--- keys reach their own value at place r, from which the key at place m on is not below it
+-- the place from which on keys are not below the key at place m is not after m
 reach : (keys : List ℕ) (n m r : ℕ) → m < n → Passes keys n (getD keys m 0) r → r ≤ m
 reach keys n m r l q = elim (decLe r m) [
   | yes h ↦ h
@@ -37,6 +37,7 @@ reach keys n m r l q = elim (decLe r m) [
 
 module _ (arity depth count : ℕ) (pos : 0 < arity) (es : List Entry) (rule : T (chain arity depth count es)) (d : Entry)
     (keys : List ℕ) (n : ℕ) (len : length es ≡ n) (same : (i : ℕ) → i < n → getD es i d .key ≡ getD keys i 0) where
+  -- a later entry is of the same cell, or of one that starts where this one ends or after that
   before-at : (i j : ℕ) → i < j → j < n → Before arity depth (getD es i d) (getD es j d)
   before-at i j h l = ordered-at i j d (chain-ordered arity depth count pos es rule) h (omega arith)
 
@@ -51,18 +52,18 @@ module _ (arity depth count : ℕ) (pos : 0 < arity) (es : List Entry) (rule : T
           omega (arith, same i (omega arith), same j l)
 
   module _ (k to : ℕ) (p : Passes keys n (k + 1) to) where
-    -- entries at or before the key k end where keys pass it
-    pub to-started : to ≡ startedBy k es
+    -- cells that start at or before the key k are those of the entries before place to
+    to-started : to ≡ startedBy k es
     to-started =
         run-unique (startedAt k) es to d (omega (arith, p .within))
         (λ i l. le-leb (getD es i d .key) k (omega (arith, same i (omega (arith, p .within)), p .before i l)))
         (λ l. lt-leb (getD es to d .key) k (omega (arith, same to (omega arith), p .after to (omega arith) (omega arith))))
 
     module _ (low : k < span arity depth 0) where
+      -- one of them does not end at or before it
       some : endedBy arity depth k es < to
       some = rw to-started (chain-block-some arity depth k count pos es rule low)
 
-      -- there is one
       pub to-positive : 0 < to
       to-positive = omega (arith, some)
 
@@ -97,6 +98,7 @@ module _ (arity depth count : ℕ) (pos : 0 < arity) (es : List Entry) (rule : T
       ]
 
       module _ (from : ℕ) (q : Passes keys n (getD keys (to - 1) 0) from) where
+        -- the key at place to - 1 is not below itself
         from-below : from < to
         from-below = omega (arith, to-positive, reach keys n (to - 1) from last-in q)
 
@@ -104,7 +106,7 @@ module _ (arity depth count : ℕ) (pos : 0 < arity) (es : List Entry) (rule : T
         block-key : (i : ℕ) → from ≤ i → i < to → getD keys i 0 ≡ getD keys (to - 1) 0
         block-key i h l = omega (arith, keys-rise .later i (to - 1) (omega arith) last-in, q .after i h (omega (arith, last-in)))
 
-        -- entries before place from are of cells that end at or before the key
+        -- an entry before place from is of a cell that ends at or before the key
         early-ended : (i : ℕ) → i < from → rangeEnd arity depth (getD es i d) ≤ k
         early-ended i l = go (before-at i (to - 1) (omega (arith, from-below)) last-in)
           where
@@ -113,7 +115,7 @@ module _ (arity depth count : ℕ) (pos : 0 < arity) (es : List Entry) (rule : T
                 absurd (omega (arith, s .key, same i (omega (arith, from-below, last-in)), q .before i l, last-key))
             go (inr h) = omega (arith, last-key, last-started)
 
-        -- the entry there is of the cell that has it
+        -- the entry at place from is of the cell that has the key
         first-goes-on : k < rangeEnd arity depth (getD es from d)
         unfolding rangeEnd
         first-goes-on = go (decLe (to - 1) from)
@@ -128,6 +130,7 @@ module _ (arity depth count : ℕ) (pos : 0 < arity) (es : List Entry) (rule : T
             go (yes g) = let e : from ≡ to - 1 = omega (arith, from-below) in rw e last-goes-on
             go (no g) = next (before-at from (to - 1) (omega arith) last-in)
 
+        -- cells that end at or before the key are those of the entries before place from
         from-ended : from ≡ endedBy arity depth k es
         from-ended =
             run-unique (endedAt arity depth k) es from d (omega (arith, from-below, p .within))

@@ -20,6 +20,7 @@ use Rattle.orthtree.proofs.ChainLaws.{NextItem, Follows, ChainAfter, last, link
 use Rattle.search.proofs.PartLaws.{part-every}
 
 module _ (arity depth count : ℕ) (d : Entry) where
+  -- each entry follows the one before it, by places
   after-next : {e : Entry} {es : List Entry} → ChainAfter arity depth count e es → (i : ℕ) → i < length es
       → Follows arity depth (getD (e ∷ es) i d) (getD es i d)
   after-next (last h) i l = absurd (omega arith)
@@ -61,7 +62,7 @@ module _ (arity depth count : ℕ) (d : Entry) where
         | no b ↦ absurd (pair from (omega arith) (omega arith) .firstItem m)
       ]
 
-      -- the cell's items are all of them
+      -- entries that start with an item are all kept
       pub items-kept : (getD es from d .item ≡ emptyMark → ⊥)
           → filter (λ e. not (isMark e)) (take (to - from) (drop from es)) ≡ take (to - from) (drop from es)
       items-kept n =
@@ -69,7 +70,7 @@ module _ (arity depth count : ℕ) (d : Entry) where
           (part-every es from to (omega arith) w (λ e. not (isMark e) ≡ true) d (λ i g l.
           test-true (reflects-no (isMark-reflects (getD es i d)) .from (all-items n i g l))))
 
-      -- or it has none
+      -- those that start with a mark are all left out
       pub mark-dropped : getD es from d .item ≡ emptyMark → filter (λ e. not (isMark e)) (take (to - from) (drop from es)) ≡ []
       mark-dropped m =
           filter-none (λ e. not (isMark e)) (take (to - from) (drop from es))
