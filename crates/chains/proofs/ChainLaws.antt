@@ -1,6 +1,6 @@
 -- The chain rule by places: what `chain` says of every entry and of every two neighbours. Over any arity and depth.
 -- Assumes nothing.
-use mathlib.Core.Path.{_≡_, refl, sym, _∙_, ap, subst}
+use mathlib.Core.Path.{_≡_, sym, _∙_, ap, subst}
 use mathlib.Core.Bool.{_&&_}
 use mathlib.Core.List.{List, [], _∷_}
 use Prim.Native.Nat.{ℕ, zero, suc, _≤_, _<_}
@@ -12,6 +12,7 @@ use lib.Seq.{length-take-le, getD-take}
 use Rattle.lists.proofs.Reflects.{Reflects, reflects-and, reflects-then, reflects-iff, reflects-eqb, reflects-test}
 use Rattle.orthtree.specs.Entries.{Entry, span, rangeEnd, entryFits, follows, chainAfter, chain}
 use Rattle.call_spec.specs.Buffers.{zipEntries}
+use Rattle.call_spec.proofs.BuffersLaws.{zip-at, zip-length}
 use Rattle.chains.specs.Links.{entry, entryAt}
 
 -- what holds at 0, and at one more than each number below n, holds at each number below n + 1
@@ -93,29 +94,11 @@ module _ (arity depth count : ℕ) where
     end = subst (λ d. T (eqb (rangeEnd arity depth d) (span arity depth 0))) (e m (omega arith)) (c .end);
   }
 
--- the entries of three lists, by their places
-zip-at : (ks ls is : List ℕ) (i : ℕ) → i < length ks → i < length ls → i < length is
-    → getD (zipEntries ks ls is) i nowhere ≡ entryAt ks ls is i
-unfolding zipEntries entryAt
-zip-at [] ls is i a b c = absurd (omega arith)
-zip-at (k ∷ ks) [] is i a b c = absurd (omega arith)
-zip-at (k ∷ ks) (l ∷ ls) [] i a b c = absurd (omega arith)
-zip-at (k ∷ ks) (l ∷ ls) (t ∷ ts) zero a b c = refl
-zip-at (k ∷ ks) (l ∷ ls) (t ∷ ts) (suc i) a b c = zip-at ks ls ts i (omega arith) (omega arith) (omega arith)
-
-zip-length : (ks ls is : List ℕ) (n : ℕ) → n ≤ length ks → n ≤ length ls → n ≤ length is → n ≤ length (zipEntries ks ls is)
-unfolding zipEntries
-zip-length [] ls is n a b c = a
-zip-length (k ∷ ks) [] is n a b c = b
-zip-length (k ∷ ks) (l ∷ ls) [] n a b c = c
-zip-length (k ∷ ks) (l ∷ ls) (t ∷ ts) zero a b c = omega arith
-zip-length (k ∷ ks) (l ∷ ls) (t ∷ ts) (suc n) a b c =
-    let h = zip-length ks ls ts n (omega arith) (omega arith) (omega arith) in omega arith
-
 module _ (arity depth count : ℕ) (ks ls is : List ℕ) (n m : ℕ) (e : n ≡ suc m)
     (a : n ≤ length ks) (b : n ≤ length ls) (c : n ≤ length is) where
   -- the chain rule on the first n entries of three lists
   pub chain-reflects : Reflects (chain arity depth count (take n (zipEntries ks ls is))) (Chained arity depth count (λ i. entryAt ks ls is i) m)
+  unfolding entryAt
   chain-reflects =
       reflects-iff (chained-same arity depth count same) (chained-same arity depth count (λ i l. sym (same i l)))
       (chain-list arity depth count (take n (zipEntries ks ls is)) m (length-take-le n (zipEntries ks ls is) (zip-length ks ls is n a b c) ∙ e))
@@ -123,4 +106,4 @@ module _ (arity depth count : ℕ) (ks ls is : List ℕ) (n m : ℕ) (e : n ≡ 
       same : (i : ℕ) → i < suc m → getD (take n (zipEntries ks ls is)) i nowhere ≡ entryAt ks ls is i
       same i l =
           getD-take n (zipEntries ks ls is) i nowhere (omega arith)
-          ∙ zip-at ks ls is i (omega arith) (omega arith) (omega arith)
+          ∙ zip-at ks ls is i nowhere (omega arith) (omega arith) (omega arith)

@@ -1,0 +1,97 @@
+-- The listing of the cell that has a key, as a part of the list of items: the two places are what two searches in the keys find.
+-- The idea: the cell's entries are the part of the entries between the two places, so its items are that part of the items,
+-- unless its one entry is the mark.
+-- Assumes nothing.
+use mathlib.Core.Path.{_≡_, sym, _∙_, ap}
+use mathlib.Core.Bool.{not}
+use mathlib.Core.List.{List, [], map}
+use Prim.Native.Nat.{ℕ, _+_, _-_, _≤_, _<_}
+use native.Mathlib.Omega.{arith}
+use lib.Dec.{T}
+use lib.ListN.{length, getD, take, drop}
+use lib.Seq.{length-take-le, getD-take}
+use Rattle.lists.specs.Lists.{filter}
+use Rattle.orthtree.specs.Entries.{Entry, emptyMark, isMark, span, covers, chain}
+use Rattle.call_spec.specs.Buffers.{zipEntries}
+use Rattle.call_spec.proofs.BuffersLaws.{zip-at, zip-length}
+use Rattle.search.specs.Passes.{Rises, Passes}
+use Rattle.search.proofs.PartLaws.{part-map}
+use Rattle.search.proofs.BlockLaws.{CellPart, keys-rise, to-positive, cell-part}
+use Rattle.search.proofs.MarkLaws.{items-kept, mark-dropped}
+
+-- three lists have n entries, which satisfy the chain rule
+pub record ChainLists (arity depth count : ℕ) (ks ls is : List ℕ) (n : ℕ) : Type 0 where
+  pub keys : n ≤ length ks
+  pub levels : n ≤ length ls
+  pub items : n ≤ length is
+  pub rule : T (chain arity depth count (take n (zipEntries ks ls is)))
+
+-- what a place past the end of a list gives
+abbrev nowhere : Entry
+nowhere = record { key = 0; level = 0; item = 0 }
+
+-- the items of entries
+abbrev itemsOf : List Entry → List ℕ
+itemsOf es = map (λ e. e .item) es
+
+-- the entries that are no marks
+abbrev unmarked : List Entry → List Entry
+unmarked es = filter (λ e. not (isMark e)) es
+
+module _ {arity depth count : ℕ} {ks ls is : List ℕ} {n : ℕ} (pos : 0 < arity) (r : ChainLists arity depth count ks ls is n) where
+  -- the entries
+  abbrev es : List Entry
+  es = take n (zipEntries ks ls is)
+
+  es-length : length es ≡ n
+  es-length = length-take-le n (zipEntries ks ls is) (zip-length ks ls is n (r .keys) (r .levels) (r .items))
+
+  -- by places
+  es-at : (i : ℕ) → i < n → getD es i nowhere ≡ record { key = getD ks i 0; level = getD ls i 0; item = getD is i 0 }
+  es-at i l =
+      let a = r .keys in
+      let b = r .levels in
+      let c = r .items in
+      getD-take n (zipEntries ks ls is) i nowhere l ∙ zip-at ks ls is i nowhere (omega arith) (omega arith) (omega arith)
+
+  key-at : (i : ℕ) → i < n → getD es i nowhere .key ≡ getD ks i 0
+  key-at i l = ap (λ e. e .key) (es-at i l)
+
+  item-at : (i : ℕ) → i < n → getD es i nowhere .item ≡ getD is i 0
+  item-at i l = ap (λ e. e .item) (es-at i l)
+
+  -- the keys never fall
+  pub rises : Rises ks n
+  rises = keys-rise arity depth count pos es (r .rule) nowhere ks n es-length key-at
+
+  module _ {k to : ℕ} (p : Passes ks n (k + 1) to) (low : k < span arity depth 0) where
+    -- some entry is at or before the key
+    pub some-before : 0 < to
+    some-before = to-positive arity depth count pos es (r .rule) nowhere ks n es-length key-at k to p low
+
+    module _ {from : ℕ} (q : Passes ks n (getD ks (to - 1) 0) from) where
+      -- the entries of the cell that has the key
+      part : CellPart arity depth k es nowhere from to
+      part = cell-part arity depth count pos es (r .rule) nowhere ks n es-length key-at k to p low from q
+
+      -- the cell has an entry
+      pub some-entry : from < to
+      some-entry = part .some
+
+      first-item : getD es from nowhere .item ≡ getD is from 0
+      first-item = item-at from (omega (arith, part .some, p .within))
+
+      -- its items are the part of the items between the two places
+      pub items-listed : (getD is from 0 ≡ emptyMark → ⊥) → take (to - from) (drop from is) ≡ itemsOf (unmarked (filter (λ e. covers arity depth k e) es))
+      items-listed m =
+          let h = part .some in
+          let w = p .within in
+          part-map (λ e. e .item) es is nowhere from to (omega arith) (part .within) (omega (arith, r .items)) (λ i l. item-at i (omega arith))
+          ∙ ap itemsOf (sym (items-kept arity depth count nowhere pos es (r .rule) from to h (part .within) (part .key) (λ e. m (sym first-item ∙ e))))
+          ∙ ap (λ l. itemsOf (unmarked l)) (sym (part .entries))
+
+      -- none where the first entry is the mark
+      pub none-listed : getD is from 0 ≡ emptyMark → [] ≡ itemsOf (unmarked (filter (λ e. covers arity depth k e) es))
+      none-listed m =
+          sym (ap (λ l. itemsOf (unmarked l)) (part .entries)
+          ∙ ap itemsOf (mark-dropped arity depth count nowhere pos es (r .rule) from to (part .some) (part .within) (part .key) (first-item ∙ m)))

@@ -1,0 +1,42 @@
+-- A part of a list, by places.
+-- Assumes nothing.
+use mathlib.Core.Path.{_≡_, sym, _∙_, ap}
+use mathlib.Core.List.{List, [], _∷_, map}
+use Prim.Native.Nat.{ℕ, suc, _+_, _-_, _≤_, _<_}
+use native.Mathlib.Omega.{arith}
+use lib.ListN.{length, getD, take, drop, length-take, length-drop, length-map, List·getD-map}
+use lib.Seq.{getD-take, getD-drop, ext-getD}
+use Rattle.lists.proofs.ListsLaws.{Every, every-cons}
+use Rattle.lists.proofs.EveryLaws.{every-nil}
+
+-- what holds at each place of a list holds of every element
+every-places : {A : Type 0} (P : A → Type 0) (l : List A) (d : A) → ((i : ℕ) → i < length l → P (getD l i d)) → Every P l
+every-places P [] d h = every-nil P
+every-places P (x ∷ xs) d h = every-cons (h 0 (omega arith), every-places P xs d (λ i l. h (suc i) (omega arith)))
+
+module _ {A : Type 0} (l : List A) (f t : ℕ) (h : f ≤ t) (w : t ≤ length l) where
+  part-length : length (take (t - f) (drop f l)) ≡ t - f
+  part-length = rw (length-take, length-drop) (omega arith)
+
+  part-at : (d : A) (i : ℕ) → i < t - f → getD (take (t - f) (drop f l)) i d ≡ getD l (f + i) d
+  part-at d i b = getD-take (t - f) (drop f l) i d b ∙ getD-drop f l i d
+
+  -- what holds at each place from f up to t holds of every element of the part
+  pub part-every : (P : A → Type 0) (d : A) → ((i : ℕ) → f ≤ i → i < t → P (getD l i d)) → Every P (take (t - f) (drop f l))
+  part-every P d g =
+      every-places P (take (t - f) (drop f l)) d (λ i b.
+      let c : i < t - f = rw part-length at b in
+      rw (part-at d i c) (g (f + i) (omega arith) (omega arith)))
+
+-- a part of a list's images is that part of a list that holds them
+pub part-map : {A : Type 0} (g : A → ℕ) (l : List A) (xs : List ℕ) (d : A) (f t : ℕ) → f ≤ t → t ≤ length l → t ≤ length xs
+    → ((i : ℕ) → i < t → g (getD l i d) ≡ getD xs i (g d)) → take (t - f) (drop f xs) ≡ map g (take (t - f) (drop f l))
+part-map g l xs d f t h w v e =
+    let p = take (t - f) (drop f l) in
+    let m = length-map p g in
+    let a = part-length xs f t h v in
+    let b = part-length l f t h w in
+    ext-getD (g d) (take (t - f) (drop f xs)) (map g p) (omega arith) (λ i c.
+    let j : i < t - f = rw a at c in
+    getD-take (t - f) (drop f xs) i (g d) j ∙ getD-drop f xs i (g d) ∙ sym (e (f + i) (omega arith))
+    ∙ ap g (sym (part-at l f t h w d i j)) ∙ sym (List·getD-map g p i d))

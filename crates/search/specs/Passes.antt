@@ -1,0 +1,15 @@
+-- Keys that never fall, and the place from which on they are not below a bound.
+-- Assumes nothing.
+use mathlib.Core.List.{List}
+use Prim.Native.Nat.{ℕ, _≤_, _<_}
+use lib.ListN.{getD}
+
+-- the first n keys never fall
+pub record Rises (keys : List ℕ) (n : ℕ) : Type 0 where
+  pub later : (i j : ℕ) → i ≤ j → j < n → getD keys i 0 ≤ getD keys j 0
+
+-- of the first n keys, those before place r are below b, and those from there on are not
+pub record Passes (keys : List ℕ) (n b r : ℕ) : Type 0 where
+  pub within : r ≤ n
+  pub before : (i : ℕ) → i < r → getD keys i 0 < b
+  pub after : (i : ℕ) → r ≤ i → i < n → b ≤ getD keys i 0
