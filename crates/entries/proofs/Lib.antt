@@ -1,1 +1,4 @@
 pub mod StoreLaws
+pub mod PackLaws
+pub mod ListedLaws
+pub mod MatchLaws

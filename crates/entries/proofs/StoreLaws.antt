@@ -11,6 +11,10 @@ use lib.Seq.{sets, sets-eq, length-take-le, take-suc, take-at}
 use Rattle.lists.proofs.ListsLaws.{sets-join}
 use Rattle.call_spec.specs.Buffers.{padded}
 
+-- one zero more
+zeros-more : (n : ℕ) → replicate n 0 ++ (0 ∷ []) ≡ replicate {A = ℕ} (n + 1) 0
+zeros-more n = replicate-append-replicate n 1 0
+
 -- zeros are stored from place f up to place i, of those up to t
 pub record Clearing (l l′ : List ℕ) (f i t : ℕ) : Type 0 where
   pub low : f ≤ i
@@ -30,7 +34,7 @@ clearing-next {l} {l′} {f} {i} {t} c h =
       stored =
           ap (λ x. set x i 0) (c .stored)
           ∙ sets-join l f i (replicate (i - f) 0) (0 ∷ []) (omega (arith, c .low, length-replicate {A = ℕ} (i - f) 0))
-          ∙ ap (sets l f) (replicate-append-replicate (i - f) 1 0)
+          ∙ ap (sets l f) (zeros-more (i - f))
           ∙ ap (λ m. sets l f (replicate m 0)) n;
       kept = length-set l′ i 0 ∙ c .kept;
     }
