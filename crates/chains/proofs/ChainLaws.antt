@@ -94,14 +94,14 @@ module _ (arity depth count : ℕ) where
   }
 
 -- the entries of three lists, by their places
-zip-at : (ks ls is : List ℕ) (i : ℕ) → i < length ks → i < length ls → i < length is
-    → getD (zipEntries ks ls is) i nowhere ≡ entryAt ks ls is i
+zip-at : (ks ls is : List ℕ) (d : Entry) (i : ℕ) → i < length ks → i < length ls → i < length is
+    → getD (zipEntries ks ls is) i d ≡ entryAt ks ls is i
 unfolding zipEntries entryAt
-zip-at [] ls is i a b c = absurd (omega arith)
-zip-at (k ∷ ks) [] is i a b c = absurd (omega arith)
-zip-at (k ∷ ks) (l ∷ ls) [] i a b c = absurd (omega arith)
-zip-at (k ∷ ks) (l ∷ ls) (t ∷ ts) zero a b c = refl
-zip-at (k ∷ ks) (l ∷ ls) (t ∷ ts) (suc i) a b c = zip-at ks ls ts i (omega arith) (omega arith) (omega arith)
+zip-at [] ls is d i a b c = absurd (omega arith)
+zip-at (k ∷ ks) [] is d i a b c = absurd (omega arith)
+zip-at (k ∷ ks) (l ∷ ls) [] d i a b c = absurd (omega arith)
+zip-at (k ∷ ks) (l ∷ ls) (t ∷ ts) d zero a b c = refl
+zip-at (k ∷ ks) (l ∷ ls) (t ∷ ts) d (suc i) a b c = zip-at ks ls ts d i (omega arith) (omega arith) (omega arith)
 
 zip-length : (ks ls is : List ℕ) (n : ℕ) → n ≤ length ks → n ≤ length ls → n ≤ length is → n ≤ length (zipEntries ks ls is)
 unfolding zipEntries
@@ -112,15 +112,21 @@ zip-length (k ∷ ks) (l ∷ ls) (t ∷ ts) zero a b c = omega arith
 zip-length (k ∷ ks) (l ∷ ls) (t ∷ ts) (suc n) a b c =
     let h = zip-length ks ls ts n (omega arith) (omega arith) (omega arith) in omega arith
 
+module _ (ks ls is : List ℕ) (n : ℕ) (a : n ≤ length ks) (b : n ≤ length ls) (c : n ≤ length is) where
+  -- of the first n entries: how many they are, and each by its place
+  pub first-count : length (take n (zipEntries ks ls is)) ≡ n
+  first-count = length-take-le n (zipEntries ks ls is) (zip-length ks ls is n a b c)
+
+  pub first-at : (d : Entry) (i : ℕ) → i < n → getD (take n (zipEntries ks ls is)) i d ≡ entryAt ks ls is i
+  first-at d i h = getD-take n (zipEntries ks ls is) i d h ∙ zip-at ks ls is d i (omega arith) (omega arith) (omega arith)
+
 module _ (arity depth count : ℕ) (ks ls is : List ℕ) (n m : ℕ) (e : n ≡ suc m)
     (a : n ≤ length ks) (b : n ≤ length ls) (c : n ≤ length is) where
   -- the chain rule on the first n entries of three lists
   pub chain-reflects : Reflects (chain arity depth count (take n (zipEntries ks ls is))) (Chained arity depth count (λ i. entryAt ks ls is i) m)
   chain-reflects =
       reflects-iff (chained-same arity depth count same) (chained-same arity depth count (λ i l. sym (same i l)))
-      (chain-list arity depth count (take n (zipEntries ks ls is)) m (length-take-le n (zipEntries ks ls is) (zip-length ks ls is n a b c) ∙ e))
+      (chain-list arity depth count (take n (zipEntries ks ls is)) m (first-count ks ls is n a b c ∙ e))
     where
       same : (i : ℕ) → i < suc m → getD (take n (zipEntries ks ls is)) i nowhere ≡ entryAt ks ls is i
-      same i l =
-          getD-take n (zipEntries ks ls is) i nowhere (omega arith)
-          ∙ zip-at ks ls is i (omega arith) (omega arith) (omega arith)
+      same i l = first-at ks ls is n a b c nowhere i (omega arith)

@@ -1,46 +1,54 @@
+use native.Mathlib.Omega.{arith}
 use borrow.Author.Needs.{needs}
+use lib.ListN.{replicate}
+use Rattle.chart_spec.specs.Table.{tableOf}
+use Rattle.chart_spec.specs.Cells.{entriesOf}
+use Rattle.entries.proofs.PackLaws.{entries-packable}
+use Rattle.entries.proofs.ListedLaws.{Packed}
+use Rattle.entries.proofs.MatchLaws.{match-count, match-places}
 use Rattle.entries.proofs.entries_match.Statement.{statement}
 use Rattle.entries.proofs.entries_match.Tie as tie
-use Rattle.entries.proofs.entries_match.Reads as reads
-use Rattle.entries.proofs.entries_match.Lts as lts
-use Rattle.entries.proofs.differences.Reads as differences-reads
-use Rattle.filing.proofs.file.Reads as file-reads
 
--- src/lib.rt:175:36
 slice-aggregate-file : tie.Need-slice-aggregate-file
 slice-aggregate-file c = search needs
 
--- src/lib.rt:175:48
 slice-aggregate-file-2 : tie.Need-slice-aggregate-file-2
 slice-aggregate-file-2 c = search needs
 
--- src/lib.rt:175:62
 slice-aggregate-file-3 : tie.Need-slice-aggregate-file-3
 slice-aggregate-file-3 c = search needs
 
--- src/lib.rt:175:74
 slice-aggregate-file-4 : tie.Need-slice-aggregate-file-4
 slice-aggregate-file-4 c = search needs
 
--- src/lib.rt:175:9
 file-requires : tie.Need-file-requires
-file-requires c κs = ?
+file-requires c κs = (c .before .before .before .before .before .before .before .before .pre .0, ((omega arith, omega arith), (omega arith, omega arith)))
 
--- src/lib.rt:177:9
 returns : tie.Need-returns
-returns c = ?
+returns c =
+    let a = c .before .before .before .before .before .before .before .before .before .before .before .before .before .before .args in
+    let f = c .before .before .before .before .before .file in
+    let es = entriesOf (tableOf (a .table .now) (a .n)) in
+    let p : Packed es (f .result) (replicate 16384 0) (f .last .1 .1 .1 .1 .1 .0) = record { room = omega arith; fits = f .ensures .0; over = f .ensures .1 } in
+    let b = c .before .before .before .before .before .before .before .before .before .before .before .before .before .before .pre .1 in
+    match-count p (a .keys .now) (a .levels .now) (a .items .now) (a .m) (b .0 .1) (b .1 .0) (b .1 .1) (b .0 .0) (c .if1 .taken)
 
--- src/lib.rt:179:17
 slice-aggregate-differences : tie.Need-slice-aggregate-differences
 slice-aggregate-differences c = search needs
 
--- src/lib.rt:179:5
 differences-requires : tie.Need-differences-requires
 differences-requires c κs = search needs
 
--- src/lib.rt:159:1
 returns-2 : tie.Need-returns-2
-returns-2 c = ?
+returns-2 c =
+    let a = c .before .before .before .before .before .before .before .before .before .before .before .before .before .before .before .before .args in
+    let f = c .before .before .before .before .before .before .before .file in
+    let es = entriesOf (tableOf (a .table .now) (a .n)) in
+    let p : Packed es (f .result) (replicate 16384 0) (f .last .1 .1 .1 .1 .1 .0) = record { room = omega arith; fits = f .ensures .0; over = f .ensures .1 } in
+    let b = c .before .before .before .before .before .before .before .before .before .before .before .before .before .before .before .before .pre .1 in
+    match-places p (a .keys .now) (a .levels .now) (a .items .now) (a .m) (b .0 .1) (b .1 .0) (b .1 .1) (b .0 .0) (c .before .before .if1 .left)
+    (entries-packable (a .table .now) (a .n) (c .before .before .before .before .before .before .before .before .before .before .before .before .before .before .before .before .pre .0 .0 .0))
+    (λ k. omega (arith, c .before .before .before .before .before .before .before .before .before .before .before .before .before .shared-slice-known3 .given k)) (λ k. omega (arith, c .before .before .before .before .before .before .before .before .before .before .before .before .shared-slice-known4 .given k)) (c .differences .ensures)
 
 pub entries-match-spec : {M : Type 1} → statement M
 entries-match-spec =

@@ -1,7 +1,6 @@
-use Prim.Native.Nat.{ℕ}
 use native.Mathlib.Omega.{arith}
 use borrow.Author.Needs.{needs}
-use lib.ListN.{replicate, length-replicate}
+use lib.ListN.{replicate}
 use Rattle.chart_spec.specs.Table.{tableOf}
 use Rattle.chart_spec.specs.Cells.{entriesOf}
 use Rattle.entries.proofs.PackLaws.{entries-packable}
@@ -22,7 +21,7 @@ slice-aggregate-file-4 : tie.Need-slice-aggregate-file-4
 slice-aggregate-file-4 c = search needs
 
 file-requires : tie.Need-file-requires
-file-requires c κs = let p = c .before .before .before .before .before .before .before .before .pre .0 in (p, ((omega arith, omega arith), (omega arith, omega arith)))
+file-requires c κs = (c .before .before .before .before .before .before .before .before .pre .0, ((omega arith, omega arith), (omega arith, omega arith)))
 
 returns : tie.Need-returns
 returns c =
