@@ -11,7 +11,7 @@ use lib.Seq.{sets, sets-eq, length-take-le, take-suc, take-at}
 use Rattle.lists.proofs.ListsLaws.{sets-join}
 use Rattle.call_spec.specs.Buffers.{padded}
 
--- one zero more
+-- a zero after zeros
 zeros-more : (n : ℕ) → replicate n 0 ++ (0 ∷ []) ≡ replicate {A = ℕ} (n + 1) 0
 zeros-more n = replicate-append-replicate n 1 0
 
@@ -22,9 +22,11 @@ pub record Clearing (l l′ : List ℕ) (f i t : ℕ) : Type 0 where
   pub stored : l′ ≡ sets l f (replicate (i - f) 0)
   pub kept : length l′ ≡ length l
 
+-- before the first zero
 pub clearing-start : (l : List ℕ) (f t : ℕ) → f ≤ t → Clearing l l f f t
 clearing-start l f t h = record { low = le-refl f; high = h; stored = rw (sub-self f) refl; kept = refl }
 
+-- one zero more
 pub clearing-next : {l l′ : List ℕ} {f i t : ℕ} → Clearing l l′ f i t → i < t → Clearing l (set l′ i 0) f (i + 1) t
 clearing-next {l} {l′} {f} {i} {t} c h =
     let n : (i - f) + 1 ≡ i + 1 - f = omega (arith, c .low) in
@@ -39,6 +41,7 @@ clearing-next {l} {l′} {f} {i} {t} c h =
       kept = length-set l′ i 0 ∙ c .kept;
     }
 
+-- after the last
 pub clearing-end : {l l′ : List ℕ} {f i t : ℕ} → Clearing l l′ f i t → i ≡ t → l′ ≡ sets l f (replicate (t - f) 0)
 clearing-end {l} {f = f} c e = c .stored ∙ ap (λ m. sets l f (replicate (m - f) 0)) e
 
@@ -48,9 +51,11 @@ pub record Copying (g : ℕ → ℕ) (es l l′ : List ℕ) (i n : ℕ) : Type 0
   pub stored : l′ ≡ sets l 0 (map g (take i es))
   pub kept : length l′ ≡ length l
 
+-- before the first image
 pub copying-start : (g : ℕ → ℕ) (es l : List ℕ) (n : ℕ) → Copying g es l l 0 n
 copying-start g es l n = record { high = omega arith; stored = refl; kept = refl }
 
+-- one image more
 pub copying-next : {g : ℕ → ℕ} {es l l′ : List ℕ} {i n : ℕ} → Copying g es l l′ i n → i < n → n ≤ length es
     → {x : ℕ} → x ≡ g (getD es i 0) → Copying g es l (set l′ i x) (i + 1) n
 copying-next {g} {es} {l} {l′} {i} {n} c h b {x} e =

@@ -31,7 +31,7 @@ returns c =
     let es = entriesOf (tableOf (a .table .now) (a .n)) in
     let p : Packed es (f .result) (replicate 16384 0) (f .last .1 .1 .1 .1 .1 .0) = record { room = omega arith; fits = f .ensures .0; over = f .ensures .1 } in
     let b = c .before .before .before .before .before .before .before .before .before .before .before .before .before .before .pre .1 in
-    match-count p (a .keys .now) (a .levels .now) (a .items .now) (a .m) (b .0 .1) (b .1 .0) (b .1 .1) (b .0 .0) (c .if1 .taken)
+    match-count p (a .keys .now) (a .levels .now) (a .items .now) (a .m) (b .0 .1) (b .1 .0) (b .1 .1) (b .0 .0) (λ e. omega (arith, c .if1 .taken))
 
 slice-aggregate-differences : tie.Need-slice-aggregate-differences
 slice-aggregate-differences c = search needs
@@ -46,7 +46,7 @@ returns-2 c =
     let es = entriesOf (tableOf (a .table .now) (a .n)) in
     let p : Packed es (f .result) (replicate 16384 0) (f .last .1 .1 .1 .1 .1 .0) = record { room = omega arith; fits = f .ensures .0; over = f .ensures .1 } in
     let b = c .before .before .before .before .before .before .before .before .before .before .before .before .before .before .before .before .pre .1 in
-    match-places p (a .keys .now) (a .levels .now) (a .items .now) (a .m) (b .0 .1) (b .1 .0) (b .1 .1) (b .0 .0) (c .before .before .if1 .left)
+    match-places p (a .keys .now) (a .levels .now) (a .items .now) (a .m) (b .0 .1) (b .1 .0) (b .1 .1) (b .0 .0) (omega (arith, c .before .before .if1 .left))
     (entries-packable (a .table .now) (a .n) (c .before .before .before .before .before .before .before .before .before .before .before .before .before .before .before .before .pre .0 .0 .0))
     (λ k. omega (arith, c .before .before .before .before .before .before .before .before .before .before .before .before .before .shared-slice-known3 .given k)) (λ k. omega (arith, c .before .before .before .before .before .before .before .before .before .before .before .before .shared-slice-known4 .given k)) (c .differences .ensures)
 

@@ -29,7 +29,7 @@ returns c =
     let f = c .before .before .before .before .before .file in
     let es = entriesOf (tableOf (a .table .now) (a .n)) in
     let p : Packed es (f .result) (replicate 16384 0) (f .last .1 .1 .1 .1 .1 .0) = record { room = omega arith; fits = f .ensures .0; over = f .ensures .1 } in
-    listed-over p (a .keys .now) (a .levels .now) (a .items .now) (c .if1 .taken)
+    listed-over p (a .keys .now) (a .levels .now) (a .items .now) (omega (arith, c .if1 .taken))
 
 slice-aggregate-put-keys : tie.Need-slice-aggregate-put-keys
 slice-aggregate-put-keys c = search needs
