@@ -37,7 +37,7 @@ slice-aggregate-differences : tie.Need-slice-aggregate-differences
 slice-aggregate-differences c = search needs
 
 differences-requires : tie.Need-differences-requires
-differences-requires c κs = search needs
+differences-requires c κs = omega arith
 
 returns-2 : tie.Need-returns-2
 returns-2 c =

@@ -35,19 +35,19 @@ slice-aggregate-put-keys : tie.Need-slice-aggregate-put-keys
 slice-aggregate-put-keys c = search needs
 
 put-keys-requires : tie.Need-put-keys-requires
-put-keys-requires c κs = search needs
+put-keys-requires c κs = omega arith
 
 slice-aggregate-put-levels : tie.Need-slice-aggregate-put-levels
 slice-aggregate-put-levels c = search needs
 
 put-levels-requires : tie.Need-put-levels-requires
-put-levels-requires c κs = search needs
+put-levels-requires c κs = omega arith
 
 slice-aggregate-put-items : tie.Need-slice-aggregate-put-items
 slice-aggregate-put-items c = search needs
 
 put-items-requires : tie.Need-put-items-requires
-put-items-requires c κs = search needs
+put-items-requires c κs = omega arith
 
 same-length : tie.Need-same-length
 same-length c = search needs

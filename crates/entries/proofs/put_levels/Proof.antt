@@ -37,7 +37,7 @@ loop-again : tie.Need-loop-again Inv-loop μ-loop
 loop-again c = copying-next (c .before .before .before .loop .inv) (c .before .before .loop-test .taken) (c .before .before .before .before .before .before .pre .0) (c .level-of .ensures)
 
 clear-levels-requires : tie.Need-clear-levels-requires Inv-loop μ-loop
-clear-levels-requires c κs = search needs
+clear-levels-requires c κs = omega arith
 
 same-length : tie.Need-same-length Inv-loop μ-loop
 same-length c = search needs
