@@ -1,12 +1,13 @@
 -- What the comparison of entries means, and the entries of three lists by their places.
 -- Assumes nothing.
-use mathlib.Core.Path.{_≡_, refl, ap, ap₂}
+use mathlib.Core.Path.{_≡_, refl, _∙_, ap, ap₂}
 use mathlib.Core.Bool.{_&&_}
 use mathlib.Core.List.{List, [], _∷_, nil≢cons, cons≢nil, head-eq-of-cons-eq, tail-eq-of-cons-eq}
 use Prim.Native.Nat.{ℕ, zero, suc, _≤_, _<_}
 use native.Mathlib.Omega.{arith}
 use lib.Dec.{eqb}
-use lib.ListN.{length, getD}
+use lib.ListN.{length, getD, take}
+use lib.Seq.{length-take-le, getD-take}
 use Rattle.lists.proofs.Reflects.{Reflects, reflects-and, reflects-then, reflects-iff, reflects-eqb}
 use Rattle.orthtree.specs.Entries.{Entry, sameCell}
 use Rattle.call_spec.specs.Buffers.{zipEntries, sameEntries}
@@ -34,7 +35,7 @@ sameEntries-reflects (e ∷ es) (f ∷ fs) =
     (reflects-then (sameCell e f && eqb (e .item) (f .item)) (entry-reflects e f) (sameEntries-reflects es fs))
 
 -- the entry at a place of three lists is made of what stands there
-pub zip-at : (ks ls is : List ℕ) (i : ℕ) (d : Entry) → i < length ks → i < length ls → i < length is
+zip-at : (ks ls is : List ℕ) (i : ℕ) (d : Entry) → i < length ks → i < length ls → i < length is
     → getD (zipEntries ks ls is) i d ≡ record { key = getD ks i 0; level = getD ls i 0; item = getD is i 0 }
 unfolding zipEntries
 zip-at [] ls is i d a b c = absurd (omega arith)
@@ -44,7 +45,7 @@ zip-at (k ∷ ks) (l ∷ ls) (t ∷ ts) zero d a b c = refl
 zip-at (k ∷ ks) (l ∷ ls) (t ∷ ts) (suc i) d a b c = zip-at ks ls ts i d (omega arith) (omega arith) (omega arith)
 
 -- there are at least n where each list has n
-pub zip-length : (ks ls is : List ℕ) (n : ℕ) → n ≤ length ks → n ≤ length ls → n ≤ length is → n ≤ length (zipEntries ks ls is)
+zip-length : (ks ls is : List ℕ) (n : ℕ) → n ≤ length ks → n ≤ length ls → n ≤ length is → n ≤ length (zipEntries ks ls is)
 unfolding zipEntries
 zip-length [] ls is n a b c = a
 zip-length (k ∷ ks) [] is n a b c = b
@@ -52,3 +53,13 @@ zip-length (k ∷ ks) (l ∷ ls) [] n a b c = c
 zip-length (k ∷ ks) (l ∷ ls) (t ∷ ts) zero a b c = omega arith
 zip-length (k ∷ ks) (l ∷ ls) (t ∷ ts) (suc n) a b c =
     let h = zip-length ks ls ts n (omega arith) (omega arith) (omega arith) in omega arith
+
+module _ (ks ls is : List ℕ) (n : ℕ) (a : n ≤ length ks) (b : n ≤ length ls) (c : n ≤ length is) where
+  -- of the first n entries: how many they are
+  pub first-count : length (take n (zipEntries ks ls is)) ≡ n
+  first-count = length-take-le n (zipEntries ks ls is) (zip-length ks ls is n a b c)
+
+  -- and each by its place
+  pub first-at : (d : Entry) (i : ℕ) → i < n
+      → getD (take n (zipEntries ks ls is)) i d ≡ record { key = getD ks i 0; level = getD ls i 0; item = getD is i 0 }
+  first-at d i h = getD-take n (zipEntries ks ls is) i d h ∙ zip-at ks ls is i d (omega arith) (omega arith) (omega arith)

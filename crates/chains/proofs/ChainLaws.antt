@@ -8,11 +8,10 @@ use native.Mathlib.Nat.{le-of-suc-le-suc}
 use native.Mathlib.Omega.{arith}
 use lib.Dec.{T, eqb}
 use lib.ListN.{length, getD, take}
-use lib.Seq.{length-take-le, getD-take}
 use Rattle.lists.proofs.Reflects.{Reflects, reflects-and, reflects-then, reflects-iff, reflects-eqb, reflects-test}
 use Rattle.orthtree.specs.Entries.{Entry, span, rangeEnd, entryFits, follows, chainAfter, chain}
 use Rattle.call_spec.specs.Buffers.{zipEntries}
-use Rattle.call_spec.proofs.BuffersLaws.{zip-at, zip-length}
+use Rattle.call_spec.proofs.BuffersLaws.{first-count, first-at}
 use Rattle.chains.specs.Links.{entry, entryAt}
 
 -- what holds at 0, and at one more than each number below n, holds at each number below n + 1
@@ -101,9 +100,7 @@ module _ (arity depth count : ℕ) (ks ls is : List ℕ) (n m : ℕ) (e : n ≡ 
   unfolding entryAt
   chain-reflects =
       reflects-iff (chained-same arity depth count same) (chained-same arity depth count (λ i l. sym (same i l)))
-      (chain-list arity depth count (take n (zipEntries ks ls is)) m (length-take-le n (zipEntries ks ls is) (zip-length ks ls is n a b c) ∙ e))
+      (chain-list arity depth count (take n (zipEntries ks ls is)) m (first-count ks ls is n a b c ∙ e))
     where
       same : (i : ℕ) → i < suc m → getD (take n (zipEntries ks ls is)) i nowhere ≡ entryAt ks ls is i
-      same i l =
-          getD-take n (zipEntries ks ls is) i nowhere (omega arith)
-          ∙ zip-at ks ls is i nowhere (omega arith) (omega arith) (omega arith)
+      same i l = first-at ks ls is n a b c nowhere i (omega arith)

@@ -1,0 +1,4 @@
+pub mod StoreLaws
+pub mod PackLaws
+pub mod ListedLaws
+pub mod MatchLaws

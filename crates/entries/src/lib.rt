@@ -8,7 +8,6 @@ ghost use lib.Dec.{eqb};
 ghost use lib.ListN.{length, getD, take, replicate};
 ghost use lib.Seq.{sets};
 ghost use Rattle.lists.specs.Lists.{all, upTo};
-ghost use Rattle.orthtree.specs.Entries.{Entry};
 ghost use Rattle.plane.specs.Triangle.{proper};
 ghost use Rattle.chart_spec.specs.Table.{tableOf};
 ghost use Rattle.chart_spec.specs.Cells.{entriesOf};

@@ -9,11 +9,10 @@ use Prim.Native.Nat.{ℕ, _+_, _-_, _≤_, _<_}
 use native.Mathlib.Omega.{arith}
 use lib.Dec.{T}
 use lib.ListN.{length, getD, take, drop}
-use lib.Seq.{length-take-le, getD-take}
 use Rattle.lists.specs.Lists.{filter}
 use Rattle.orthtree.specs.Entries.{Entry, emptyMark, isMark, span, covers, chain}
 use Rattle.call_spec.specs.Buffers.{zipEntries}
-use Rattle.call_spec.proofs.BuffersLaws.{zip-at, zip-length}
+use Rattle.call_spec.proofs.BuffersLaws.{first-count, first-at}
 use Rattle.search.specs.Passes.{Rises, Passes}
 use Rattle.search.proofs.PartLaws.{part-map}
 use Rattle.search.proofs.BlockLaws.{CellPart, keys-rise, to-positive, cell-part}
@@ -44,15 +43,11 @@ module _ {arity depth count : ℕ} {ks ls is : List ℕ} {n : ℕ} (pos : 0 < ar
   es = take n (zipEntries ks ls is)
 
   es-length : length es ≡ n
-  es-length = length-take-le n (zipEntries ks ls is) (zip-length ks ls is n (r .keys) (r .levels) (r .items))
+  es-length = first-count ks ls is n (r .keys) (r .levels) (r .items)
 
   -- by places
   es-at : (i : ℕ) → i < n → getD es i nowhere ≡ record { key = getD ks i 0; level = getD ls i 0; item = getD is i 0 }
-  es-at i l =
-      let a = r .keys in
-      let b = r .levels in
-      let c = r .items in
-      getD-take n (zipEntries ks ls is) i nowhere l ∙ zip-at ks ls is i nowhere (omega arith) (omega arith) (omega arith)
+  es-at i l = first-at ks ls is n (r .keys) (r .levels) (r .items) nowhere i l
 
   key-at : (i : ℕ) → i < n → getD es i nowhere .key ≡ getD ks i 0
   key-at i l = ap (λ e. e .key) (es-at i l)
