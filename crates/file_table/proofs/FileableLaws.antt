@@ -1,7 +1,7 @@
 -- What fitting lengths say of each list, and when a table can be filed, from the two tests that the code makes.
 -- Assumes nothing.
 use mathlib.Core.Path.{_≡_, sym, _∙_, subst}
-use mathlib.Core.Bool.{Bool, true, false, _&&_, and-false}
+use mathlib.Core.Bool.{Bool, true, false, and-false}
 use mathlib.Core.List.{List}
 use Prim.Native.Nat.{ℕ, _/_, _%_, _≤_}
 use lib.Dec.{T}

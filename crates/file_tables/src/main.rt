@@ -7,7 +7,6 @@
 use libc::STDIN_FILENO;
 use libc::STDOUT_FILENO;
 ghost use Prim.Native.Nat.{_+_, _*_, _≤_};
-ghost use mathlib.Core.Path.{_≡_};
 ghost use lib.ListN.{length};
 
 // Number k of a list of bytes, low byte first.
@@ -20,7 +19,6 @@ fn number_at(bytes: &[u8], k: usize) -> u16
 // The first n numbers of a list of bytes.
 fn decode(bytes: &[u8], n: usize, table: &mut [u16])
     requires { ⌜ (2 * n ≤ length (now bytes)) × (n ≤ length (now table)) ⌝ }
-    ensures { λ _. ⌜ length (now (table .exit)) ≡ length (now (table .entry)) ⌝ }
 {
     let mut k = 0;
     while k < n {
@@ -29,11 +27,10 @@ fn decode(bytes: &[u8], n: usize, table: &mut [u16])
     }
 }
 
-// The digits of x at place `at` of a line; answers the place after them.
-fn put_number(line: &mut [u8], at: usize, x: u64) -> usize
-    requires { ⌜ at + 20 ≤ length (now line) ⌝ }
-    ensures { λ r. ⌜ r ≤ at + 20 ⌝ }
-    ensures { λ _. ⌜ length (now (line .exit)) ≡ length (now (line .entry)) ⌝ }
+// The digits of x from place `at` of a line on, and a byte after them; answers the place after it.
+fn put_number(line: &mut [u8], at: usize, x: u64, after: u8) -> usize
+    requires { ⌜ at + 21 ≤ length (now line) ⌝ }
+    ensures { λ r. ⌜ r ≤ at + 21 ⌝ }
 {
     let mut text = [0u8; 20];
     let n = io::decimal(x, &mut text);
@@ -42,19 +39,17 @@ fn put_number(line: &mut [u8], at: usize, x: u64) -> usize
         line[at + k] = text[k];
         k += 1;
     }
-    at + n
+    line[at + n] = after;
+    at + n + 1
 }
 
 // Writes a line of three numbers.
 fn print_entry(key: u32, level: u8, item: u16) -> bool {
     let mut line = [0u8; 64];
-    let a = put_number(&mut line, 0, key as u64);
-    line[a] = b' ';
-    let b = put_number(&mut line, a + 1, level as u64);
-    line[b] = b' ';
-    let c = put_number(&mut line, b + 1, item as u64);
-    line[c] = b'\n';
-    io::write_all(STDOUT_FILENO, &line[..c + 1])
+    let a = put_number(&mut line, 0, key as u64, b' ');
+    let b = put_number(&mut line, a, level as u64, b' ');
+    let c = put_number(&mut line, b, item as u64, b'\n');
+    io::write_all(STDOUT_FILENO, &line[..c])
 }
 
 // Writes the first n entries.
