@@ -4,49 +4,34 @@
 use mathlib.Core.Path.{_≡_, refl, sym, _∙_, ap, ap₂}
 use mathlib.Core.Bool.{Bool, true, false, cond, not, _&&_, _||_}
 use mathlib.Core.List.{List, flatMap, List·Memᴰ}
-use Prim.Native.Nat.{ℕ, _+_, _*_, _-_, _≤_, _<_, min, max}
-use native.Mathlib.Nat.{zero-mul, add-zero, zero-add}
+use Prim.Native.Nat.{ℕ, _+_, _*_, _≤_, _<_}
 use native.Mathlib.Omega.{arith}
 use borrow.Author.Tests.{leb-true, leb-false, ltb-true, ltb-false}
-use lib.Dec.{T, leb, ltb}
-use lib.ListN.{length, getD, take}
+use lib.Dec.{leb, ltb, eqb}
+use lib.ListN.{length, getD}
 use lib.Seq.{getD-take}
-use Rattle.lists.proofs.ListsLaws.{Every, getD-stride, getD-member}
+use Rattle.lists.proofs.ListsLaws.{getD-stride, getD-member}
 use Rattle.plane.specs.declared.Point.{Point}
-use Rattle.plane.specs.Triangle.{Triangle, Side}
+use Rattle.plane.specs.Triangle.{Triangle}
 use Rattle.plane.specs.Box.{Box, apart, sideBox, triangleBox, allInner, allOuter, sideMeets, triangleMeets}
-use Rattle.plane.proofs.ExtremeLaws.{steep, mirror, far, near, steepX, steepY, mirrorX, mirrorY, farX, farY, nearX, nearY, offset, OnGrid, Framed, allOuter-extreme, allInner-extreme}
+use Rattle.plane.proofs.ExtremeLaws.{offset, OnGrid, Framed, allOuter-extreme, allInner-extreme}
 use Rattle.chart_spec.specs.Table.{Table, numbered, noTriangle}
-use Rattle.shapes.specs.Shape.{sideShape, boxShape, shapeOf, weigh, sideOffset, offsetsOf, Shaped, reachAt, baseAt, touchesAt, triangleMeetsAt, sideMeetsAt}
+use Rattle.shapes.specs.Shape.{distance, atMost, chosen, sideShape, boxShape, shapeOf, sideOffset, offsetsOf, Shaped, reachAt, baseAt, touchesAt, triangleMeetsAt, sideMeetsAt}
 
 -- ---- one side
 
--- cut-off differences pick the mirrored coordinate
-picks : (u v x y : ℕ) → (u - v) * x + (v - u) * y ≡ steep u v * cond (leb v u) x y
-picks u v x y = go (leb v u) refl
+-- a flag chooses as its test does
+chosen-atMost : (m n x y : ℕ) → chosen (atMost m n) y x ≡ cond (leb m n) x y
+chosen-atMost m n x y = go (leb m n)
   where
-    go : (t : Bool) → leb v u ≡ t → (u - v) * x + (v - u) * y ≡ steep u v * cond t x y
-    go true e =
-        let l = leb-true v u e in
-        let z : v - u ≡ 0 = omega arith in
-        rw (z, zero-mul y, add-zero (u - v)) (add-zero ((u - v) * x))
-    go false e =
-        let l = leb-false v u e in
-        let z : u - v ≡ 0 = omega arith in
-        rw (z, zero-mul x, zero-add (v - u)) (zero-add ((v - u) * y))
+    go : (t : Bool) → cond (eqb (cond t 1 0) 0) y x ≡ cond t x y
+    go true = refl
+    go false = refl
 
-module _ (p q : Point) where
-  weigh-picks : (x x′ y y′ : ℕ)
-      → weigh (q .y - p .y) (p .y - q .y) (p .x - q .x) (q .x - p .x) x x′ y y′
-      ≡ steepX p q * cond (leb (q .y) (p .y)) x x′ + steepY p q * cond (leb (p .x) (q .x)) y y′
-  weigh-picks x x′ y y′ =
-      let e = picks (p .y) (q .y) x x′ in
-      let f = picks (q .x) (p .x) y y′ in
-      omega arith
-
-  sideOffset-offset : sideOffset p q ≡ offset p q
-  unfolding sideOffset
-  sideOffset-offset = weigh-picks (p .x) (65536 - p .x) (p .y) (65536 - p .y)
+-- V(p) is what D takes away
+sideOffset-offset : (p q : Point) → sideOffset p q ≡ offset p q
+unfolding sideOffset
+sideOffset-offset p q = rw (chosen-atMost (q .y) (p .y), chosen-atMost (p .x) (q .x))
 
 not-ltb : (m n : ℕ) → not (ltb m n) ≡ leb n m
 not-ltb m n = go (ltb m n) refl (leb n m) refl
@@ -66,23 +51,6 @@ not-or3 a b c = not-or (a || b) c ∙ ap (λ x. x && not c) (not-or a b)
 
 not-or4 : (a b c d : Bool) → not (a || b || c || d) ≡ (not a && not b && not c && not d)
 not-or4 a b c d = not-or (a || b || c) d ∙ ap (λ x. x && not d) (not-or3 a b c)
-
--- ---- one side against a box
-
-module _ (p q : Point) (on : OnGrid p) (b : Box) (f : Framed b) where
-  outer-reach : leb (sideOffset p q) (weigh (q .y - p .y) (p .y - q .y) (p .x - q .x) (q .x - p .x) (b .right) (65536 - b .left) (b .bottom) (65536 - b .top))
-      ≡ not (allOuter p q b)
-  outer-reach =
-      ap₂ leb (sideOffset-offset p q) (weigh-picks p q (b .right) (65536 - b .left) (b .bottom) (65536 - b .top))
-      ∙ sym (not-ltb (steepX p q * farX p q (b .left) (b .right) + steepY p q * farY p q (b .top) (b .bottom)) (offset p q))
-      ∙ ap not (sym (allOuter-extreme p q on b f))
-
-  inner-base : leb (weigh (q .y - p .y) (p .y - q .y) (p .x - q .x) (q .x - p .x) (b .left) (65536 - b .right) (b .top) (65536 - b .bottom)) (sideOffset p q)
-      ≡ not (allInner p q b)
-  inner-base =
-      ap₂ leb (weigh-picks p q (b .left) (65536 - b .right) (b .top) (65536 - b .bottom)) (sideOffset-offset p q)
-      ∙ sym (not-ltb (offset p q) (steepX p q * nearX p q (b .left) (b .right) + steepY p q * nearY p q (b .top) (b .bottom)))
-      ∙ ap not (sym (allInner-extreme p q on b f))
 
 -- two boxes are not apart
 not-apart : (d b : Box)
@@ -127,10 +95,10 @@ module _ (table : Table) (s o : List ℕ) (h : Shaped table s o) (i : ℕ) (l : 
 
 -- the numbers of the side from p to q start at k
 record SideAt (s : List ℕ) (k : ℕ) (p q : Point) : Type 0 where
-  up : getD s k 0 ≡ q .y - p .y
-  down : getD s (k + 1) 0 ≡ p .y - q .y
-  back : getD s (k + 2) 0 ≡ p .x - q .x
-  on : getD s (k + 3) 0 ≡ q .x - p .x
+  steepX : getD s k 0 ≡ distance (p .y) (q .y)
+  steepY : getD s (k + 1) 0 ≡ distance (q .x) (p .x)
+  growsX : getD s (k + 2) 0 ≡ atMost (q .y) (p .y)
+  growsY : getD s (k + 3) 0 ≡ atMost (p .x) (q .x)
 
 -- and those of a box
 record BoxAt (s : List ℕ) (k : ℕ) (d : Box) : Type 0 where
@@ -139,15 +107,18 @@ record BoxAt (s : List ℕ) (k : ℕ) (d : Box) : Type 0 where
   right : getD s (k + 2) 0 ≡ d .right
   bottom : getD s (k + 3) 0 ≡ d .bottom
 
-reach-side : (s : List ℕ) (k : ℕ) (p q : Point) (b : Box) → SideAt s k p q
-    → reachAt s k b ≡ weigh (q .y - p .y) (p .y - q .y) (p .x - q .x) (q .x - p .x) (b .right) (65536 - b .left) (b .bottom) (65536 - b .top)
-unfolding reachAt
-reach-side s k p q b a = rw (a .up, a .down, a .back, a .on)
+module _ (s : List ℕ) (k v : ℕ) {p q : Point} (a : SideAt s k p q) (e : v ≡ sideOffset p q) (on : OnGrid p) (b : Box) (f : Framed b) where
+  -- the largest V is at least V(p) unless all corners are outside
+  reach-outer : leb v (reachAt s k b) ≡ not (allOuter p q b)
+  unfolding reachAt
+  reach-outer =
+      rw (e, sideOffset-offset p q, a .steepX, a .steepY, a .growsX, a .growsY, chosen-atMost (q .y) (p .y), chosen-atMost (p .x) (q .x), allOuter-extreme p q on b f, not-ltb)
 
-base-side : (s : List ℕ) (k : ℕ) (p q : Point) (b : Box) → SideAt s k p q
-    → baseAt s k b ≡ weigh (q .y - p .y) (p .y - q .y) (p .x - q .x) (q .x - p .x) (b .left) (65536 - b .right) (b .top) (65536 - b .bottom)
-unfolding baseAt
-base-side s k p q b a = rw (a .up, a .down, a .back, a .on)
+  -- the smallest is at most V(p) unless all corners are inside
+  base-inner : leb (baseAt s k b) v ≡ not (allInner p q b)
+  unfolding baseAt
+  base-inner =
+      rw (e, sideOffset-offset p q, a .steepX, a .steepY, a .growsX, a .growsY, chosen-atMost (q .y) (p .y), chosen-atMost (p .x) (q .x), allInner-extreme p q on b f, not-ltb)
 
 touches-box : (s : List ℕ) (k : ℕ) (d b : Box) → BoxAt s k d → touchesAt s k b ≡ not (apart d b)
 unfolding touchesAt
@@ -159,10 +130,10 @@ module _ (table : Table) (s o : List ℕ) (h : Shaped table s o) (i : ℕ) (l : 
   side-at k m e lt a =
       let r = number table s o h i l in
       record {
-        up = r k m e (omega arith) ∙ a .up;
-        down = r (k + 1) (m + 1) (omega arith) (omega arith) ∙ a .down;
-        back = r (k + 2) (m + 2) (omega arith) (omega arith) ∙ a .back;
-        on = r (k + 3) (m + 3) (omega arith) (omega arith) ∙ a .on;
+        steepX = r k m e (omega arith) ∙ a .steepX;
+        steepY = r (k + 1) (m + 1) (omega arith) (omega arith) ∙ a .steepY;
+        growsX = r (k + 2) (m + 2) (omega arith) (omega arith) ∙ a .growsX;
+        growsY = r (k + 3) (m + 3) (omega arith) (omega arith) ∙ a .growsY;
       }
 
   box-at : {d : Box} (k m : ℕ) → k ≡ 28 * i + m → m + 4 ≤ 28 → BoxAt (shapeOf (numbered table i)) m d → BoxAt s k d
@@ -178,15 +149,15 @@ module _ (table : Table) (s o : List ℕ) (h : Shaped table s o) (i : ℕ) (l : 
   -- the three sides and the triangle's box
   first-side : SideAt s (28 * i) (numbered table i .a) (numbered table i .b)
   unfolding shapeOf sideShape
-  first-side = side-at (28 * i) 0 (omega arith) (omega arith) (record { up = refl; down = refl; back = refl; on = refl })
+  first-side = side-at (28 * i) 0 (omega arith) (omega arith) (record { steepX = refl; steepY = refl; growsX = refl; growsY = refl })
 
   second-side : SideAt s (28 * i + 8) (numbered table i .b) (numbered table i .c)
   unfolding shapeOf sideShape
-  second-side = side-at (28 * i + 8) 8 refl (omega arith) (record { up = refl; down = refl; back = refl; on = refl })
+  second-side = side-at (28 * i + 8) 8 refl (omega arith) (record { steepX = refl; steepY = refl; growsX = refl; growsY = refl })
 
   third-side : SideAt s (28 * i + 16) (numbered table i .c) (numbered table i .a)
   unfolding shapeOf sideShape
-  third-side = side-at (28 * i + 16) 16 refl (omega arith) (record { up = refl; down = refl; back = refl; on = refl })
+  third-side = side-at (28 * i + 16) 16 refl (omega arith) (record { steepX = refl; steepY = refl; growsX = refl; growsY = refl })
 
   whole-box : BoxAt s (28 * i + 24) (triangleBox (numbered table i))
   unfolding shapeOf sideShape boxShape triangleBox
@@ -198,22 +169,16 @@ module _ (table : Table) (s o : List ℕ) (h : Shaped table s o) (i : ℕ) (l : 
     unfolding numbered
     corners-on = grid (numbered table i) (getD-member table i noTriangle l)
 
-    outer-at : {p q : Point} (k m : ℕ) → SideAt s (28 * i + k) p q → OnGrid p → getD o (3 * i + m) 0 ≡ sideOffset p q
-        → leb (getD o (3 * i + m) 0) (reachAt s (28 * i + k) b) ≡ not (allOuter p q b)
-    outer-at {p} {q} k m a on e = ap₂ leb e (reach-side s (28 * i + k) p q b a) ∙ outer-reach p q on b f
-
     -- the test on the kept numbers is the triangle's
     pub triangle-meets-at : triangleMeetsAt s o i b ≡ triangleMeets (numbered table i) b
     unfolding triangleMeetsAt triangleMeets offsetsOf
     triangle-meets-at =
         let t = numbered table i in
         let on = corners-on in
-        let ab : leb (getD o (3 * i) 0) (reachAt s (28 * i) b) ≡ not (allOuter (t .a) (t .b) b) =
-        ap₂ leb (offset-at table s o h i l (3 * i) 0 (omega arith) (omega arith)) (reach-side s (28 * i) (t .a) (t .b) b first-side)
-        ∙ outer-reach (t .a) (t .b) (on .a) b f
-        in
-        let bc = outer-at 8 1 second-side (on .b) (offset-at table s o h i l (3 * i + 1) 1 refl (omega arith)) in
-        let ca = outer-at 16 2 third-side (on .c) (offset-at table s o h i l (3 * i + 2) 2 refl (omega arith)) in
+        let v = offset-at table s o h i l in
+        let ab = reach-outer s (28 * i) (getD o (3 * i) 0) first-side (v (3 * i) 0 (omega arith) (omega arith)) (on .a) b f in
+        let bc = reach-outer s (28 * i + 8) (getD o (3 * i + 1) 0) second-side (v (3 * i + 1) 1 refl (omega arith)) (on .b) b f in
+        let ca = reach-outer s (28 * i + 16) (getD o (3 * i + 2) 0) third-side (v (3 * i + 2) 2 refl (omega arith)) (on .c) b f in
         ap₂ _&&_ (ap₂ _&&_ (ap₂ _&&_ (touches-box s (28 * i + 24) (triangleBox t) b whole-box) ab) bc) ca
         ∙ sym (not-or4 (apart (triangleBox t) b) (allOuter (t .a) (t .b) b) (allOuter (t .b) (t .c) b) (allOuter (t .c) (t .a) b))
 
@@ -223,8 +188,8 @@ module _ (table : Table) (s o : List ℕ) (h : Shaped table s o) (i : ℕ) (l : 
     unfolding sideMeetsAt sideMeets
     side-meets {p} {q} k v a d on e =
         ap₂ _&&_
-        (ap₂ _&&_ (touches-box s (k + 4) (sideBox (record { start = p; end = q })) b d) (ap₂ leb (base-side s k p q b a) e ∙ inner-base p q on b f))
-        (ap₂ leb e (reach-side s k p q b a) ∙ outer-reach p q on b f)
+        (ap₂ _&&_ (touches-box s (k + 4) (sideBox (record { start = p; end = q })) b d) (base-inner s k v a e on b f))
+        (reach-outer s k v a e on b f)
         ∙ sym (not-or3 (apart (sideBox (record { start = p; end = q })) b) (allInner p q b) (allOuter p q b))
 
     pub first-meets : (v : ℕ) → v ≡ getD o (3 * i) 0

@@ -1,10 +1,10 @@
 -- What depends on a triangle alone, as the numbers that code keeps of it, and the tests of a box by these numbers.
 -- Assumes nothing.
 use mathlib.Core.Path.{_≡_}
-use mathlib.Core.Bool.{Bool, not, _&&_}
+use mathlib.Core.Bool.{Bool, cond, _&&_}
 use mathlib.Core.List.{List, [], _∷_, _++_, flatMap}
 use Prim.Native.Nat.{ℕ, _+_, _*_, _-_, _≤_, min, max}
-use lib.Dec.{leb, ltb}
+use lib.Dec.{leb, eqb}
 use lib.ListN.{length, getD, take}
 use Rattle.plane.specs.declared.Point.{Point}
 use Rattle.plane.specs.Triangle.{Triangle}
@@ -12,10 +12,22 @@ use Rattle.plane.specs.Box.{Box}
 use Rattle.chart_spec.specs.Table.{Table}
 use Rattle.shapes.specs.declared.Frame.{Frame}
 
--- a side from p to q: how far y grows, y falls, x falls and x grows along it, each 0 where it does not, then its bounding box
+-- |m − n|
+abbrev pub distance : ℕ → ℕ → ℕ
+distance m n = (m - n) + (n - m)
+
+-- 1 where m ≤ n, otherwise 0
+abbrev pub atMost : ℕ → ℕ → ℕ
+atMost m n = cond (leb m n) 1 0
+
+-- one of two numbers, by a flag
+abbrev pub chosen : ℕ → ℕ → ℕ → ℕ
+chosen f low high = cond (eqb f 0) low high
+
+-- a side from p to q: |py − qy| and |qx − px|, flags that D never falls with x and with y, then its bounding box
 unfoldable pub sideShape : Point → Point → List ℕ
 sideShape p q =
-    (q .y - p .y) ∷ (p .y - q .y) ∷ (p .x - q .x) ∷ (q .x - p .x)
+    distance (p .y) (q .y) ∷ distance (q .x) (p .x) ∷ atMost (q .y) (p .y) ∷ atMost (p .x) (q .x)
     ∷ min (p .x) (q .x) ∷ min (p .y) (q .y) ∷ max (p .x) (q .x) ∷ max (p .y) (q .y) ∷ []
 
 -- the bounding box of three points: left, top, right, bottom
@@ -27,13 +39,15 @@ boxShape a b c =
 unfoldable pub shapeOf : Triangle → List ℕ
 shapeOf t = sideShape (t .a) (t .b) ++ (sideShape (t .b) (t .c) ++ (sideShape (t .c) (t .a) ++ boxShape (t .a) (t .b) (t .c)))
 
--- V of a point (x, y) from these four, with mx and my for 65,536 less x and y
+-- V of a point (x, y) from a side's first four numbers, with mx and my for 65,536 less x and y
 abbrev pub weigh : ℕ → ℕ → ℕ → ℕ → ℕ → ℕ → ℕ → ℕ → ℕ
-weigh up down back on x mx y my = down * x + up * mx + on * y + back * my
+weigh dy dx fx fy mx x my y = dy * chosen fx mx x + dx * chosen fy my y
 
 -- V(p) of the side from p to q
 unfoldable pub sideOffset : Point → Point → ℕ
-sideOffset p q = weigh (q .y - p .y) (p .y - q .y) (p .x - q .x) (q .x - p .x) (p .x) (65536 - p .x) (p .y) (65536 - p .y)
+sideOffset p q =
+    weigh (distance (p .y) (q .y)) (distance (q .x) (p .x)) (atMost (q .y) (p .y)) (atMost (p .x) (q .x))
+    (65536 - p .x) (p .x) (65536 - p .y) (p .y)
 
 -- the offsets of a triangle's sides
 unfoldable pub offsetsOf : Triangle → List ℕ
@@ -58,12 +72,12 @@ pub record InGrid (f : Frame) : Type 0 where
 -- V at the corner of the box where it is largest, for the side whose numbers start at k
 unfoldable pub reachAt : List ℕ → ℕ → Box → ℕ
 reachAt s k b =
-    weigh (getD s k 0) (getD s (k + 1) 0) (getD s (k + 2) 0) (getD s (k + 3) 0) (b .right) (65536 - b .left) (b .bottom) (65536 - b .top)
+    weigh (getD s k 0) (getD s (k + 1) 0) (getD s (k + 2) 0) (getD s (k + 3) 0) (65536 - b .left) (b .right) (65536 - b .top) (b .bottom)
 
 -- V at the corner where it is smallest
 unfoldable pub baseAt : List ℕ → ℕ → Box → ℕ
 baseAt s k b =
-    weigh (getD s k 0) (getD s (k + 1) 0) (getD s (k + 2) 0) (getD s (k + 3) 0) (b .left) (65536 - b .right) (b .top) (65536 - b .bottom)
+    weigh (getD s k 0) (getD s (k + 1) 0) (getD s (k + 2) 0) (getD s (k + 3) 0) (65536 - b .right) (b .left) (65536 - b .bottom) (b .top)
 
 -- the box whose left, top, right and bottom start at k is not strictly apart from the given one
 unfoldable pub touchesAt : List ℕ → ℕ → Box → Bool

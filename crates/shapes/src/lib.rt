@@ -1,16 +1,17 @@
-// What depends on a triangle alone, worked out once for a table: for each side the coefficients of D and its bounding box,
-// and the triangle's bounding box. With them a box is tested by one corner for each side, and by no signed number.
+// What depends on a triangle alone, worked out once for a table: for each side the sizes and signs of D's coefficients and
+// its bounding box, and the triangle's bounding box. With them a box is tested by one corner for each side, and by no signed
+// number.
 //
-// For a side from p to q let up = q.y - p.y, down = p.y - q.y, back = p.x - q.x and on = q.x - p.x, each cut off at 0.
-// Then D(p,q,c) = V(c) - V(p), where V(c) = down c.x + up (65536 - c.x) + on c.y + back (65536 - c.y).
+// For a side from p to q let X(c) be c.x where q.y <= p.y, and 65536 - c.x elsewhere; let Y(c) be c.y where p.x <= q.x, and
+// 65536 - c.y elsewhere. Then D(p,q,c) = V(c) - V(p), where V(c) = |p.y - q.y| X(c) + |q.x - p.x| Y(c).
 
 use plane::Point;
 ghost use mathlib.Core.Path.{_≡_};
-ghost use Prim.Native.Nat.{_+_, _*_, _-_, _≤_};
+ghost use Prim.Native.Nat.{_+_, _*_, _≤_};
 ghost use lib.ListN.{length};
 ghost use lib.Seq.{sets};
 ghost use mathlib.Core.List.{flatMap};
-ghost use Rattle.shapes.specs.Shape.{sideShape, boxShape, shapeOf, sideOffset, offsetsOf, boxOf, InGrid, reachAt, baseAt, touchesAt, triangleMeetsAt, sideMeetsAt};
+ghost use Rattle.shapes.specs.Shape.{distance, atMost, chosen, sideShape, boxShape, shapeOf, sideOffset, offsetsOf, boxOf, InGrid, reachAt, baseAt, touchesAt, triangleMeetsAt, sideMeetsAt};
 ghost use Rattle.chart_spec.specs.Table.{triangleAt, tableOf};
 
 // A box of the grid: left ≤ right ≤ 65536 and top ≤ bottom ≤ 65536.
@@ -21,11 +22,26 @@ pub struct Frame {
     pub bottom: u64,
 }
 
-// a - b, or 0 where b is larger.
-fn beyond(a: u16, b: u16) -> u16
-    ensures { λ r. ⌜ r ≡ a - b ⌝ }
+// How far apart a and b are.
+fn gap(a: u16, b: u16) -> u16
+    ensures { λ r. ⌜ r ≡ distance a b ⌝ }
 {
-    if b < a { a - b } else { 0 }
+    if b < a { a - b } else { b - a }
+}
+
+// 1 where a is at most b, otherwise 0.
+fn flag(a: u16, b: u16) -> u16
+    ensures { λ r. ⌜ r ≡ atMost a b ⌝ }
+{
+    if a <= b { 1 } else { 0 }
+}
+
+// The low one where the flag is 0, otherwise the high one.
+fn choose(f: u16, low: u64, high: u64) -> u64
+    requires { ⌜ (low ≤ 65536) × (high ≤ 65536) ⌝ }
+    ensures { λ r. ⌜ (r ≡ chosen f low high) × (r ≤ 65536) ⌝ }
+{
+    if f == 0 { low } else { high }
 }
 
 fn times(a: u16, b: u64) -> u64
@@ -39,10 +55,10 @@ fn times(a: u16, b: u64) -> u64
 fn offset(p: Point, q: Point) -> u64
     ensures { λ r. ⌜ r ≡ sideOffset p q ⌝ }
 {
-    times(beyond(p.y, q.y), numbers::wide(p.x))
-        + times(beyond(q.y, p.y), 65536 - numbers::wide(p.x))
-        + times(beyond(q.x, p.x), numbers::wide(p.y))
-        + times(beyond(p.x, q.x), 65536 - numbers::wide(p.y))
+    let x = numbers::wide(p.x);
+    let y = numbers::wide(p.y);
+    times(gap(p.y, q.y), choose(flag(q.y, p.y), 65536 - x, x))
+        + times(gap(q.x, p.x), choose(flag(p.x, q.x), 65536 - y, y))
 }
 
 // The eight numbers of the side from p to q, from k on.
@@ -50,10 +66,10 @@ fn put_side(shape: &mut [u16], k: usize, p: Point, q: Point)
     requires { ⌜ k + 8 ≤ length (now shape) ⌝ }
     ensures { λ r. ⌜ now (shape .exit) ≡ sets (now (shape .entry)) k (sideShape p q) ⌝ }
 {
-    shape[k] = beyond(q.y, p.y);
-    shape[k + 1] = beyond(p.y, q.y);
-    shape[k + 2] = beyond(p.x, q.x);
-    shape[k + 3] = beyond(q.x, p.x);
+    shape[k] = gap(p.y, q.y);
+    shape[k + 1] = gap(q.x, p.x);
+    shape[k + 2] = flag(q.y, p.y);
+    shape[k + 3] = flag(p.x, q.x);
     shape[k + 4] = numbers::smaller(p.x, q.x);
     shape[k + 5] = numbers::smaller(p.y, q.y);
     shape[k + 6] = numbers::larger(p.x, q.x);
@@ -121,23 +137,19 @@ pub fn prepare(table: &[u16], n: usize, shape: &mut [u16], offsets: &mut [u64])
 // V at the corner of the frame where it is largest, for the side whose numbers start at k.
 fn reach(shape: &[u16], k: usize, f: Frame) -> u64
     requires { ⌜ (k + 4 ≤ length (now shape)) × InGrid f ⌝ }
-    ensures { λ r. ⌜ (r ≡ reachAt (now (shape .entry)) k (boxOf f)) × (r ≤ 17179607040) ⌝ }
+    ensures { λ r. ⌜ r ≡ reachAt (now (shape .entry)) k (boxOf f) ⌝ }
 {
-    times(shape[k + 1], f.right)
-        + times(shape[k], 65536 - f.left)
-        + times(shape[k + 3], f.bottom)
-        + times(shape[k + 2], 65536 - f.top)
+    times(shape[k], choose(shape[k + 2], 65536 - f.left, f.right))
+        + times(shape[k + 1], choose(shape[k + 3], 65536 - f.top, f.bottom))
 }
 
 // V at the corner where it is smallest.
 fn base(shape: &[u16], k: usize, f: Frame) -> u64
     requires { ⌜ (k + 4 ≤ length (now shape)) × InGrid f ⌝ }
-    ensures { λ r. ⌜ (r ≡ baseAt (now (shape .entry)) k (boxOf f)) × (r ≤ 17179607040) ⌝ }
+    ensures { λ r. ⌜ r ≡ baseAt (now (shape .entry)) k (boxOf f) ⌝ }
 {
-    times(shape[k + 1], f.left)
-        + times(shape[k], 65536 - f.right)
-        + times(shape[k + 3], f.top)
-        + times(shape[k + 2], 65536 - f.bottom)
+    times(shape[k], choose(shape[k + 2], 65536 - f.right, f.left))
+        + times(shape[k + 1], choose(shape[k + 3], 65536 - f.bottom, f.top))
 }
 
 // The box whose numbers start at k is not strictly apart from the frame.

@@ -1,11 +1,7 @@
-use native.Mathlib.Omega.{arith}
 use Rattle.shapes.specs.Shape.{baseAt}
 use borrow.Author.Needs.{needs}
 use Rattle.shapes.proofs.base.Statement.{statement}
 use Rattle.shapes.proofs.base.Tie as tie
-
-add-times : tie.Need-add-times
-add-times c = search needs
 
 mul-times : tie.Need-mul-times
 mul-times c = search needs
@@ -13,8 +9,26 @@ mul-times c = search needs
 shared-slice-read-times : tie.Need-shared-slice-read-times
 shared-slice-read-times c = search needs
 
+add-choose : tie.Need-add-choose
+add-choose c = search needs
+
+mul-choose : tie.Need-mul-choose
+mul-choose c = search needs
+
+shared-slice-read-choose : tie.Need-shared-slice-read-choose
+shared-slice-read-choose c = search needs
+
+sub-choose : tie.Need-sub-choose
+sub-choose c = search needs
+
+choose-requires : tie.Need-choose-requires
+choose-requires c κs = search needs
+
 times-requires : tie.Need-times-requires
 times-requires c κs = search needs
+
+add-times : tie.Need-add-times
+add-times c = search needs
 
 mul-times-2 : tie.Need-mul-times-2
 mul-times-2 c = search needs
@@ -22,8 +36,20 @@ mul-times-2 c = search needs
 shared-slice-read-times-2 : tie.Need-shared-slice-read-times-2
 shared-slice-read-times-2 c = search needs
 
-sub-times : tie.Need-sub-times
-sub-times c = search needs
+add-choose-2 : tie.Need-add-choose-2
+add-choose-2 c = search needs
+
+mul-choose-2 : tie.Need-mul-choose-2
+mul-choose-2 c = search needs
+
+shared-slice-read-choose-2 : tie.Need-shared-slice-read-choose-2
+shared-slice-read-choose-2 c = search needs
+
+sub-choose-2 : tie.Need-sub-choose-2
+sub-choose-2 c = search needs
+
+choose-requires-2 : tie.Need-choose-requires-2
+choose-requires-2 c κs = search needs
 
 times-requires-2 : tie.Need-times-requires-2
 times-requires-2 c κs = search needs
@@ -31,65 +57,30 @@ times-requires-2 c κs = search needs
 add-result : tie.Need-add-result
 add-result c = search needs
 
-add-times-2 : tie.Need-add-times-2
-add-times-2 c = search needs
-
-mul-times-3 : tie.Need-mul-times-3
-mul-times-3 c = search needs
-
-shared-slice-read-times-3 : tie.Need-shared-slice-read-times-3
-shared-slice-read-times-3 c = search needs
-
-times-requires-3 : tie.Need-times-requires-3
-times-requires-3 c κs = search needs
-
-add-result-2 : tie.Need-add-result-2
-add-result-2 c = search needs
-
-add-times-3 : tie.Need-add-times-3
-add-times-3 c = search needs
-
-mul-times-4 : tie.Need-mul-times-4
-mul-times-4 c = search needs
-
-shared-slice-read-times-4 : tie.Need-shared-slice-read-times-4
-shared-slice-read-times-4 c = search needs
-
-sub-times-2 : tie.Need-sub-times-2
-sub-times-2 c = search needs
-
-times-requires-4 : tie.Need-times-requires-4
-times-requires-4 c κs = search needs
-
-add-result-3 : tie.Need-add-result-3
-add-result-3 c = search needs
-
 returns : tie.Need-returns
 unfolding baseAt
-returns c = (cc, omega arith)
+returns c = cc
 
 pub base-spec : {M : Type 1} → statement M
 base-spec =
     tie.close
     (tie.spec
-    add-times
     mul-times
     shared-slice-read-times
+    add-choose
+    mul-choose
+    shared-slice-read-choose
+    sub-choose
+    choose-requires
     times-requires
+    add-times
     mul-times-2
     shared-slice-read-times-2
-    sub-times
+    add-choose-2
+    mul-choose-2
+    shared-slice-read-choose-2
+    sub-choose-2
+    choose-requires-2
     times-requires-2
     add-result
-    add-times-2
-    mul-times-3
-    shared-slice-read-times-3
-    times-requires-3
-    add-result-2
-    add-times-3
-    mul-times-4
-    shared-slice-read-times-4
-    sub-times-2
-    times-requires-4
-    add-result-3
     returns)

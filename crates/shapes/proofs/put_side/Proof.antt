@@ -6,8 +6,8 @@ use borrow.Author.Needs.{needs}
 use Rattle.shapes.proofs.put_side.Statement.{statement}
 use Rattle.shapes.proofs.put_side.Tie as tie
 
-beyond-requires : tie.Need-beyond-requires
-beyond-requires c κs = search needs
+gap-requires : tie.Need-gap-requires
+gap-requires c κs = search needs
 
 mul-shape : tie.Need-mul-shape
 mul-shape c = search needs
@@ -15,8 +15,8 @@ mul-shape c = search needs
 slice-write-shape : tie.Need-slice-write-shape
 slice-write-shape c = search needs
 
-beyond-requires-2 : tie.Need-beyond-requires-2
-beyond-requires-2 c κs = search needs
+gap-requires-2 : tie.Need-gap-requires-2
+gap-requires-2 c κs = search needs
 
 add-shape : tie.Need-add-shape
 add-shape c = search needs
@@ -27,8 +27,8 @@ mul-shape-2 c = search needs
 slice-write-shape-2 : tie.Need-slice-write-shape-2
 slice-write-shape-2 c = simp length-set (omega arith)
 
-beyond-requires-3 : tie.Need-beyond-requires-3
-beyond-requires-3 c κs = search needs
+flag-requires : tie.Need-flag-requires
+flag-requires c κs = search needs
 
 add-shape-2 : tie.Need-add-shape-2
 add-shape-2 c = search needs
@@ -39,8 +39,8 @@ mul-shape-3 c = search needs
 slice-write-shape-3 : tie.Need-slice-write-shape-3
 slice-write-shape-3 c = simp length-set (omega arith)
 
-beyond-requires-4 : tie.Need-beyond-requires-4
-beyond-requires-4 c κs = search needs
+flag-requires-2 : tie.Need-flag-requires-2
+flag-requires-2 c κs = search needs
 
 add-shape-3 : tie.Need-add-shape-3
 add-shape-3 c = search needs
@@ -110,18 +110,18 @@ pub put-side-spec : {M : Type 1} → statement M
 put-side-spec =
     tie.close
     (tie.spec
-    beyond-requires
+    gap-requires
     mul-shape
     slice-write-shape
-    beyond-requires-2
+    gap-requires-2
     add-shape
     mul-shape-2
     slice-write-shape-2
-    beyond-requires-3
+    flag-requires
     add-shape-2
     mul-shape-3
     slice-write-shape-3
-    beyond-requires-4
+    flag-requires-2
     add-shape-3
     mul-shape-4
     slice-write-shape-4

@@ -81,9 +81,9 @@ returns c =
     let i = c .before .before .before .before .before .before .before .before .before .before .args .i in
     ap₂ _&&_
     (ap₂ _&&_
-    (ap₂ _&&_ (sym (c .before .before .before .before .before .before .if1 .taken) ∙ c .before .before .before .before .before .before .before .touches .ensures) (ap (leb (getD o (3 * i) 0)) (c .before .before .before .before .reach .ensures .0)))
-    (ap (leb (getD o (3 * i + 1) 0)) (c .before .before .reach2 .ensures .0)))
-    (ap (leb (getD o (3 * i + 2) 0)) (c .reach3 .ensures .0))
+    (ap₂ _&&_ (sym (c .before .before .before .before .before .before .if1 .taken) ∙ c .before .before .before .before .before .before .before .touches .ensures) (ap (leb (getD o (3 * i) 0)) (c .before .before .before .before .reach .ensures)))
+    (ap (leb (getD o (3 * i + 1) 0)) (c .before .before .reach2 .ensures)))
+    (ap (leb (getD o (3 * i + 2) 0)) (c .reach3 .ensures))
 
 returns-2 : tie.Need-returns-2
 unfolding triangleMeetsAt
