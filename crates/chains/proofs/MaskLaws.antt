@@ -5,11 +5,11 @@ use mathlib.Core.Path.{_≡_, sym, _∙_, ap}
 use mathlib.Core.Bool.{Bool, _&&_}
 use Prim.Native.Nat.{ℕ, _+_, _-_, _*_, _%_, _^_, _≤_, _<_}
 use native.Mathlib.Omega.{arith}
-use lib.Bits.{bitAnd, bitOr, bitXor, and-le-l, and-le-r, and-mask, or-add-and, or-disjoint, xor-add-and, xor-self}
+use lib.Bits.{bitAnd, bitOr, bitXor, and-le-l, and-le-r, and-mask, or-disjoint, xor-add-and, xor-self}
 use lib.Dec.{T, leb, eqb}
 use Rattle.lists.specs.Lists.{all, countFrom, upTo}
-use Rattle.lists.proofs.Reflects.{reflects-and, reflects-eqb, reflects-leb, reflects-iff}
-use Rattle.lists.proofs.IndexLaws.{reflects-same, all-below-reflects}
+use Rattle.lists.proofs.Reflects.{reflects-and, reflects-eqb, reflects-leb}
+use Rattle.lists.proofs.IndexLaws.{all-below-reflects}
 use Rattle.orthtree.specs.Entries.{span}
 use Rattle.squares.specs.Square.{arity, depth}
 use Rattle.chains.proofs.TestLaws.{eqb-same}
@@ -62,18 +62,6 @@ and-span k l m h e =
 -- "or" with it is the last key that the square covers, where the key is a multiple of the span
 pub or-span : (k m s : ℕ) → bitAnd k m ≡ 0 → m + 1 ≡ s → bitOr k m + 1 ≡ k + s
 or-span k m s z e = let d = or-disjoint k m z in omega arith
-
--- "or" is 0 when both are
-pub or-zero : (a b : ℕ) → eqb (bitOr a b) 0 ≡ eqb a 0 && eqb b 0
-or-zero a b =
-    reflects-same (reflects-eqb (bitOr a b) 0)
-    (reflects-iff to from (reflects-and (reflects-eqb a 0) (reflects-eqb b 0)))
-  where
-    to : (a ≡ 0) × (b ≡ 0) → bitOr a b ≡ 0
-    to p = omega (arith, or-add-and a b)
-
-    from : bitOr a b ≡ 0 → (a ≡ 0) × (b ≡ 0)
-    from e = (omega (arith, or-add-and a b, and-le-l a b, and-le-r a b), omega (arith, or-add-and a b, and-le-l a b, and-le-r a b))
 
 -- "xor" is 0 when the two are equal
 pub xor-zero : (a b : ℕ) → eqb (bitXor a b) 0 ≡ eqb a b

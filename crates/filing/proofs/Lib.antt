@@ -1,5 +1,6 @@
-pub mod EndsLaws
+pub mod MaskLaws
 pub mod StackLaws
+pub mod EndLaws
 pub mod StopLaws
 pub mod WalkLaws
 pub mod SquareWalk

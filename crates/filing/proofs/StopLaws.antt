@@ -1,70 +1,34 @@
--- The stopping test in code is the definition's: the ends that are kept while the sides pass by say whether some point is an
--- end of every side that meets the square.
+-- The stopping test in code is the definition's: the sides that it reads from the masks of the candidates are the sides of the
+-- table that meet the square.
+-- The idea: a mask of tests has the sides that pass, and a triangle with a side that meets the square is a candidate.
 -- Assumes nothing.
 use mathlib.Core.Path.{_≡_, refl, sym, _∙_, ap, ap₂}
-use mathlib.Core.Bool.{Bool, true, false, cond, not, _&&_, _||_}
-use mathlib.Core.List.{List, [], _∷_, _++_, map, flatMap, List·Memᴰ}
-use Prim.Native.Nat.{ℕ, zero, suc, _+_, _*_, _≤_, _<_}
+use mathlib.Core.Bool.{Bool, true, _||_}
+use mathlib.Core.List.{List, [], _∷_, map, flatMap, List·Memᴰ}
+use Prim.Native.Nat.{ℕ, zero, suc, _+_, _*_, _<_}
 use native.Mathlib.Nat.{zero-add, add-zero, le-of-suc-le-suc}
 use native.Mathlib.Omega.{arith}
 use borrow.Author.Tests.{eq-eqb, ne-eqb}
 use lib.Dec.{T}
 use lib.ListN.{length, getD}
-use Rattle.lists.specs.Lists.{all, filter, countFrom, upTo}
-use Rattle.lists.proofs.Reflects.{Reflects, reflects-test}
-use Rattle.lists.proofs.ListsLaws.{Every, every-uncons, all-reflects, getD-member}
+use Rattle.lists.specs.Lists.{filter, countFrom, upTo}
+use Rattle.lists.proofs.Reflects.{reflects-test}
+use Rattle.lists.proofs.ListsLaws.{Every, all-reflects}
 use Rattle.lists.proofs.Order.{rising-members}
-use Rattle.lists.proofs.EveryLaws.{every-map}
-use Rattle.plane.specs.declared.Point.{Point}
+use Rattle.lists.proofs.EveryLaws.{every-map, flatMap-agree}
 use Rattle.plane.specs.Triangle.{Triangle, Side, sides, proper}
 use Rattle.plane.specs.Box.{Box, sideMeets}
 use Rattle.plane.proofs.ExtremeLaws.{Framed, OnGrid}
 use Rattle.chart_spec.specs.Table.{Table, pointAt, triangleAt, tableOf, numbered, noTriangle}
 use Rattle.squares.specs.declared.Square.{Square}
 use Rattle.squares.specs.Square.{squareBox, Aligned}
-use Rattle.chart_spec.specs.Cells.{isEnd, sidesMeeting, commonEnd, stopped, trianglesMeeting}
+use Rattle.chart_spec.specs.Cells.{sidesMeeting, commonEnd, stopped, trianglesMeeting}
 use Rattle.chart_spec.proofs.FilingLaws.{sides-narrow}
 use Rattle.chart_spec.proofs.ChainOfTable.{meeting-rising}
-use Rattle.shapes.specs.Shape.{sideMeetsAt, Shaped}
 use Rattle.shapes.proofs.ShapeLaws.{OnTriangle, first-meets, second-meets, third-meets}
 use Rattle.shapes.proofs.PutLaws.{tableOf-length}
-use Rattle.filing.specs.declared.Ends.{Ends}
-use Rattle.filing.specs.Filing.{addSide, addWhen, addTriangle, addAll, noEnds, alive, Prepared}
-
--- ---- the ends of a list of sides
-
-abbrev addSides : Ends → List Side → Ends
-addSides e [] = e
-addSides e (d ∷ ds) = addSides (addSide e d) ds
-
-addSides-append : (e : Ends) (cs ds : List Side) → addSides e (cs ++ ds) ≡ addSides (addSides e cs) ds
-addSides-append e [] ds = refl
-addSides-append e (c ∷ cs) ds = addSides-append (addSide e c) cs ds
-
--- after the first side each of its ends is tested against every other
-ends-after : (p q : Point) (f g : Bool) (ds : List Side)
-    → alive (addSides (record { some = true; p = p; q = q; first = f; second = g }) ds)
-    ≡ (f && all (λ d. isEnd p d) ds || g && all (λ d. isEnd q d) ds)
-unfolding alive addSide all
-ends-after p q f g [] = go f g
-  where
-    go : (f g : Bool) → (f || g) ≡ (f && true || g && true)
-    go true g = refl
-    go false true = refl
-    go false false = refl
-ends-after p q f g (d ∷ ds) =
-    ends-after p q (f && isEnd p d) (g && isEnd q d) ds ∙ ap₂ _||_ (go f (isEnd p d) (all (λ e. isEnd p e) ds)) (go g (isEnd q d) (all (λ e. isEnd q e) ds))
-  where
-    go : (f x r : Bool) → (f && x && r) ≡ (f && elim x [ true ↦ r | false ↦ false ])
-    go true true r = refl
-    go true false r = refl
-    go false x r = refl
-
--- what is alive after all sides is the stopping rule
-alive-common : (ds : List Side) → alive (addSides noEnds ds) ≡ commonEnd ds
-unfolding alive noEnds commonEnd addSide
-alive-common [] = refl
-alive-common (d ∷ ds) = ends-after (d .start) (d .end) true true ds
+use Rattle.filing.specs.Filing.{maskOf, masked, sidesMet, sidesAt, Prepared}
+use Rattle.filing.proofs.MaskLaws.{masked-filter}
 
 -- ---- the triangles of a table
 
@@ -88,58 +52,26 @@ corners-small ns n small =
     (λ i m. record { a = on (6 * i); b = on (6 * i + 2); c = on (6 * i + 4) })
 
 module _ (n : ℕ) (ns s o : List ℕ) (h : Prepared n ns s o) (b : Box) (f : Framed b) where
-  three : (e : Ends) (x y z : Bool) (c d g : Side) (m : Side → Bool) → x ≡ m c → y ≡ m d → z ≡ m g
-      → cond z (addSide (cond y (addSide (cond x (addSide e c) e) d) (cond x (addSide e c) e)) g) (cond y (addSide (cond x (addSide e c) e) d) (cond x (addSide e c) e))
-      ≡ addSides e (filter m (c ∷ d ∷ g ∷ []))
-  unfolding filter
-  three e x y z c d g m ex ey ez = rw (ex, ey, ez) (go (m c) (m d) (m g))
-    where
-      go : (x y z : Bool)
-          → cond z (addSide (cond y (addSide (cond x (addSide e c) e) d) (cond x (addSide e c) e)) g) (cond y (addSide (cond x (addSide e c) e) d) (cond x (addSide e c) e))
-          ≡ addSides e (elim x [ true ↦ c ∷ (elim y [ true ↦ d ∷ (elim z [ true ↦ g ∷ [] | false ↦ [] ]) | false ↦ elim z [ true ↦ g ∷ [] | false ↦ [] ] ]) | false ↦ elim y [ true ↦ d ∷ (elim z [ true ↦ g ∷ [] | false ↦ [] ]) | false ↦ elim z [ true ↦ g ∷ [] | false ↦ [] ] ] ])
-      go true true true = refl
-      go true true false = refl
-      go true false true = refl
-      go true false false = refl
-      go false true true = refl
-      go false true false = refl
-      go false false true = refl
-      go false false false = refl
-
   -- the sides of triangle i that meet the box
-  triangle-sides : (e : Ends) (i : ℕ) → i < n → addTriangle ns s o b e i ≡ addSides e (filter (λ d. sideMeets d b) (sides (numbered (tableOf ns n) i)))
-  unfolding addTriangle triangleAt
-  triangle-sides e i l =
+  sides-at : (i : ℕ) → i < n → sidesAt ns s o b i ≡ filter (λ d. sideMeets d b) (sides (numbered (tableOf ns n) i))
+  unfolding sidesAt sidesMet triangleAt
+  sides-at i l =
       let table = tableOf ns n in
       let k : i < length table = rw (tableOf-length ns n) l in
       let g = corners-small ns n (h .small) in
       let at = numbered-at ns n i l in
       let m : Side → Bool = λ d. sideMeets d b in
-      let p = pointAt ns (6 * i) in
-      let q = pointAt ns (6 * i + 2) in
-      let r = pointAt ns (6 * i + 4) in
       let x = rw at at (first-meets table s o (h .shaped) i k g b f (getD o (3 * i) 0) refl) in
       let y = rw at at (second-meets table s o (h .shaped) i k g b f (getD o (3 * i + 1) 0) refl) in
       let z = rw at at (third-meets table s o (h .shaped) i k g b f (getD o (3 * i + 2) 0) refl) in
-      three e (sideMeetsAt s (28 * i) (getD o (3 * i) 0) b) (sideMeetsAt s (28 * i + 8) (getD o (3 * i + 1) 0) b) (sideMeetsAt s (28 * i + 16) (getD o (3 * i + 2) 0) b)
-      (record { start = p; end = q }) (record { start = q; end = r }) (record { start = r; end = p }) m x y z
-      ∙ ap (λ t. addSides e (filter m (sides t))) (sym at)
+      ap (λ bs. masked (maskOf bs) (sides (triangleAt ns i))) (ap₂ _∷_ x (ap₂ _∷_ y (ap (λ c. c ∷ []) z)))
+      ∙ masked-filter m (sides (triangleAt ns i))
+      ∙ ap (λ t. filter m (sides t)) (sym at)
 
-  all-sides : (e : Ends) (is : List ℕ) → Every (λ i. i < n) is
-      → addAll ns s o b e is ≡ addSides e (flatMap (λ i. filter (λ d. sideMeets d b) (sides (numbered (tableOf ns n) i))) is)
-  unfolding addAll flatMap
-  all-sides e [] v = refl
-  all-sides e (i ∷ is) v =
-      let u = every-uncons v in
-      all-sides (addTriangle ns s o b e i) is (u .1)
-      ∙ ap (λ x. addSides x (flatMap (λ j. filter (λ d. sideMeets d b) (sides (numbered (tableOf ns n) j))) is)) (triangle-sides e i (u .0))
-      ∙ sym (addSides-append e (filter (λ d. sideMeets d b) (sides (numbered (tableOf ns n) i))) (flatMap (λ j. filter (λ d. sideMeets d b) (sides (numbered (tableOf ns n) j))) is))
-
-  -- the test in code is the stopping rule on the sides of these triangles
-  pub alive-sides : (is : List ℕ) → Every (λ i. i < n) is
-      → alive (addAll ns s o b noEnds is) ≡ commonEnd (flatMap (λ i. filter (λ d. sideMeets d b) (sides (numbered (tableOf ns n) i))) is)
-  alive-sides is v =
-      ap alive (all-sides noEnds is v) ∙ alive-common (flatMap (λ i. filter (λ d. sideMeets d b) (sides (numbered (tableOf ns n) i))) is)
+  -- the sides of these triangles
+  pub sides-all : (is : List ℕ) → Every (λ i. i < n) is
+      → flatMap (λ i. sidesAt ns s o b i) is ≡ flatMap (λ i. filter (λ d. sideMeets d b) (sides (numbered (tableOf ns n) i))) is
+  sides-all is v = flatMap-agree _ _ is (λ i m. sides-at i (v i m))
 
 -- ---- squares
 
@@ -160,12 +92,12 @@ module _ (n : ℕ) (ns sh o : List ℕ) (h : Prepared n ns sh o) (s : Square) wh
   stopped-deep e = rw (eq-eqb (s .level) 16 e) refl
 
   pub stopped-sides : (s .level ≡ 16 → ⊥) → Aligned s → (is : List ℕ) → is ≡ trianglesMeeting (tableOf ns n) s
-      → alive (addAll ns sh o (squareBox s) noEnds is) ≡ stopped (tableOf ns n) s
+      → commonEnd (flatMap (λ i. sidesAt ns sh o (squareBox s) i) is) ≡ stopped (tableOf ns n) s
   unfolding stopped
   stopped-sides d p is e =
       let table = tableOf ns n in
       let below : Every (λ i. i < n) is = λ i m. rw (tableOf-length ns n) at (meeting-below table s i (rw e at m)) in
-      alive-sides n ns sh o h (squareBox s) (framed s p) is below
+      ap commonEnd (sides-all n ns sh o h (squareBox s) (framed s p) is below)
       ∙ ap (λ x. commonEnd (flatMap (λ i. filter (λ d. sideMeets d (squareBox s)) (sides (numbered table i))) x)) e
       ∙ ap commonEnd (sym (sides-narrow table good s))
       ∙ sym (ap (λ b. b || commonEnd (sidesMeeting table s)) (ne-eqb (s .level) 16 d))

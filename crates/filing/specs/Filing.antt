@@ -1,23 +1,22 @@
 -- Filing: the entries of a square, packed into numbers, and the states of its loops.
 -- Assumes nothing.
 use mathlib.Core.Path.{_≡_}
-use mathlib.Core.Bool.{Bool, true, false, cond, not, _&&_, _||_}
+use mathlib.Core.Bool.{Bool, true, false, cond, _||_}
 use mathlib.Core.List.{List, [], _∷_, map}
-use Prim.Native.Nat.{ℕ, _+_, _*_, _-_, _≤_, _<_}
-use lib.Dec.{T}
+use Prim.Native.Nat.{ℕ, _+_, _*_, _-_, _/_, _%_, _≤_, _<_}
+use lib.Dec.{T, eqb}
 use lib.ListN.{length, getD, take, drop}
 use lib.Seq.{sets}
 use Rattle.lists.specs.Lists.{all, filter}
 use Rattle.orthtree.specs.Entries.{Entry}
 use Rattle.plane.specs.declared.Point.{Point}
-use Rattle.plane.specs.Triangle.{Side, proper}
+use Rattle.plane.specs.Triangle.{Triangle, Side, sides, proper}
 use Rattle.plane.specs.Box.{Box, triangleMeets}
 use Rattle.squares.specs.declared.Square.{Square}
 use Rattle.squares.specs.Square.{squareBox}
-use Rattle.chart_spec.specs.Table.{pointAt, tableOf, numbered}
+use Rattle.chart_spec.specs.Table.{triangleAt, tableOf, numbered}
 use Rattle.chart_spec.specs.Cells.{isEnd, trianglesMeeting}
 use Rattle.shapes.specs.Shape.{sideMeetsAt, Shaped}
-use Rattle.filing.specs.declared.Ends.{Ends}
 
 -- an entry as one number: key, level and item at places 32, 16 and 0
 unfoldable pub packed : Entry → ℕ
@@ -27,52 +26,48 @@ packed e = e .key * 4294967296 + e .level * 65536 + e .item
 abbrev pub only : Bool → ℕ → List ℕ
 only b i = cond b (i ∷ []) []
 
--- before any side
-unfoldable pub noEnds : Ends
-noEnds = record {
-  some = false;
-  p = record { x = 0; y = 0 };
-  q = record { x = 0; y = 0 };
-  first = true;
-  second = true;
-}
+-- 1 where the test passes, else 0
+abbrev pub bit : Bool → ℕ
+bit false = 0
+bit true = 1
 
--- one side more: the ends of the first side, and whether each is an end of every side since
-unfoldable pub addSide : Ends → Side → Ends
-addSide e d =
-    cond (e .some)
-    (record {
-      some = true;
-      p = e .p;
-      q = e .q;
-      first = e .first && isEnd (e .p) d;
-      second = e .second && isEnd (e .q) d;
-    })
-    (record { some = true; p = d .start; q = d .end; first = true; second = true })
+-- tests as one number, the first at its lowest bit
+unfoldable pub maskOf : List Bool → ℕ
+maskOf [] = 0
+maskOf (b ∷ bs) = bit b + 2 * maskOf bs
 
--- a side that is added where the test passes
-abbrev pub addWhen : Bool → Ends → Point → Point → Ends
-addWhen b e u v = cond b (addSide e (record { start = u; end = v })) e
+-- the elements of a list whose bit the mask has
+unfoldable pub masked : {A : Type 0} → ℕ → List A → List A
+masked m [] = []
+masked m (x ∷ xs) = cond (eqb (m % 2) 1) (x ∷ masked (m / 2) xs) (masked (m / 2) xs)
 
--- the sides of triangle i that meet the box, added one after another
-unfoldable pub addTriangle : List ℕ → List ℕ → List ℕ → Box → Ends → ℕ → Ends
-addTriangle table s o b e i =
-    let p = pointAt table (6 * i) in
-    let q = pointAt table (6 * i + 2) in
-    let r = pointAt table (6 * i + 4) in
-    addWhen (sideMeetsAt s (28 * i + 16) (getD o (3 * i + 2) 0) b)
-    (addWhen (sideMeetsAt s (28 * i + 8) (getD o (3 * i + 1) 0) b) (addWhen (sideMeetsAt s (28 * i) (getD o (3 * i) 0) b) e p q) q r)
-    r
-    p
+-- the point that a number stands for, y above the 16 bits of x
+unfoldable pub unpacked : ℕ → Point
+unpacked p = record { x = p % 65536; y = p / 65536 }
 
--- those of a list of triangles
-unfoldable pub addAll : List ℕ → List ℕ → List ℕ → Box → Ends → List ℕ → Ends
-addAll table s o b e [] = e
-addAll table s o b e (i ∷ is) = addAll table s o b (addTriangle table s o b e i) is
+-- the triangle of three such points
+unfoldable pub unpackedTriangle : ℕ → ℕ → ℕ → Triangle
+unpackedTriangle a b c = record { a = unpacked a; b = unpacked b; c = unpacked c }
 
--- some point is an end of every side so far, as when there is none
-unfoldable pub alive : Ends → Bool
-alive e = not (e .some) || (e .first || e .second)
+-- the corner where the first of the sides ab, bc, ca that the mask has starts
+abbrev pub startOf : ℕ → ℕ → ℕ → ℕ → ℕ
+startOf m a b c = cond (eqb (m % 2) 1) a (cond (eqb (m / 2 % 2) 1) b c)
+
+-- which of the sides of triangle i meet the box
+unfoldable pub sidesMet : List ℕ → List ℕ → Box → ℕ → List Bool
+sidesMet s o b i =
+    sideMeetsAt s (28 * i) (getD o (3 * i) 0) b
+    ∷ sideMeetsAt s (28 * i + 8) (getD o (3 * i + 1) 0) b
+    ∷ sideMeetsAt s (28 * i + 16) (getD o (3 * i + 2) 0) b
+    ∷ []
+
+-- the sides of triangle i that meet the box
+unfoldable pub sidesAt : List ℕ → List ℕ → List ℕ → Box → ℕ → List Side
+sidesAt table s o b i = masked (maskOf (sidesMet s o b i)) (sides (triangleAt table i))
+
+-- p or q is an end of every side
+unfoldable pub eitherEnd : Point → Point → List Side → Bool
+eitherEnd p q ds = all (λ d. isEnd p d) ds || all (λ d. isEnd q d) ds
 
 -- the elements of a list from place f up to place t
 abbrev pub part : ℕ → ℕ → List ℕ → List ℕ

@@ -1,33 +1,23 @@
 // Filing a table: one recursion on quarters writes the entries of its cells, packed into numbers, and stops as soon as there
 // are too many. A square looks only at the triangles that met its parent; a stack keeps the lists of the squares above.
 
-use plane::Point;
 use shapes::Frame;
 use squares::Square;
 ghost use mathlib.Core.Path.{_≡_};
 ghost use mathlib.Core.Bool.{true};
-ghost use mathlib.Core.List.{map};
+ghost use mathlib.Core.List.{[], map, flatMap};
 ghost use Prim.Native.Nat.{suc, _+_, _*_, _-_, _≤_, _<_, max};
+ghost use lib.Dec.{eqb};
 ghost use lib.ListN.{length, getD};
 ghost use lib.Seq.{sets};
 ghost use Rattle.lists.specs.Lists.{all, filter, upTo};
-ghost use Rattle.plane.specs.Point.{samePoint};
-ghost use Rattle.plane.specs.Triangle.{proper};
+ghost use Rattle.plane.specs.Triangle.{sides, proper};
 ghost use Rattle.orthtree.specs.Entries.{span};
 ghost use Rattle.squares.specs.Square.{squareBox, squareKey, quarters, Aligned};
-ghost use Rattle.chart_spec.specs.Table.{tableOf};
-ghost use Rattle.chart_spec.specs.Cells.{stopped, trianglesMeeting, orMark, entriesIn, entriesOf};
+ghost use Rattle.chart_spec.specs.Table.{pointAt, tableOf};
+ghost use Rattle.chart_spec.specs.Cells.{isEnd, commonEnd, stopped, trianglesMeeting, orMark, entriesIn, entriesOf};
 ghost use Rattle.shapes.specs.Shape.{boxOf, InGrid, triangleMeetsAt};
-ghost use Rattle.filing.specs.Filing.{only, part, Ready, Prepared, Candidates, Filed, packed, addWhen, addTriangle, addAll, noEnds, alive};
-
-// What is known of the ends of the sides seen so far: the two ends of the first, and whether each is an end of every one.
-pub struct Ends {
-    pub some: bool,
-    pub p: Point,
-    pub q: Point,
-    pub first: bool,
-    pub second: bool,
-}
+ghost use Rattle.filing.specs.Filing.{packed, only, maskOf, masked, unpacked, unpackedTriangle, startOf, sidesMet, sidesAt, eitherEnd, part, Ready, Prepared, Candidates, Filed};
 
 // i on top of the stack where the test passed.
 fn push_when(b: bool, stack: &mut [u16], top: usize, i: u16) -> usize
@@ -40,39 +30,6 @@ fn push_when(b: bool, stack: &mut [u16], top: usize, i: u16) -> usize
         return top + 1;
     }
     top
-}
-
-fn same(p: Point, q: Point) -> bool
-    ensures { λ o. ⌜ o ≡ samePoint p q ⌝ }
-{
-    (p.x == q.x) & (p.y == q.y)
-}
-
-// One side more, where the test passed.
-fn add_when(b: bool, e: Ends, u: Point, v: Point) -> Ends
-    ensures { λ r. ⌜ r ≡ addWhen b e u v ⌝ }
-{
-    if !b {
-        return e;
-    }
-    if !e.some {
-        return Ends {
-            some: true,
-            p: u,
-            q: v,
-            first: true,
-            second: true,
-        };
-    }
-    let p = e.p;
-    let q = e.q;
-    Ends {
-        some: true,
-        p,
-        q,
-        first: e.first & (same(p, u) | same(p, v)),
-        second: e.second & (same(q, u) | same(q, v)),
-    }
 }
 
 // The candidates from `from` up to `to` that meet the frame, stored from `to` on.
@@ -102,39 +59,109 @@ fn narrow(
     top
 }
 
-// The sides of triangle i that meet the frame, added to what is known.
-fn add_triangle(table: &[u16], shape: &[u16], offsets: &[u64], i: usize, f: Frame, e: Ends) -> Ends
-    requires { ⌜ (6 * i + 6 ≤ length (now table)) × ((28 * i + 28 ≤ length (now shape)) × ((3 * i + 3 ≤ length (now offsets)) × InGrid f)) ⌝ }
-    ensures { λ r. ⌜ r ≡ addTriangle (now (table .entry)) (now (shape .entry)) (now (offsets .entry)) (boxOf f) e i ⌝ }
+// The sides of triangle i that meet the frame, as a mask: bits 0, 1 and 2 for ab, bc and ca.
+fn sides_met(shape: &[u16], offsets: &[u64], i: usize, f: Frame) -> u32
+    requires { ⌜ ((28 * i + 28 ≤ length (now shape)) × (3 * i + 3 ≤ length (now offsets))) × InGrid f ⌝ }
+    ensures { λ r. ⌜ (r ≡ maskOf (sidesMet (now (shape .entry)) (now (offsets .entry)) (boxOf f) i)) × (r < 8) ⌝ }
 {
-    let a = numbers::point_at(table, 6 * i);
-    let b = numbers::point_at(table, 6 * i + 2);
-    let c = numbers::point_at(table, 6 * i + 4);
     let ab = shapes::side_meets(shape, 28 * i, offsets[3 * i], f);
     let bc = shapes::side_meets(shape, 28 * i + 8, offsets[3 * i + 1], f);
     let ca = shapes::side_meets(shape, 28 * i + 16, offsets[3 * i + 2], f);
-    add_when(ca, add_when(bc, add_when(ab, e, a, b), b, c), c, a)
+    (ab as u32) + 2 * (bc as u32) + 4 * (ca as u32)
 }
 
-// Before any side.
-fn no_ends() -> Ends
-    ensures { λ r. ⌜ r ≡ noEnds ⌝ }
+// The point at places k and k + 1 of a table as one number.
+fn packed_at(table: &[u16], k: usize) -> u32
+    requires { ⌜ k + 2 ≤ length (now table) ⌝ }
+    ensures { λ r. ⌜ unpacked r ≡ pointAt (now (table .entry)) k ⌝ }
 {
-    let o = Point { x: 0, y: 0 };
-    Ends {
-        some: false,
-        p: o,
-        q: o,
-        first: true,
-        second: true,
+    (table[k] as u32) + 65536 * (table[k + 1] as u32)
+}
+
+// Those of the sides in the mask m that have no end in p, in the triangle with the corners a, b, c.
+fn missed(m: u32, p: u32, a: u32, b: u32, c: u32) -> u32
+    requires { ⌜ m < 8 ⌝ }
+    ensures { λ r. ⌜ eqb r 0 ≡ all (λ d. isEnd (unpacked p) d) (masked m (sides (unpackedTriangle a b c))) ⌝ }
+{
+    let pa = (p == a) as u32;
+    let pb = (p == b) as u32;
+    let pc = (p == c) as u32;
+    // a is an end of ab and ca, b of ab and bc, c of bc and ca.
+    m & (7 ^ (5 * pa | 3 * pb | 6 * pc))
+}
+
+// The corner where the first side of the mask starts.
+fn start_of(m: u32, a: u32, b: u32, c: u32) -> u32
+    ensures { λ r. ⌜ r ≡ startOf m a b c ⌝ }
+{
+    if m % 2 == 1 {
+        return a;
     }
+    if m / 2 % 2 == 1 {
+        return b;
+    }
+    c
 }
 
-// Some point is an end of every side so far.
-fn is_alive(e: Ends) -> bool
-    ensures { λ o. ⌜ o ≡ alive e ⌝ }
+// The place of the first candidate, from `from` up to `to`, of which some side meets the frame, or `to`.
+fn first_met(
+    table: &[u16],
+    n: usize,
+    shape: &[u16],
+    offsets: &[u64],
+    stack: &[u16],
+    from: usize,
+    to: usize,
+    f: Frame,
+) -> usize
+    requires { ⌜ Ready n from to (now table) (now shape) (now offsets) (now stack) × InGrid f ⌝ }
+    ensures { λ r. ⌜ ((from ≤ r) × (r ≤ to)) × (flatMap (λ i. sidesAt (now (table .entry)) (now (shape .entry)) (now (offsets .entry)) (boxOf f) i) (part from r (now (stack .entry))) ≡ []) ⌝ }
+    ensures { λ r. ⌜ (r < to → 0 < maskOf (sidesMet (now (shape .entry)) (now (offsets .entry)) (boxOf f) (getD (now (stack .entry)) r 0))) ⌝ }
 {
-    !e.some | (e.first | e.second)
+    let mut k = from;
+    while k < to {
+        let m = sides_met(shape, offsets, numbers::index(stack[k]), f);
+        if m != 0 {
+            return k;
+        }
+        k += 1;
+    }
+    to
+}
+
+// p or q is an end of every side, of the candidates from `from` up to `to`, that meets the frame.
+fn either_end(
+    table: &[u16],
+    n: usize,
+    shape: &[u16],
+    offsets: &[u64],
+    stack: &[u16],
+    from: usize,
+    to: usize,
+    f: Frame,
+    p: u32,
+    q: u32,
+) -> bool
+    requires { ⌜ Ready n from to (now table) (now shape) (now offsets) (now stack) × InGrid f ⌝ }
+    ensures { λ o. ⌜ o ≡ eitherEnd (unpacked p) (unpacked q) (flatMap (λ i. sidesAt (now (table .entry)) (now (shape .entry)) (now (offsets .entry)) (boxOf f) i) (part from to (now (stack .entry)))) ⌝ }
+{
+    let mut first = 0;
+    let mut second = 0;
+    let mut k = from;
+    while k < to {
+        let i = numbers::index(stack[k]);
+        let m = sides_met(shape, offsets, i, f);
+        let a = packed_at(table, 6 * i);
+        let b = packed_at(table, 6 * i + 2);
+        let c = packed_at(table, 6 * i + 4);
+        first = first | missed(m, p, a, b, c);
+        second = second | missed(m, q, a, b, c);
+        if (first != 0) & (second != 0) {
+            return false;
+        }
+        k += 1;
+    }
+    (first == 0) | (second == 0)
 }
 
 // Some point is an end of every side, of the candidates from `from` up to `to`, that meets the frame.
@@ -149,17 +176,18 @@ fn common_end(
     f: Frame,
 ) -> bool
     requires { ⌜ Ready n from to (now table) (now shape) (now offsets) (now stack) × InGrid f ⌝ }
-    ensures { λ o. ⌜ o ≡ alive (addAll (now (table .entry)) (now (shape .entry)) (now (offsets .entry)) (boxOf f) noEnds (part from to (now (stack .entry)))) ⌝ }
+    ensures { λ o. ⌜ o ≡ commonEnd (flatMap (λ i. sidesAt (now (table .entry)) (now (shape .entry)) (now (offsets .entry)) (boxOf f) i) (part from to (now (stack .entry)))) ⌝ }
 {
-    let mut e = no_ends();
-    let mut k = from;
-    while k < to {
+    let k = first_met(table, n, shape, offsets, stack, from, to, f);
+    if k < to {
         let i = numbers::index(stack[k]);
-        e = add_triangle(table, shape, offsets, i, f, e);
-        if !is_alive(e) {
-            return false;
-        }
-        k += 1;
+        let m = sides_met(shape, offsets, i, f);
+        let a = packed_at(table, 6 * i);
+        let b = packed_at(table, 6 * i + 2);
+        let c = packed_at(table, 6 * i + 4);
+        let p = start_of(m, a, b, c);
+        let q = start_of(m, b, c, a);
+        return either_end(table, n, shape, offsets, stack, k, to, f, p, q);
     }
     true
 }

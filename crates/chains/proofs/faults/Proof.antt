@@ -8,7 +8,7 @@ use Rattle.lists.specs.Lists.{all, upTo}
 use Rattle.lists.proofs.IndexLaws.{all-below-none, all-below-step, all-below-at}
 use Rattle.squares.specs.Square.{depth}
 use Rattle.chains.specs.Links.{linkedAt, entryAt}
-use Rattle.chains.proofs.MaskLaws.{or-zero}
+use Rattle.numbers.proofs.BitLaws.{or-zero}
 use Rattle.chains.proofs.faults.Statement.{statement}
 use Rattle.chains.proofs.faults.Tie as tie
 

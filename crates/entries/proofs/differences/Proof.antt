@@ -6,7 +6,8 @@ use lib.Dec.{eqb}
 use lib.ListN.{getD}
 use Rattle.lists.specs.Lists.{all, upTo}
 use Rattle.lists.proofs.IndexLaws.{all-below-none, all-below-step}
-use Rattle.chains.proofs.MaskLaws.{or-zero, xor-zero}
+use Rattle.numbers.proofs.BitLaws.{or-zero}
+use Rattle.chains.proofs.MaskLaws.{xor-zero}
 use Rattle.entries.specs.Lists.{packedAt}
 use Rattle.entries.proofs.differences.Statement.{statement}
 use Rattle.entries.proofs.differences.Tie as tie

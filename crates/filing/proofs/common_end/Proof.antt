@@ -1,121 +1,136 @@
-use mathlib.Core.Path.{_≡_, sym, _∙_, ap, ap₂}
-use mathlib.Core.Bool.{true, false}
-use Prim.Native.Nat.{_+_, _-_, _≤_}
+use mathlib.Core.Path.{_≡_, sym, _∙_, ap}
 use native.Mathlib.Omega.{arith}
-use borrow.Author.Tests.{not-true, not-false}
-use lib.ListN.{getD}
+use Rattle.chart_spec.specs.Cells.{commonEnd}
 use Rattle.shapes.specs.Shape.{boxOf}
-use Rattle.filing.specs.Filing.{part, addTriangle, addAll, noEnds, alive}
-use Rattle.filing.proofs.EndsLaws.{alive-none, dead-all, addAll-append, addAll-snoc, addAll-none}
-use Rattle.filing.proofs.StackLaws.{part-snoc, part-none, part-split}
+use Rattle.filing.proofs.EndLaws.{common-read}
+use borrow.Author.Needs.{needs}
 use Rattle.filing.proofs.common_end.Statement.{statement}
 use Rattle.filing.proofs.common_end.Tie as tie
 
-abbrev Inv-loop : tie.InvT-loop
-Inv-loop table n shape offsets stack from to f e₀ k₀ e k =
-    ((from ≤ k) × (k ≤ to)) × ((e ≡ addAll table shape offsets (boxOf f) noEnds (part from k stack)) × (alive e ≡ true))
+first-met-requires : tie.Need-first-met-requires
+first-met-requires c κs = search needs
 
-abbrev μ-loop : tie.MeasureT-loop
-μ-loop table n shape offsets stack from to f e₀ k₀ e k = to - k
+mul-index : tie.Need-mul-index
+mul-index c = search needs
 
-no-ends-requires : tie.Need-no-ends-requires Inv-loop μ-loop
-no-ends-requires c κs = tt
+shared-slice-read-index : tie.Need-shared-slice-read-index
+shared-slice-read-index c = search needs
 
-loop-holds : tie.Need-loop-holds Inv-loop μ-loop
-loop-holds c =
-    let a = c .before .before .before .before .before .args in
-    let g = c .before .before .before .before .before .pre .0 in
-    let p = c .no-ends .ensures in (
-      (omega arith, omega (arith, g .order)),
-      (
-        p ∙ sym (ap (addAll (a .table .now) (a .shape .now) (a .offsets .now) (boxOf (a .f)) noEnds) (part-none (a .from) (a .stack .now)) ∙ addAll-none (a .table .now) (a .shape .now) (a .offsets .now) (boxOf (a .f)) noEnds),
-        rw p alive-none,
-      ),
+index-requires : tie.Need-index-requires
+index-requires c κs = search needs
+
+sides-met-requires : tie.Need-sides-met-requires
+sides-met-requires c κs =
+    let g = c .before .before .before .before .before .before .before .before .pre .0 in
+    let r = c .before .before .before .first-met .ensures .0 .0 in
+    let h = g .held (c .before .before .before .first-met .result) (r .0) (c .before .before .if1 .taken) in
+    let w = c .index .ensures .0 in
+    ((omega (arith, g .shapes), omega (arith, g .offs)), c .before .before .before .before .before .before .before .before .pre .1)
+
+mul-packed-at : tie.Need-mul-packed-at
+mul-packed-at c = search needs
+
+packed-at-requires : tie.Need-packed-at-requires
+packed-at-requires c κs =
+    let g = c .before .before .before .before .before .before .before .before .before .pre .0 in
+    let r = c .before .before .before .before .first-met .ensures .0 .0 in
+    let h = g .held (c .before .before .before .before .first-met .result) (r .0) (c .before .before .before .if1 .taken) in
+    let w = c .before .index .ensures .0 in
+    omega (arith, g .tables)
+
+mul-packed-at-2 : tie.Need-mul-packed-at-2
+mul-packed-at-2 c = search needs
+
+add-packed-at : tie.Need-add-packed-at
+add-packed-at c = search needs
+
+packed-at-requires-2 : tie.Need-packed-at-requires-2
+packed-at-requires-2 c κs =
+    let g = c .before .before .before .before .before .before .before .before .before .before .pre .0 in
+    let r = c .before .before .before .before .before .first-met .ensures .0 .0 in
+    let h = g .held (c .before .before .before .before .before .first-met .result) (r .0) (c .before .before .before .before .if1 .taken) in
+    let w = c .before .before .index .ensures .0 in
+    omega (arith, g .tables)
+
+mul-packed-at-3 : tie.Need-mul-packed-at-3
+mul-packed-at-3 c = search needs
+
+add-packed-at-2 : tie.Need-add-packed-at-2
+add-packed-at-2 c = search needs
+
+packed-at-requires-3 : tie.Need-packed-at-requires-3
+packed-at-requires-3 c κs =
+    let g = c .before .before .before .before .before .before .before .before .before .before .before .pre .0 in
+    let r = c .before .before .before .before .before .before .first-met .ensures .0 .0 in
+    let h = g .held (c .before .before .before .before .before .before .first-met .result) (r .0) (c .before .before .before .before .before .if1 .taken) in
+    let w = c .before .before .before .index .ensures .0 in
+    omega (arith, g .tables)
+
+start-of-requires : tie.Need-start-of-requires
+start-of-requires c κs = search needs
+
+start-of-requires-2 : tie.Need-start-of-requires-2
+start-of-requires-2 c κs = search needs
+
+either-end-requires : tie.Need-either-end-requires
+either-end-requires c κs =
+    let g = c .before .before .before .before .before .before .before .before .before .before .before .before .before .before .pre .0 in
+    let r = c .before .before .before .before .before .before .before .before .before .first-met .ensures .0 .0 in (
+      record {
+        order = r .1;
+        within = g .within;
+        held = λ k lo hi. g .held k (omega (arith, r .0)) hi;
+        tables = g .tables;
+        shapes = g .shapes;
+        offs = g .offs;
+      },
+      c .before .before .before .before .before .before .before .before .before .before .before .before .before .before .pre .1,
     )
 
-mul-index : tie.Need-mul-index Inv-loop μ-loop
-mul-index c = omega arith
-
-shared-slice-read-index : tie.Need-shared-slice-read-index Inv-loop μ-loop
-shared-slice-read-index c =
-    let a = c .before .before .before .before .before .before .before .before .args in
-    let g = c .before .before .before .before .before .before .before .before .pre .0 in
-    omega (arith, g .within)
-
-index-requires : tie.Need-index-requires Inv-loop μ-loop
-index-requires c κs = tt
-
-add-triangle-requires : tie.Need-add-triangle-requires Inv-loop μ-loop
-add-triangle-requires c κs =
-    let a = c .before .before .before .before .before .before .before .before .before .args in
-    let g = c .before .before .before .before .before .before .before .before .before .pre .0 in
-    let v = c .before .before .before .loop .inv in
-    let h = g .held (c .before .before .before .loop .k) (v .0 .0) (c .before .before .loop-test .taken) in
-    let w = c .index .ensures .0 in
-    (omega (arith, g .tables), (omega (arith, g .shapes), (omega (arith, g .offs), c .before .before .before .before .before .before .before .before .before .pre .1)))
-
-is-alive-requires : tie.Need-is-alive-requires Inv-loop μ-loop
-is-alive-requires c κs = tt
-
-returns : tie.Need-returns Inv-loop μ-loop
+returns : tie.Need-returns
 returns c =
-    let a = c .before .before .before .before .before .before .before .before .before .before .before .before .args in
-    let g = c .before .before .before .before .before .before .before .before .before .before .before .before .pre .0 in
-    let v = c .before .before .before .before .before .before .loop .inv in
-    let e : c .before .before .add-triangle .result ≡ addAll (a .table .now) (a .shape .now) (a .offsets .now) (boxOf (a .f)) noEnds (part (a .from) (c .before .before .before .before .before .before .loop .k + 1) (a .stack .now)) =
-    c .before .before .add-triangle .ensures
-    ∙ ap₂ (addTriangle (a .table .now) (a .shape .now) (a .offsets .now) (boxOf (a .f))) (v .1 .0) (c .before .before .before .index .ensures .0)
-    ∙ sym (addAll-snoc (a .table .now) (a .shape .now) (a .offsets .now) (boxOf (a .f)) noEnds (part (a .from) (c .before .before .before .before .before .before .loop .k) (a .stack .now)) (getD (a .stack .now) (c .before .before .before .before .before .before .loop .k) 0))
-    ∙ ap (addAll (a .table .now) (a .shape .now) (a .offsets .now) (boxOf (a .f)) noEnds) (sym (part-snoc (a .from) (c .before .before .before .before .before .before .loop .k) (a .stack .now) (v .0 .0) (omega (arith, g .within))))
-    in
-    let dead : alive (c .before .before .add-triangle .result) ≡ false = sym (c .before .is-alive .ensures) ∙ not-true (c .before .is-alive .result) (c .if1 .taken) in
-    sym
-    (ap (λ x. alive (addAll (a .table .now) (a .shape .now) (a .offsets .now) (boxOf (a .f)) noEnds x)) (part-split (a .from) (c .before .before .before .before .before .before .loop .k + 1) (a .to) (a .stack .now) (omega (arith, v .0 .0)) (omega arith))
-    ∙ ap alive (addAll-append (a .table .now) (a .shape .now) (a .offsets .now) (boxOf (a .f)) noEnds (part (a .from) (c .before .before .before .before .before .before .loop .k + 1) (a .stack .now)) (part (c .before .before .before .before .before .before .loop .k + 1) (a .to) (a .stack .now)))
-    ∙ dead-all (a .table .now) (a .shape .now) (a .offsets .now) (boxOf (a .f)) _ (part (c .before .before .before .before .before .before .loop .k + 1) (a .to) (a .stack .now)) (ap alive (sym e) ∙ dead))
+    let a = c .before .before .before .before .before .before .before .before .before .before .before .before .before .before .before .args in
+    let r = c .before .before .before .before .before .before .before .before .before .before .first-met .ensures in
+    let h = c .before .before .before .before .before .before .before .before .before .if1 .taken in
+    c .either-end .ensures
+    ∙ common-read (a .table .now) (a .shape .now) (a .offsets .now) (boxOf (a .f)) (a .stack .now) (a .from) (c .before .before .before .before .before .before .before .before .before .before .first-met .result) (a .to)
+    (c .before .before .before .before .before .before .before .index .result) (c .before .before .before .before .before .before .sides-met .result) (c .before .before .before .before .before .packed-at .result) (c .before .before .before .before .packed-at2 .result) (c .before .before .before .packed-at3 .result) (c .before .before .start-of .result) (c .before .start-of2 .result)
+    (record { low = r .0 .0 .0; high = r .0 .0 .1; none = r .0 .1 }) h (c .before .before .before .before .before .before .before .before .before .before .before .before .before .before .before .pre .0 .within)
+    (record {
+      number = c .before .before .before .before .before .before .before .index .ensures .0;
+      mask = c .before .before .before .before .before .before .sides-met .ensures .0;
+      first = c .before .before .before .before .before .packed-at .ensures;
+      second = c .before .before .before .before .packed-at2 .ensures;
+      third = c .before .before .before .packed-at3 .ensures;
+    })
+    (r .1 h) (c .before .before .before .before .before .before .sides-met .ensures .1) (c .before .before .start-of .ensures) (c .before .start-of2 .ensures)
 
-add-k : tie.Need-add-k Inv-loop μ-loop
-add-k c = omega arith
-
-loop-less : tie.Need-loop-less Inv-loop μ-loop
-loop-less c = omega arith
-
-loop-again : tie.Need-loop-again Inv-loop μ-loop
-loop-again c =
-    let a = c .before .before .before .before .before .before .before .before .before .before .before .before .args in
-    let g = c .before .before .before .before .before .before .before .before .before .before .before .before .pre .0 in
-    let v = c .before .before .before .before .before .before .loop .inv in
-    let e : c .before .before .add-triangle .result ≡ addAll (a .table .now) (a .shape .now) (a .offsets .now) (boxOf (a .f)) noEnds (part (a .from) (c .before .before .before .before .before .before .loop .k + 1) (a .stack .now)) =
-    c .before .before .add-triangle .ensures
-    ∙ ap₂ (addTriangle (a .table .now) (a .shape .now) (a .offsets .now) (boxOf (a .f))) (v .1 .0) (c .before .before .before .index .ensures .0)
-    ∙ sym (addAll-snoc (a .table .now) (a .shape .now) (a .offsets .now) (boxOf (a .f)) noEnds (part (a .from) (c .before .before .before .before .before .before .loop .k) (a .stack .now)) (getD (a .stack .now) (c .before .before .before .before .before .before .loop .k) 0))
-    ∙ ap (addAll (a .table .now) (a .shape .now) (a .offsets .now) (boxOf (a .f)) noEnds) (sym (part-snoc (a .from) (c .before .before .before .before .before .before .loop .k) (a .stack .now) (v .0 .0) (omega (arith, g .within))))
-    in
-    ((omega (arith, v .0 .0), omega arith), (e, sym (c .before .is-alive .ensures) ∙ not-false (c .before .is-alive .result) (c .if1 .left)))
-
-returns-2 : tie.Need-returns-2 Inv-loop μ-loop
+returns-2 : tie.Need-returns-2
+unfolding commonEnd
 returns-2 c =
-    let a = c .before .before .before .before .before .before .before .args in
-    let g = c .before .before .before .before .before .before .before .pre .0 in
-    let v = c .before .loop .inv in
-    let k : c .before .loop .k ≡ a .to = omega (arith, v .0 .1) in
-    sym (v .1 .1) ∙ ap alive (rw k at (v .1 .0))
+    let r = c .before .first-met .ensures .0 in
+    let k : c .before .first-met .result ≡ c .before .before .before .before .before .before .args .to = omega (arith, r .0 .1) in
+    sym (ap commonEnd (rw k at (r .1)))
 
 pub common-end-spec : {M : Type 1} → statement M
 common-end-spec =
     tie.close
     (tie.spec
-    Inv-loop
-    μ-loop
-    no-ends-requires
-    loop-holds
+    first-met-requires
     mul-index
     shared-slice-read-index
     index-requires
-    add-triangle-requires
-    is-alive-requires
+    sides-met-requires
+    mul-packed-at
+    packed-at-requires
+    mul-packed-at-2
+    add-packed-at
+    packed-at-requires-2
+    mul-packed-at-3
+    add-packed-at-2
+    packed-at-requires-3
+    start-of-requires
+    start-of-requires-2
+    either-end-requires
     returns
-    add-k
-    loop-less
-    loop-again
     returns-2)

@@ -1,5 +1,7 @@
 use mathlib.Core.Path.{_∙_, ap}
-use Rattle.filing.specs.Filing.{part, addAll, noEnds, alive}
+use mathlib.Core.List.{flatMap}
+use Rattle.chart_spec.specs.Cells.{commonEnd}
+use Rattle.filing.specs.Filing.{sidesAt, part}
 use Rattle.filing.proofs.StopLaws.{stopped-deep, stopped-sides}
 use borrow.Author.Needs.{needs}
 use Rattle.filing.proofs.is_stopped.Statement.{statement}
@@ -18,7 +20,7 @@ returns-2 c =
     let a = c .before .before .before .before .before .before .before .args in
     let p = c .before .before .before .before .before .before .before .pre .0 .1 in
     c .common-end .ensures
-    ∙ ap (λ b. alive (addAll (a .table .now) (a .shape .now) (a .offsets .now) b noEnds (part (a .from) (a .to) (a .stack .now)))) (p .1 .1 .0)
+    ∙ ap (λ b. commonEnd (flatMap (λ i. sidesAt (a .table .now) (a .shape .now) (a .offsets .now) b i) (part (a .from) (a .to) (a .stack .now)))) (p .1 .1 .0)
     ∙ stopped-sides (a .n) (a .table .now) (a .shape .now) (a .offsets .now) (p .0) (a .s) (c .before .if1 .left) (p .1 .0) (part (a .from) (a .to) (a .stack .now)) (c .before .before .before .before .before .before .before .pre .1)
 
 pub is-stopped-spec : {M : Type 1} → statement M

@@ -1,0 +1,23 @@
+-- Numbers that are joined by "or": the result is 0 when both are.
+-- The idea: "or" and "and" add up to the sum of the two.
+-- Assumes nothing.
+use mathlib.Core.Path.{_≡_}
+use mathlib.Core.Bool.{_&&_}
+use Prim.Native.Nat.{ℕ}
+use native.Mathlib.Omega.{arith}
+use lib.Bits.{bitOr, and-le-l, and-le-r, or-add-and}
+use lib.Dec.{eqb}
+use Rattle.lists.proofs.Reflects.{reflects-and, reflects-eqb, reflects-iff}
+use Rattle.lists.proofs.IndexLaws.{reflects-same}
+
+-- "or" is 0 when both are
+pub or-zero : (a b : ℕ) → eqb (bitOr a b) 0 ≡ eqb a 0 && eqb b 0
+or-zero a b =
+    reflects-same (reflects-eqb (bitOr a b) 0)
+    (reflects-iff to from (reflects-and (reflects-eqb a 0) (reflects-eqb b 0)))
+  where
+    to : (a ≡ 0) × (b ≡ 0) → bitOr a b ≡ 0
+    to p = omega (arith, or-add-and a b)
+
+    from : bitOr a b ≡ 0 → (a ≡ 0) × (b ≡ 0)
+    from e = (omega (arith, or-add-and a b, and-le-l a b, and-le-r a b), omega (arith, or-add-and a b, and-le-l a b, and-le-r a b))
