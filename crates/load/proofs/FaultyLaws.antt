@@ -4,7 +4,7 @@
 use mathlib.Core.Path.{_≡_, refl, sym, _∙_, ap}
 use mathlib.Core.Bool.{Bool, true, false, false≢true, not}
 use mathlib.Core.List.{List, [], _∷_}
-use Prim.Native.Nat.{ℕ, zero, suc, _+_, _≤_, _<_}
+use Prim.Native.Nat.{ℕ, suc, _+_, _≤_, _<_}
 use native.Mathlib.Nat.{add-zero, zero-add}
 use native.Mathlib.Omega.{arith}
 use lib.ListN.{length}
@@ -12,12 +12,13 @@ use Rattle.lists.specs.Lists.{all, placesFrom}
 use Rattle.lists.proofs.Runs.{runLength, run-unique}
 use Rattle.plane.specs.Triangle.{proper}
 use Rattle.chart_spec.specs.Table.{Table, tableOf, triangleAt, numbered, noTriangle}
-use Rattle.chart_spec.specs.Refusals.{Outcome, refused, done, faultyTriangle}
+use Rattle.chart_spec.specs.Refusals.{refused, done, faultyTriangle}
 use Rattle.chart_spec.specs.Edits.{faulty, refuseFaulty}
 use Rattle.shapes.proofs.PutLaws.{tableOf-length}
 use Rattle.filing.proofs.StopLaws.{numbered-at}
 use Rattle.load.specs.Faulty.{firstFaulty}
 
+-- how many triangles with D > 0 there are before it
 faulty-run : (t : Table) → runLength (λ s. proper s) t ≡ firstFaulty t
 unfolding runLength firstFaulty
 faulty-run [] = refl
@@ -52,6 +53,7 @@ none-choice : (b : Bool) {r : Bool} (k : ℕ) (is : List ℕ) (u : Table) → el
 none-choice true k is u h f = f h
 none-choice false k is u h f = absurd (false≢true h)
 
+-- no refusal where each triangle has D > 0
 refuse-none : (k : ℕ) (t u : Table) → all (λ s. proper s) t ≡ true → refuseFaulty (placesFrom (λ s. not (proper s)) k t) u ≡ done u
 unfolding all placesFrom refuseFaulty
 refuse-none k [] u h = refl
@@ -65,6 +67,7 @@ unfolding refuseFaulty
 some-choice true k m n is u h f = f (omega arith) ∙ ap (λ i. refused (faultyTriangle i)) (omega arith)
 some-choice false k m n is u h f = ap (λ i. refused (faultyTriangle i)) (sym (add-zero k))
 
+-- refusal 5 with the lowest place, where the first triangle has place k
 refuse-some : (k : ℕ) (t u : Table) → firstFaulty t < length t
     → refuseFaulty (placesFrom (λ s. not (proper s)) k t) u ≡ refused (faultyTriangle (k + firstFaulty t))
 unfolding firstFaulty placesFrom refuseFaulty
@@ -72,12 +75,12 @@ refuse-some k [] u h = absurd (omega arith)
 refuse-some k (s ∷ t) u h =
     some-choice (proper s) k (firstFaulty t) (length t) (placesFrom (λ s. not (proper s)) (suc k) t) u h (refuse-some (suc k) t u)
 
--- it goes on
+-- then there is no refusal
 pub faulty-done : (t : Table) → length t ≤ firstFaulty t → refuseFaulty (faulty t) t ≡ done t
 unfolding faulty
 faulty-done t h = refuse-none 0 t t (faulty-none t h)
 
--- it ends before: refusal 5 with that triangle
+-- the search ends before: refusal 5 with that triangle
 pub faulty-refused : (t : Table) → firstFaulty t < length t → refuseFaulty (faulty t) t ≡ refused (faultyTriangle (firstFaulty t))
 unfolding faulty
 faulty-refused t h = refuse-some 0 t t h ∙ ap (λ i. refused (faultyTriangle i)) (zero-add (firstFaulty t))

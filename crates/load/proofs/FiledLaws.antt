@@ -28,6 +28,7 @@ use Rattle.filing.proofs.StopLaws.{numbered-at}
 
 -- ---- the table
 
+-- a triangle has six numbers
 six : (t : Triangle) → length (triangleNumbers t) ≡ 6
 unfolding triangleNumbers
 six t = refl
@@ -41,6 +42,7 @@ module _ (t : Table) (rest : List ℕ) (i : ℕ) (h : i < length t) where
       ∙ ap (λ j. getD (tableNumbers t) j 0) e
       ∙ getD-stride (λ s. triangleNumbers s) 6 six t i m noTriangle h l
 
+  -- triangle i
   triangle-at : triangleAt (tableNumbers t ++ rest) i ≡ numbered t i
   unfolding triangleAt pointAt triangleNumbers
   triangle-at =
@@ -66,6 +68,7 @@ padded-front : (n : ℕ) (u l : List ℕ) → padded n u l ≡ u ++ (replicate (
 unfolding padded
 padded-front n u l = append-assoc u (replicate (n - length u) 0) (drop n l)
 
+-- so the triangles are read from a padded list
 padded-table : (n : ℕ) (t : Table) (l : List ℕ) → tableOf (padded n (tableNumbers t) l) (length t) ≡ t
 padded-table n t l = rw (padded-front n (tableNumbers t) l) (numbers-table t (replicate (n - length (tableNumbers t)) 0 ++ drop n l))
 
@@ -76,12 +79,14 @@ filed-table c t = padded-table tableLength t (c .table)
 
 -- ---- the entries
 
+-- the entries are read from their keys, levels and items, whatever comes after
 zip-take : (es : List Entry) (ks ls is : List ℕ)
     → take (length es) (zipEntries (map (λ e. e .key) es ++ ks) (map (λ e. e .level) es ++ ls) (map (λ e. e .item) es ++ is)) ≡ es
 unfolding zipEntries
 zip-take [] ks ls is = refl
 zip-take (e ∷ es) ks ls is = ap (λ l. e ∷ l) (zip-take es ks ls is)
 
+-- so they are read from padded lists
 padded-entries : (n : ℕ) (es : List Entry) (ks ls is : List ℕ)
     → take (length es) (zipEntries (padded n (map (λ e. e .key) es) ks) (padded n (map (λ e. e .level) es) ls) (padded n (map (λ e. e .item) es) is)) ≡ es
 padded-entries n es ks ls is =
@@ -114,6 +119,7 @@ pub record Editable (c : Chart) : Type 0 where
   pub same : filed c ≡ true
 
 module _ (c : Chart) (t : Table) where
+  -- not refusal 3
   filed-same : filed (filedChart c t) ≡ true
   unfolding filed
   filed-same =
@@ -122,6 +128,7 @@ module _ (c : Chart) (t : Table) where
       (filed-entries c t ∙ ap entriesOf (sym (filed-table c t))))
 
   module _ (few : length t ≤ maxTriangles) (small : length (entriesOf t) ≤ maxEntries) where
+    -- not refusal 1
     filed-long : tooShort c ≡ false → tooShort (filedChart c t) ≡ false
     unfolding filedChart chartWith tableNumbers
     filed-long s =
@@ -134,6 +141,7 @@ module _ (c : Chart) (t : Table) where
         (padded-length maxEntries (map (λ e. e .item) es) (c .items) (omega (arith, length-map es (λ e. e .item))) (long .items))
         ∙ s
 
+    -- not refusal 2
     filed-chain : all (λ s. proper s) t ≡ true → chainRule (filedChart c t) ≡ true
     unfolding chartTable chartEntries filedChart chartWith
     filed-chain p =

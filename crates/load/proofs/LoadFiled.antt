@@ -18,10 +18,12 @@ use Rattle.load.proofs.LoadLaws.{lengthTest, length-few, given, given-p
 use Rattle.load.proofs.FiledLaws.{Editable, filed-editable}
 
 module _ (ns : List ℕ) (c : Chart) (z : loadCall ns c .number ≡ 0) where
+  -- 0 is the number of no refusal
   not-refused : (r : Refusal) → 0 < numberOf r → changedBy c (refused r) ≡ loadCall ns c → ⊥
   unfolding changedBy
   not-refused r p e = let n = ap (λ d. d .number) e in omega arith
 
+  -- so not 1
   long : (b : Bool) → tooShort c ≡ b → tooShort c ≡ false
   unfolding numberOf
   long true s = absurd (not-refused Refusal.shortBuffer (omega arith) (load-short ns c s))
@@ -30,6 +32,7 @@ module _ (ns : List ℕ) (c : Chart) (z : loadCall ns c .number ≡ 0) where
   abbrev isLong : tooShort c ≡ false
   isLong = long (tooShort c) refl
 
+  -- nor 4
   whole : (b : Bool) → lengthTest ns ≡ b → lengthTest ns ≡ false
   unfolding numberOf
   whole true e = absurd (not-refused Refusal.badLength (omega arith) (load-length ns c isLong e))
@@ -38,6 +41,7 @@ module _ (ns : List ℕ) (c : Chart) (z : loadCall ns c .number ≡ 0) where
   abbrev isWhole : lengthTest ns ≡ false
   isWhole = whole (lengthTest ns) refl
 
+  -- nor 5
   none-faulty : length ns / 6 ≤ firstFaulty (given ns)
   unfolding numberOf
   none-faulty = elim (decLe (length ns / 6) (firstFaulty (given ns))) [
@@ -45,6 +49,7 @@ module _ (ns : List ℕ) (c : Chart) (z : loadCall ns c .number ≡ 0) where
     | no n ↦ absurd (not-refused (Refusal.faultyTriangle (firstFaulty (given ns))) (omega arith) (load-faulty ns c isLong isWhole refl (omega arith)))
   ]
 
+  -- nor 11
   few-entries : length (entriesOf (given ns)) ≤ maxEntries
   unfolding numberOf
   few-entries = elim (decLe (length (entriesOf (given ns))) maxEntries) [

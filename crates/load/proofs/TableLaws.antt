@@ -2,7 +2,7 @@
 -- Assumes nothing.
 use mathlib.Core.Path.{_≡_, refl, sym, _∙_, ap, ap₂}
 use mathlib.Core.List.{List, [], _∷_, _++_, map, flatMap, append-nil}
-use Prim.Native.Nat.{ℕ, zero, suc, _+_, _*_, _-_, _≤_}
+use Prim.Native.Nat.{ℕ, zero, suc, _+_, _*_, _≤_}
 use native.Mathlib.Omega.{arith}
 use lib.ListN.{length, getD, take, drop}
 use lib.Seq.{take-add, drop-cons}
@@ -19,6 +19,7 @@ take-places (suc n) k ns h =
     ap (take (suc n)) (drop-cons ns k 0 (omega arith))
     ∙ ap (λ l. getD ns k 0 ∷ l) (take-places n (suc k) ns (omega arith))
 
+-- those of triangle n
 triangle-take : (ns : List ℕ) (n : ℕ) → 6 * n + 6 ≤ length ns → triangleNumbers (triangleAt ns n) ≡ take 6 (drop (6 * n) ns)
 unfolding triangleNumbers triangleAt pointAt countFrom
 triangle-take ns n h =
