@@ -21,6 +21,17 @@ pub record Chart : Type 0 where
   pub triangleCount : ℕ
   pub entryCount : ℕ
 
+-- the chart with these lists and counts
+abbrev pub chartOf : List ℕ → List ℕ → List ℕ → List ℕ → ℕ → ℕ → Chart
+chartOf table keys levels items triangleCount entryCount = record {
+  table = table;
+  keys = keys;
+  levels = levels;
+  items = items;
+  triangleCount = triangleCount;
+  entryCount = entryCount;
+}
+
 -- "pairs of 8,192 (16-bit, i then j for each pair)"
 abbrev pub pairsLength : ℕ
 pairsLength = 8192

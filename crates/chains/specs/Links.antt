@@ -7,18 +7,6 @@ use lib.Dec.{ltb, eqb}
 use lib.ListN.{getD}
 use Rattle.orthtree.specs.Entries.{Entry, emptyMark, span, rangeEnd, follows}
 use Rattle.squares.specs.Square.{arity, depth}
-use Rattle.call_spec.specs.Buffers.{Chart}
-
--- the chart with these lists and counts
-abbrev pub chartOf : List ℕ → List ℕ → List ℕ → List ℕ → ℕ → ℕ → Chart
-chartOf table keys levels items triangleCount entryCount = record {
-  table = table;
-  keys = keys;
-  levels = levels;
-  items = items;
-  triangleCount = triangleCount;
-  entryCount = entryCount;
-}
 
 -- an entry by its key, level and item
 abbrev pub entry : ℕ → ℕ → ℕ → Entry

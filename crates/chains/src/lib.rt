@@ -12,8 +12,8 @@ ghost use Rattle.orthtree.specs.Entries.{span, chain};
 ghost use Rattle.plane.specs.Triangle.{proper};
 ghost use Rattle.squares.specs.Square.{arity, depth};
 ghost use Rattle.chart_spec.specs.Table.{tableOf};
-ghost use Rattle.call_spec.specs.Buffers.{zipEntries, tooShort, chainRule};
-ghost use Rattle.chains.specs.Links.{chartOf, entry, itemFits, linked, linkedAt, endsTree};
+ghost use Rattle.call_spec.specs.Buffers.{zipEntries, tooShort, chainRule, chartOf};
+ghost use Rattle.chains.specs.Links.{entry, itemFits, linked, linkedAt, endsTree};
 
 // Each of the first n triangles has D > 0.
 pub fn all_proper(table: &[u16], n: usize) -> bool

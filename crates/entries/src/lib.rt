@@ -38,7 +38,7 @@ fn clear_levels(levels: &mut [u8], from: usize, to: usize)
     }
 }
 
-fn clear_items(items: &mut [u16], from: usize, to: usize)
+pub fn clear_items(items: &mut [u16], from: usize, to: usize)
     requires { ⌜ (from ≤ to) × (to ≤ length (now items)) ⌝ }
     ensures { λ r. ⌜ now (items .exit) ≡ sets (now (items .entry)) from (replicate (to - from) 0) ⌝ }
 {

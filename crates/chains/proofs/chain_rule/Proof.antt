@@ -1,5 +1,5 @@
 use native.Mathlib.Omega.{arith}
-use Rattle.chains.specs.Links.{chartOf}
+use Rattle.call_spec.specs.Buffers.{chartOf}
 use Rattle.chains.proofs.TestLaws.{reflects-true, reflects-false}
 use Rattle.chains.proofs.BufferLaws.{long-enough, counts-reflects, rule-counts, rule-joined}
 use Rattle.chains.proofs.chain_rule.Statement.{statement}

@@ -1,0 +1,47 @@
+// What the public calls answer. Document 01's number and value for each case are definitions in specs/.
+
+// How a load or an edit went.
+pub enum Change {
+    Done,
+    ShortBuffer,
+    BrokenChain,
+    StaleEntries,
+    BadLength,
+    FaultyTriangle(usize),
+    NoSuchTriangle,
+    NotInside,
+    NotThreeAround,
+    NoFlip,
+    TableFull,
+    TooManyEntries,
+}
+
+// That, and the chart's counts after it.
+pub struct Changed {
+    pub change: Change,
+    pub triangles: usize,
+    pub entries: usize,
+}
+
+// The triangle under a point.
+pub enum Located {
+    At(u16),
+    Nowhere,
+    ShortBuffer,
+    BrokenChain,
+}
+
+// Whether no two triangles share ground.
+pub enum Soundness {
+    Sound,
+    Unsound,
+    ShortBuffer,
+    BrokenChain,
+}
+
+// The doubled area of a table.
+pub enum Area {
+    Sum(u64),
+    ShortBuffer,
+    BrokenChain,
+}

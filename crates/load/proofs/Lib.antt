@@ -1,0 +1,5 @@
+pub mod FaultyLaws
+pub mod TableLaws
+pub mod LoadLaws
+pub mod FiledLaws
+pub mod LoadFiled

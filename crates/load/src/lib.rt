@@ -1,0 +1,92 @@
+// Load: a table given as numbers becomes the chart.
+
+use answers::Change;
+use answers::Changed;
+ghost use mathlib.Core.Path.{_≡_};
+ghost use Prim.Native.Nat.{_*_, _≤_};
+ghost use lib.ListN.{length, take};
+ghost use Rattle.chart_spec.specs.Table.{tableOf};
+ghost use Rattle.call_spec.specs.Buffers.{chartOf, padded};
+ghost use Rattle.call_spec.specs.Calls.{loadCall};
+ghost use Rattle.call_spec.specs.Calls.{Changed as Calls·Changed};
+ghost use Rattle.answers.specs.Outcomes.{changedOf};
+ghost use Rattle.load.specs.Faulty.{firstFaulty};
+
+// The lowest of the first n triangles that has D <= 0, or n.
+fn first_faulty(table: &[u16], n: usize) -> usize
+    requires { ⌜ 6 * n ≤ length (now table) ⌝ }
+    ensures { λ r. ⌜ r ≡ firstFaulty (tableOf (now (table .entry)) n) ⌝ }
+{
+    let mut i = 0;
+    while i < n {
+        if !geometry::is_proper(numbers::triangle_at(table, i)) {
+            return i;
+        }
+        i += 1;
+    }
+    n
+}
+
+// The first n numbers given, then zeros up to place 3072.
+fn put_table(given: &[u16], n: usize, table: &mut [u16])
+    requires { ⌜ (n ≤ length (now given)) × ((n ≤ 3072) × (3072 ≤ length (now table))) ⌝ }
+    ensures { λ _. ⌜ now (table .exit) ≡ padded 3072 (take n (now (given .entry))) (now (table .entry)) ⌝ }
+{
+    let mut i = 0;
+    while i < n {
+        table[i] = given[i];
+        i += 1;
+    }
+    entries::clear_items(table, n, 3072);
+}
+
+// Load. It answers how it went and the counts that the chart has now; a refusal leaves lists and counts as they were.
+pub fn load(
+    given: &[u16],
+    table: &mut [u16],
+    keys: &mut [u32],
+    levels: &mut [u8],
+    items: &mut [u16],
+    triangles: usize,
+    entries: usize,
+) -> Changed
+    ensures { λ r. ⌜ _≡_ {A = Calls·Changed} (changedOf r (now (table .exit)) (now (keys .exit)) (now (levels .exit)) (now (items .exit))) (loadCall (now (given .entry)) (chartOf (now (table .entry)) (now (keys .entry)) (now (levels .entry)) (now (items .entry)) triangles entries)) ⌝ }
+{
+    if chains::too_short(table, keys, levels, items) {
+        return Changed {
+            change: Change::ShortBuffer,
+            triangles,
+            entries,
+        };
+    }
+    if (given.len() % 6 != 0) | (given.len() > 3072) {
+        return Changed {
+            change: Change::BadLength,
+            triangles,
+            entries,
+        };
+    }
+    let n = given.len() / 6;
+    let faulty = first_faulty(given, n);
+    if faulty < n {
+        return Changed {
+            change: Change::FaultyTriangle(faulty),
+            triangles,
+            entries,
+        };
+    }
+    let m = entries::file_into(given, n, keys, levels, items);
+    if m > 16384 {
+        return Changed {
+            change: Change::TooManyEntries,
+            triangles,
+            entries,
+        };
+    }
+    put_table(given, 6 * n, table);
+    Changed {
+        change: Change::Done,
+        triangles: n,
+        entries: m,
+    }
+}
