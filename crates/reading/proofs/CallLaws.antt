@@ -1,7 +1,7 @@
 -- The calls locate and cell listing by their checks: too short a buffer, a broken chain, or what is read.
 -- Assumes nothing.
 use mathlib.Core.Path.{_≡_, refl, sym, _∙_, ap}
-use mathlib.Core.Bool.{true, false}
+use mathlib.Core.Bool.{Bool, true, false, true≢false, false≢true, not, _&&_}
 use mathlib.Core.List.{List, []}
 use mathlib.Core.Option.{Option, none, some}
 use Prim.Native.Nat.{ℕ, _*_, _≤_, _<_}
@@ -17,7 +17,7 @@ use Rattle.plane.specs.Triangle.{proper, holds}
 use Rattle.squares.specs.Square.{arity, depth}
 use Rattle.chart_spec.specs.Table.{triangleAt, numbered, maxTriangles}
 use Rattle.chart_spec.specs.Cells.{maxEntries}
-use Rattle.chart_spec.specs.Refusals.{refuseIf, outcomeNumber, doneOr}
+use Rattle.chart_spec.specs.Refusals.{shortBuffer, brokenChain, done, refuseIf, outcomeNumber, doneOr}
 use Rattle.chart_spec.specs.Reading.{listing, located}
 use Rattle.chart_spec.proofs.TableLaws.{numbered-at}
 use Rattle.call_spec.specs.Buffers.{Chart, tooShort, zipEntries, chainRule, chartTable, chartEntries}
@@ -27,7 +27,7 @@ use Rattle.chains.proofs.BufferLaws.{long-enough, counts-reflects}
 use Rattle.answers.specs.declared.Located.{Located}
 use Rattle.answers.specs.declared.Located.the-variants as locations
 use Rattle.answers.specs.Outcomes.{locatedOf}
-use Rattle.reading.specs.Holding.{foundOf}
+use Rattle.reading.specs.Holding.{readable, foundOf}
 use Rattle.reading.proofs.FirstLaws.{first-agree}
 use Rattle.reading.proofs.ListedLaws.{listed-below}
 
@@ -49,6 +49,25 @@ ruled c e =
     let p = r .to (rw e tt) in
     record { triangles = p .0 .0; entries = p .0 .1 .1; good = p .1 .0; chained = p .1 .1 }
 
+-- refusal 1
+pub readable-short : (c : Chart) → tooShort c ≡ true → false ≡ readable c
+unfolding readable
+readable-short c s = rw s
+
+-- without it refusal 2 decides
+pub readable-rule : (c : Chart) → tooShort c ≡ false → {b : Bool} → b ≡ chainRule c → b ≡ readable c
+unfolding readable
+readable-rule c s e = rw (s, e)
+
+-- a chart that is read passes both
+pub readable-both : (c : Chart) → readable c ≡ true → (tooShort c ≡ false) × (chainRule c ≡ true)
+unfolding readable
+readable-both c h = go (tooShort c) (chainRule c) h
+  where
+    go : (s r : Bool) → not s && r ≡ true → (s ≡ false) × (r ≡ true)
+    go true r h = absurd (false≢true h)
+    go false r h = (refl, h)
+
 -- an answer that is no refusal: the number 0, and the triangle found
 found-of : (o : Option ℕ) → _≡_ {A = Calls.Located} (locatedOf (foundOf o)) (record { number = 0; found = o })
 unfolding outcomeNumber doneOr
@@ -56,10 +75,16 @@ found-of none = refl
 found-of (some i) = refl
 
 module _ (c : Chart) (p : Point) where
-  -- cell listing at refusal 1
-  pub listing-short : tooShort c ≡ true → [] ≡ listingCall c p
-  unfolding listingCall reading refuseIf doneOr
-  listing-short s = rw s
+  -- cell listing at both refusals
+  pub listing-refused : readable c ≡ false → [] ≡ listingCall c p
+  unfolding readable listingCall reading refuseIf doneOr
+  listing-refused h = go (tooShort c) (chainRule c) h
+    where
+      go : (s r : Bool) → not s && r ≡ false
+          → [] ≡ doneOr [] (refuseIf s shortBuffer (refuseIf (not r) brokenChain (done (listing (chartEntries c) p))))
+      go true r h = refl
+      go false true h = absurd (true≢false h)
+      go false false h = refl
 
   -- locate at refusal 1
   pub locate-short : tooShort c ≡ true → _≡_ {A = Calls.Located} (locatedOf locations.ShortBuffer) (locateCall c p)
@@ -67,11 +92,6 @@ module _ (c : Chart) (p : Point) where
   locate-short s = rw s
 
   module _ (s : tooShort c ≡ false) where
-    -- cell listing at refusal 2
-    pub listing-broken : chainRule c ≡ false → [] ≡ listingCall c p
-    unfolding listingCall reading refuseIf doneOr
-    listing-broken r = rw (s, r)
-
     -- locate at refusal 2
     pub locate-broken : chainRule c ≡ false → _≡_ {A = Calls.Located} (locatedOf locations.BrokenChain) (locateCall c p)
     unfolding locateCall reading refuseIf doneOr outcomeNumber

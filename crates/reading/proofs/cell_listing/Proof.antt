@@ -3,7 +3,7 @@ use mathlib.Core.Bool.{true, false}
 use borrow.Author.Needs.{needs}
 use borrow.Author.Tests.{not-true, not-false}
 use Rattle.call_spec.specs.Buffers.{Chart, chartOf, chartEntries, tooShort, chainRule}
-use Rattle.reading.proofs.CallLaws.{listing-short, listing-broken, listing-done, searchable}
+use Rattle.reading.proofs.CallLaws.{readable-both, listing-refused, listing-done, searchable}
 use Rattle.reading.proofs.cell_listing.Statement.{statement}
 use Rattle.reading.proofs.cell_listing.Tie as tie
 
@@ -12,8 +12,8 @@ abbrev chart : tie.Start → Chart
 chart c =
     let a = c .args in chartOf (a .table .now) (a .keys .now) (a .levels .now) (a .items .now) (a .triangles) (a .entries)
 
-too-short-requires : tie.Need-too-short-requires
-too-short-requires c κs = search needs
+is-readable-requires : tie.Need-is-readable-requires
+is-readable-requires c κs = search needs
 
 sub-result : tie.Need-sub-result
 sub-result c = search needs
@@ -26,63 +26,35 @@ part-result-end c = search needs
 
 returns : tie.Need-returns
 returns c =
-    let s = c .before .before in
-    let top = s .before .before .before .before .before in
-    listing-short (chart top) (top .args .p) (sym (s .too-short .ensures (top .args .triangles) (top .args .entries)) ∙ c .before .if1 .taken)
-
--- no buffer is too short
-long : (c : tie.Else1) → tooShort (chart (c .before .before .before .before .before .before)) ≡ false
-long c =
-    let top = c .before .before .before .before .before .before in
-    sym (c .before .too-short .ensures (top .args .triangles) (top .args .entries)) ∙ c .if1 .left
-
-chain-rule-requires : tie.Need-chain-rule-requires
-chain-rule-requires c κs = long c
-
-sub-result-2 : tie.Need-sub-result-2
-sub-result-2 c = search needs
-
-part-result-start-2 : tie.Need-part-result-start-2
-part-result-start-2 c = search needs
-
-part-result-end-2 : tie.Need-part-result-end-2
-part-result-end-2 c = search needs
-
-returns-2 : tie.Need-returns-2
-returns-2 c =
     let r = c .before .before in
-    let top = r .before .before .before .before .before .before .before in
-    listing-broken (chart top) (top .args .p) (long (r .before)) (sym (r .chain-rule .ensures) ∙ not-true (r .chain-rule .result) (c .before .if2 .taken))
+    let top = r .before .before .before .before .before in
+    listing-refused (chart top) (top .args .p) (sym (r .is-readable .ensures) ∙ not-true (r .is-readable .result) (c .before .if1 .taken))
 
--- the chain rule holds
-rule : (c : tie.Else2) → chainRule (chart (c .before .before .before .before .before .before .before .before)) ≡ true
-rule c = sym (c .before .chain-rule .ensures) ∙ not-false (c .before .chain-rule .result) (c .if2 .left)
+-- neither refusal is met
+checked : (c : tie.Else1) → let chart = chart (c .before .before .before .before .before .before) in (tooShort chart ≡ false) × (chainRule chart ≡ true)
+checked c =
+    let r = c .before .is-readable in
+    readable-both (chart (c .before .before .before .before .before .before)) (sym (r .ensures) ∙ not-false (r .result) (c .if1 .left))
 
 listing-requires : tie.Need-listing-requires
 listing-requires c κs =
-    let top = c .before .before .before .before .before .before .before .before in
-    searchable (chart top) (top .args .p) (long (c .before .before)) (rule c)
+    let top = c .before .before .before .before .before .before in
+    searchable (chart top) (top .args .p) (checked c .0) (checked c .1)
 
-returns-3 : tie.Need-returns-3
+returns-2 : tie.Need-returns-2
 unfolding chartEntries
-returns-3 c =
-    let b = c .before in
-    let top = b .before .before .before .before .before .before .before .before in
-    c .listing .ensures ∙ listing-done (chart top) (top .args .p) (long (b .before .before)) (rule b)
+returns-2 c =
+    let top = c .before .before .before .before .before .before .before in
+    c .listing .ensures ∙ listing-done (chart top) (top .args .p) (checked (c .before) .0) (checked (c .before) .1)
 
 pub cell-listing-spec : {M : Type 1} → statement M
 cell-listing-spec =
     tie.close
     (tie.spec
-    too-short-requires
+    is-readable-requires
     sub-result
     part-result-start
     part-result-end
     returns
-    chain-rule-requires
-    sub-result-2
-    part-result-start-2
-    part-result-end-2
-    returns-2
     listing-requires
-    returns-3)
+    returns-2)
