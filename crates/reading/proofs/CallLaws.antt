@@ -49,6 +49,15 @@ ruled c e =
     let p = r .to (rw e tt) in
     record { triangles = p .0 .0; entries = p .0 .1 .1; good = p .1 .0; chained = p .1 .1 }
 
+-- then the lists may be searched
+pub searchable : (c : Chart) → tooShort c ≡ false → chainRule c ≡ true
+    → ((c .entryCount ≤ length (c .keys)) × ((c .entryCount ≤ length (c .levels)) × (c .entryCount ≤ length (c .items))))
+    × (chain arity depth (c .triangleCount) (take (c .entryCount) (zipEntries (c .keys) (c .levels) (c .items))) ≡ true)
+unfolding chartEntries
+searchable c s e =
+    let long = long-enough c s in
+    let rule = ruled c e in ((omega arith, (omega arith, omega arith)), test-true (rule .chained))
+
 -- refusal 1
 pub readable-short : (c : Chart) → tooShort c ≡ true → false ≡ readable c
 unfolding readable
@@ -98,14 +107,6 @@ module _ (c : Chart) (p : Point) where
     locate-broken r = rw (s, r)
 
     module _ (r : chainRule c ≡ true) where
-      -- the lists may be searched
-      pub searchable : ((c .entryCount ≤ length (c .keys)) × ((c .entryCount ≤ length (c .levels)) × (c .entryCount ≤ length (c .items))))
-          × (chain arity depth (c .triangleCount) (take (c .entryCount) (zipEntries (c .keys) (c .levels) (c .items))) ≡ true)
-      unfolding chartEntries
-      searchable =
-          let long = long-enough c s in
-          let rule = ruled c r in ((omega arith, (omega arith, omega arith)), test-true (rule .chained))
-
       -- the table has the listed triangles
       pub table-holds : {l : List ℕ} → l ≡ listing (chartEntries c) p
           → (6 * c .triangleCount ≤ length (c .table)) × ((k : ℕ) → k < length l → getD l k 0 < c .triangleCount)

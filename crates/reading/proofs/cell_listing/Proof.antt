@@ -39,7 +39,7 @@ checked c =
 listing-requires : tie.Need-listing-requires
 listing-requires c κs =
     let top = c .before .before .before .before .before .before in
-    searchable (chart top) (top .args .p) (checked c .0) (checked c .1)
+    searchable (chart top) (checked c .0) (checked c .1)
 
 returns-2 : tie.Need-returns-2
 unfolding chartEntries

@@ -43,7 +43,7 @@ rule c = sym (c .before .chain-rule .ensures) ∙ not-false (c .before .chain-ru
 listing-requires : tie.Need-listing-requires
 listing-requires c κs =
     let top = c .before .before .before .before .before .before .before .before in
-    searchable (chart top) (top .args .p) (long (c .before .before)) (rule c)
+    searchable (chart top) (long (c .before .before)) (rule c)
 
 first-holding-requires : tie.Need-first-holding-requires
 unfolding chartEntries
