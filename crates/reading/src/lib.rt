@@ -12,7 +12,7 @@ ghost use Rattle.call_spec.specs.Buffers.{chartOf};
 ghost use Rattle.call_spec.specs.Calls.{locateCall, listingCall};
 ghost use Rattle.call_spec.specs.Calls.{Located as Calls·Located};
 ghost use Rattle.answers.specs.Outcomes.{locatedOf};
-ghost use Rattle.reading.specs.Holding.{foundOf};
+ghost use Rattle.reading.specs.Holding.{foundOf, readable};
 
 // The first of the listed triangles that holds p.
 fn first_holding(table: &[u16], n: usize, list: &[u16], p: Point) -> Located
@@ -30,6 +30,23 @@ fn first_holding(table: &[u16], n: usize, list: &[u16], p: Point) -> Located
     Located::Nowhere
 }
 
+// Neither refusal 1 nor refusal 2 is met.
+fn is_readable(
+    table: &[u16],
+    keys: &[u32],
+    levels: &[u8],
+    items: &[u16],
+    triangles: usize,
+    entries: usize,
+) -> bool
+    ensures { λ o. ⌜ o ≡ readable (chartOf (now (table .entry)) (now (keys .entry)) (now (levels .entry)) (now (items .entry)) triangles entries) ⌝ }
+{
+    if chains::too_short(table, keys, levels, items) {
+        return false;
+    }
+    chains::chain_rule(table, keys, levels, items, triangles, entries)
+}
+
 // Cell listing of p: the triangle numbers of the cell whose key range has Z(p), as a part of the caller's own list; an empty
 // part for the mark and at a refusal.
 pub fn cell_listing<'a, 'b, 'c, 'd>(
@@ -43,10 +60,7 @@ pub fn cell_listing<'a, 'b, 'c, 'd>(
 ) -> &'a [u16]
     ensures { λ r. ⌜ now r ≡ listingCall (chartOf (now (table .entry)) (now (keys .entry)) (now (levels .entry)) (now (items .entry)) triangles entries) p ⌝ }
 {
-    if chains::too_short(table, keys, levels, items) {
-        return &items[0..0];
-    }
-    if !chains::chain_rule(table, keys, levels, items, triangles, entries) {
+    if !is_readable(table, keys, levels, items, triangles, entries) {
         return &items[0..0];
     }
     search::listing(keys, levels, items, triangles, entries, p)

@@ -1,0 +1,60 @@
+use mathlib.Core.Path.{_≡_, sym, _∙_}
+use mathlib.Core.Bool.{true, false}
+use borrow.Author.Needs.{needs}
+use borrow.Author.Tests.{not-true, not-false}
+use Rattle.call_spec.specs.Buffers.{Chart, chartOf, chartEntries, tooShort, chainRule}
+use Rattle.reading.proofs.CallLaws.{readable-both, listing-refused, listing-done, searchable}
+use Rattle.reading.proofs.cell_listing.Statement.{statement}
+use Rattle.reading.proofs.cell_listing.Tie as tie
+
+-- the chart lent
+abbrev chart : tie.Start → Chart
+chart c =
+    let a = c .args in chartOf (a .table .now) (a .keys .now) (a .levels .now) (a .items .now) (a .triangles) (a .entries)
+
+is-readable-requires : tie.Need-is-readable-requires
+is-readable-requires c κs = search needs
+
+sub-result : tie.Need-sub-result
+sub-result c = search needs
+
+part-result-start : tie.Need-part-result-start
+part-result-start c = search needs
+
+part-result-end : tie.Need-part-result-end
+part-result-end c = search needs
+
+returns : tie.Need-returns
+returns c =
+    let r = c .before .before in
+    let top = r .before .before .before .before .before in
+    listing-refused (chart top) (top .args .p) (sym (r .is-readable .ensures) ∙ not-true (r .is-readable .result) (c .before .if1 .taken))
+
+-- neither refusal is met
+checked : (c : tie.Else1) → let chart = chart (c .before .before .before .before .before .before) in (tooShort chart ≡ false) × (chainRule chart ≡ true)
+checked c =
+    let r = c .before .is-readable in
+    readable-both (chart (c .before .before .before .before .before .before)) (sym (r .ensures) ∙ not-false (r .result) (c .if1 .left))
+
+listing-requires : tie.Need-listing-requires
+listing-requires c κs =
+    let top = c .before .before .before .before .before .before in
+    searchable (chart top) (checked c .0) (checked c .1)
+
+returns-2 : tie.Need-returns-2
+unfolding chartEntries
+returns-2 c =
+    let top = c .before .before .before .before .before .before .before in
+    c .listing .ensures ∙ listing-done (chart top) (top .args .p) (checked (c .before) .0) (checked (c .before) .1)
+
+pub cell-listing-spec : {M : Type 1} → statement M
+cell-listing-spec =
+    tie.close
+    (tie.spec
+    is-readable-requires
+    sub-result
+    part-result-start
+    part-result-end
+    returns
+    listing-requires
+    returns-2)
