@@ -1,9 +1,9 @@
 -- The doubled area of a triangle with D > 0, and the sum over a table, one triangle after another.
 -- Assumes nothing.
-use mathlib.Core.Path.{_≡_, refl, sym, _∙_, ap}
+use mathlib.Core.Path.{_≡_, refl, sym, _∙_}
 use mathlib.Core.Bool.{true}
 use mathlib.Core.List.{List, [], _∷_, _++_}
-use Prim.Native.Nat.{ℕ, zero, suc, _+_, _-_, _<_}
+use Prim.Native.Nat.{ℕ, _+_, _-_, _<_}
 use native.Mathlib.Numerals.{add-one}
 use native.Mathlib.Omega.{arith}
 use borrow.Author.Tests.{ltb-true}
@@ -25,16 +25,18 @@ doubledArea-value t h l e p =
     let low = ltb-true l h (sym (diff-above d) ∙ p) in
     (low, omega (arith, diff-natAbs d))
 
+-- a sum with one term more
 sumOf-snoc : {A : Type 0} (f : A → ℕ) (l : List A) (x : A) → sumOf f (l ++ (x ∷ [])) ≡ sumOf f l + f x
 unfolding sumOf
 sumOf-snoc f [] x = omega arith
 sumOf-snoc f (y ∷ ys) x = omega (arith, sumOf-snoc f ys x)
 
--- no triangle, and one more
+-- the area of no triangle
 pub totalArea-none : (ns : List ℕ) → 0 ≡ totalArea (tableOf ns 0)
 unfolding totalArea sumOf tableOf upTo countFrom
 totalArea-none ns = refl
 
+-- the area with one triangle more
 pub totalArea-more : (ns : List ℕ) (i : ℕ) → totalArea (tableOf ns (i + 1)) ≡ totalArea (tableOf ns i) + doubledArea (triangleAt ns i)
 unfolding totalArea
 totalArea-more ns i =

@@ -3,12 +3,11 @@
 use mathlib.Core.Path.{_≡_, refl, sym, _∙_, ap}
 use mathlib.Core.Bool.{Bool, true, false, not, _&&_, _||_}
 use mathlib.Core.List.{List}
-use Prim.Native.Nat.{ℕ, zero, suc, _+_, _≤_, _<_}
+use Prim.Native.Nat.{ℕ, _+_, _≤_, _<_}
 use native.Mathlib.Decide.{decLe}
 use native.Mathlib.Omega.{arith}
 use borrow.Author.Tests.{eq-eqb, ne-eqb}
 use lib.Dec.{T, eqb}
-use lib.ListN.{length}
 use Rattle.lists.specs.Lists.{all, upTo}
 use Rattle.lists.proofs.Reflects.{Reflects, reflects-iff}
 use Rattle.lists.proofs.IndexLaws.{reflects-same, all-below-reflects, all-below-step}
@@ -19,13 +18,14 @@ use Rattle.chart_spec.specs.Reading.{sound}
 use Rattle.chains.proofs.TestLaws.{reflects-false}
 use Rattle.measures.proofs.TableLaws.{tableOf-length, numbered-at}
 
+-- "and" does not depend on the order
 and-swap : (a b : Bool) → a && b ≡ b && a
 and-swap true true = refl
 and-swap true false = refl
 and-swap false true = refl
 and-swap false false = refl
 
--- sharing ground does not depend on the order
+-- nor does sharing ground
 interiorsMeet-sym : (s t : Triangle) → interiorsMeet s t ≡ interiorsMeet t s
 unfolding interiorsMeet
 interiorsMeet-sym s t = and-swap (noSideSeparates s t) (noSideSeparates t s)
@@ -47,9 +47,11 @@ module _ (ns : List ℕ) (n : ℕ) where
   abbrev pairApart : ℕ → ℕ → Bool
   pairApart i j = eqb i j || not (interiorsMeet (numbered (tableOf ns n) i) (numbered (tableOf ns n) j))
 
+  -- of two different numbers, by the table's numbers
   pair-apart : (i j : ℕ) → i < n → j < n → (i ≡ j → ⊥) → pairApart i j ≡ apart ns i j
   pair-apart i j h k d = rw (ne-eqb i j d, numbered-at ns n i h, numbered-at ns n j k) refl
 
+  -- and the other way round
   pair-reversed : (i j : ℕ) → i < n → j < n → (i ≡ j → ⊥) → pairApart i j ≡ apart ns j i
   pair-reversed i j h k d = pair-apart i j h k d ∙ ap not (interiorsMeet-sym (triangleAt ns i) (triangleAt ns j))
 
@@ -57,6 +59,7 @@ module _ (ns : List ℕ) (n : ℕ) where
   abbrev Below : Type 0
   Below = (i : ℕ) → i < n → (j : ℕ) → j < i → T (apart ns i j)
 
+  -- the pairs with j < i
   below-reflects : Reflects (all (λ i. all (λ j. apart ns i j) (upTo i)) (upTo n)) Below
   below-reflects =
       reflects-iff
@@ -64,6 +67,7 @@ module _ (ns : List ℕ) (n : ℕ) where
       (λ h i l. all-below-reflects (λ j. apart ns i j) i .from (h i l))
       (all-below-reflects (λ i. all (λ j. apart ns i j) (upTo i)) n)
 
+  -- all pairs
   pairs-reflects : Reflects (all (λ i. all (λ j. pairApart i j) (upTo n)) (upTo n)) Below
   pairs-reflects =
       reflects-iff

@@ -9,7 +9,7 @@ use native.Mathlib.Omega.{arith}
 use lib.ListN.{length, getD, length-map}
 use Rattle.lists.specs.Lists.{all, countFrom, upTo}
 use Rattle.lists.proofs.Reflects.{test-true}
-use Rattle.lists.proofs.IndexLaws.{all-map, all-below-at, upTo-suc, upTo-length}
+use Rattle.lists.proofs.IndexLaws.{all-map, all-below-at, all-below-fewer, upTo-suc, upTo-length}
 use Rattle.plane.specs.Triangle.{proper}
 use Rattle.chart_spec.specs.Table.{triangleAt, tableOf, numbered, noTriangle}
 use Rattle.call_spec.specs.Buffers.{Chart, tooShort, chartTable, countsFit, chainRule}
@@ -25,6 +25,7 @@ pub tableOf-suc : (ns : List ℕ) (n : ℕ) → tableOf ns (suc n) ≡ tableOf n
 unfolding tableOf
 tableOf-suc ns n = ap (map (λ i. triangleAt ns i)) (upTo-suc n) ∙ map-append (λ i. triangleAt ns i) (upTo n) (n ∷ [])
 
+-- what stands at a place of a list over the numbers from k on
 counted : {A : Type 0} (f : ℕ → A) (k n i : ℕ) (d : A) → i < n → getD (map f (countFrom k n)) i d ≡ f (k + i)
 unfolding countFrom
 counted f k zero i d h = absurd (omega arith)
@@ -36,11 +37,18 @@ pub numbered-at : (ns : List ℕ) (n i : ℕ) → i < n → numbered (tableOf ns
 unfolding numbered tableOf upTo
 numbered-at ns n i h = counted (λ j. triangleAt ns j) 0 n i noTriangle h ∙ ap (triangleAt ns) (zero-add i)
 
--- each triangle of a table of triangles with D > 0 has it
-pub proper-at : (ns : List ℕ) (n i : ℕ) → all (λ t. proper t) (tableOf ns n) ≡ true → i < n → proper (triangleAt ns i) ≡ true
+-- a table's triangles have D > 0 where each number's does
+all-proper : (ns : List ℕ) (n : ℕ) → all (λ t. proper t) (tableOf ns n) ≡ all (λ k. proper (triangleAt ns k)) (upTo n)
 unfolding tableOf
-proper-at ns n i h l =
-    test-true (all-below-at (λ k. proper (triangleAt ns k)) (sym (all-map (λ t. proper t) (λ k. triangleAt ns k) (upTo n)) ∙ h) l)
+all-proper ns n = all-map (λ t. proper t) (λ k. triangleAt ns k) (upTo n)
+
+-- then each of them has it
+pub proper-at : (ns : List ℕ) (n i : ℕ) → all (λ t. proper t) (tableOf ns n) ≡ true → i < n → proper (triangleAt ns i) ≡ true
+proper-at ns n i h l = test-true (all-below-at (λ k. proper (triangleAt ns k)) (sym (all-proper ns n) ∙ h) l)
+
+-- and so have all of a shorter table
+pub proper-fewer : (ns : List ℕ) (m n : ℕ) → all (λ t. proper t) (tableOf ns n) ≡ true → m ≤ n → all (λ t. proper t) (tableOf ns m) ≡ true
+proper-fewer ns m n h l = all-proper ns m ∙ all-below-fewer (λ k. proper (triangleAt ns k)) l (sym (all-proper ns n) ∙ h)
 
 -- the table of a chart whose buffers are long enough and hold to the chain rule
 pub record Held (c : Chart) : Type 0 where
@@ -48,10 +56,12 @@ pub record Held (c : Chart) : Type 0 where
   pub room : 6 * c .triangleCount ≤ length (c .table)
   pub good : all (λ t. proper t) (chartTable c) ≡ true
 
+-- both tests of an "and" that passes
 and-both : (a b : Bool) → a && b ≡ true → (a ≡ true) × (b ≡ true)
 and-both true b h = (refl, h)
 and-both false b h = absurd (false≢true h)
 
+-- it follows from refusals 1 and 2
 pub rule-held : (c : Chart) → tooShort c ≡ false → chainRule c ≡ true → Held c
 unfolding chainRule
 rule-held c s h =

@@ -1,11 +1,12 @@
 use mathlib.Core.Path.{_≡_, sym, _∙_, ap}
-use mathlib.Core.Bool.{true, not}
-use Prim.Native.Nat.{_≤_, _-_}
+use mathlib.Core.Bool.{true}
+use Prim.Native.Nat.{_+_, _≤_, _-_}
 use native.Mathlib.Omega.{arith}
 use borrow.Author.Needs.{needs}
 use borrow.Author.Tests.{not-true, not-false}
 use Rattle.lists.specs.Lists.{all, upTo}
 use Rattle.lists.proofs.IndexLaws.{all-below-none}
+use Rattle.measures.proofs.TableLaws.{proper-fewer}
 use Rattle.measures.proofs.SoundLaws.{apart, all-below-fails, all-below-passes, sound-below}
 use Rattle.measures.proofs.all_apart.Statement.{statement}
 use Rattle.measures.proofs.all_apart.Tie as tie
@@ -22,7 +23,10 @@ loop-holds c =
     (search needs, all-below-none (λ i. all (λ j. apart table i j) (upTo i)))
 
 is-apart-requires : tie.Need-is-apart-requires Inv-loop μ-loop
-is-apart-requires c κs = omega arith
+is-apart-requires c κs =
+    let top = c .before .before .before in
+    let a = top .args in
+    (omega arith, proper-fewer (a .table .now) (c .before .loop .i + 1) (a .n) (top .pre .1) (omega arith))
 
 returns : tie.Need-returns Inv-loop μ-loop
 returns c =

@@ -1,4 +1,4 @@
-use mathlib.Core.Path.{_≡_, sym, _∙_}
+use mathlib.Core.Path.{sym, _∙_}
 use borrow.Author.Needs.{needs}
 use borrow.Author.Tests.{not-true, not-false}
 use Rattle.chart_spec.specs.Refusals.{refuseIf}
@@ -33,13 +33,14 @@ returns-2 c =
     )
 
 all-apart-requires : tie.Need-all-apart-requires
+unfolding chartTable
 all-apart-requires c κs =
     let a = c .before .before .before .before .before .before .before .before .args in
     let call = c .before .chain-rule in
     let h = rule-held (chartOf (a .table .now) (a .keys .now) (a .levels .now) (a .items .now) (a .triangles) (a .entries))
     (sym (c .before .before .before .too-short .ensures (a .triangles) (a .entries)) ∙ c .before .before .if1 .left)
     (sym (call .ensures) ∙ not-false (call .result) (c .if2 .left)) in
-    h .room
+    (h .room, h .good)
 
 returns-3 : tie.Need-returns-3
 unfolding soundCall reading refuseIf chartTable

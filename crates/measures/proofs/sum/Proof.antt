@@ -3,7 +3,7 @@ use Prim.Native.Nat.{_+_, _*_, _≤_, _-_}
 use native.Mathlib.Omega.{arith}
 use borrow.Author.Needs.{needs}
 use Rattle.plane.specs.Triangle.{triangleOf, cornerAt, proper, doubledArea}
-use Rattle.chart_spec.specs.Table.{triangleAt, tableOf}
+use Rattle.chart_spec.specs.Table.{tableOf}
 use Rattle.chart_spec.specs.Reading.{totalArea}
 use Rattle.measures.proofs.TableLaws.{proper-at}
 use Rattle.measures.proofs.AreaLaws.{totalArea-none, totalArea-more}
