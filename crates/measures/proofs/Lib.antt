@@ -1,0 +1,4 @@
+pub mod TableLaws
+pub mod SoundLaws
+pub mod AreaLaws
+pub mod BoxLaws
