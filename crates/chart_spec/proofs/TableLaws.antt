@@ -1,14 +1,28 @@
--- The triangles of a list of numbers, by their places in its table.
+-- The table of a list of numbers: its length, its triangles by their places, and its numbers again.
 -- Assumes nothing.
-use mathlib.Core.Path.{_≡_, sym, _∙_, ap}
-use mathlib.Core.List.{List, map}
-use Prim.Native.Nat.{ℕ, zero, suc, _+_, _<_}
+use mathlib.Core.Path.{_≡_, refl, sym, _∙_, ap, ap₂}
+use mathlib.Core.List.{List, [], _∷_, _++_, map, flatMap, append-nil, map-append}
+use Prim.Native.Nat.{ℕ, zero, suc, _+_, _*_, _-_, _≤_, _<_}
 use native.Mathlib.Nat.{zero-add, add-zero}
 use native.Mathlib.Omega.{arith}
-use lib.ListN.{getD}
+use lib.ListN.{length, getD, take, drop, length-map}
+use lib.Seq.{take-add, drop-cons}
 use Rattle.lists.specs.Lists.{countFrom, upTo}
-use Rattle.chart_spec.specs.Table.{triangleAt, tableOf, numbered, noTriangle}
+use Rattle.lists.proofs.FlatMapLaws.{flatMap-append}
+use Rattle.lists.proofs.IndexLaws.{upTo-suc, upTo-length}
+use Rattle.chart_spec.specs.Table.{pointAt, triangleAt, tableOf, numbered, noTriangle, triangleNumbers, tableNumbers}
 
+-- a table of n triangles has n
+pub tableOf-length : (ns : List ℕ) (n : ℕ) → length (tableOf ns n) ≡ n
+unfolding tableOf
+tableOf-length ns n = length-map (upTo n) (λ i. triangleAt ns i) ∙ upTo-length n
+
+-- one triangle more
+pub tableOf-suc : (ns : List ℕ) (n : ℕ) → tableOf ns (suc n) ≡ tableOf ns n ++ (triangleAt ns n ∷ [])
+unfolding tableOf
+tableOf-suc ns n = ap (map (λ i. triangleAt ns i)) (upTo-suc n) ∙ map-append (λ i. triangleAt ns i) (upTo n) (n ∷ [])
+
+-- what stands at a place of a list over the numbers from k on
 counted : {A : Type 0} (f : ℕ → A) (k n i : ℕ) (d : A) → i < n → getD (map f (countFrom k n)) i d ≡ f (k + i)
 unfolding countFrom
 counted f k zero i d h = absurd (omega arith)
@@ -19,3 +33,35 @@ counted f k (suc n) (suc i) d h = counted f (suc k) n i d (omega arith) ∙ ap f
 pub numbered-at : (ns : List ℕ) (n i : ℕ) → i < n → numbered (tableOf ns n) i ≡ triangleAt ns i
 unfolding numbered tableOf upTo
 numbered-at ns n i h = counted (λ j. triangleAt ns j) 0 n i noTriangle h ∙ ap (triangleAt ns) (zero-add i)
+
+-- some numbers of a list, by their places
+take-places : (n k : ℕ) (ns : List ℕ) → k + n ≤ length ns → take n (drop k ns) ≡ map (λ i. getD ns i 0) (countFrom k n)
+unfolding countFrom
+take-places zero k ns h = refl
+take-places (suc n) k ns h =
+    ap (take (suc n)) (drop-cons ns k 0 (omega arith))
+    ∙ ap (λ l. getD ns k 0 ∷ l) (take-places n (suc k) ns (omega arith))
+
+-- those of triangle n
+triangle-take : (ns : List ℕ) (n : ℕ) → 6 * n + 6 ≤ length ns → triangleNumbers (triangleAt ns n) ≡ take 6 (drop (6 * n) ns)
+unfolding triangleNumbers triangleAt pointAt countFrom
+triangle-take ns n h =
+    let k = 6 * n in
+    let a : k + 1 ≡ suc k = omega arith in
+    let b : k + 2 ≡ suc (suc k) = omega arith in
+    let d : k + 2 + 1 ≡ suc (suc (suc k)) = omega arith in
+    let e : k + 4 ≡ suc (suc (suc (suc k))) = omega arith in
+    let f : k + 4 + 1 ≡ suc (suc (suc (suc (suc k)))) = omega arith in
+    rw (take-places 6 k ns h) (cc)
+
+-- the numbers of the first n triangles are the first 6 n numbers
+pub tableNumbers-take : (ns : List ℕ) (n : ℕ) → 6 * n ≤ length ns → tableNumbers (tableOf ns n) ≡ take (6 * n) ns
+unfolding tableNumbers tableOf upTo countFrom flatMap
+tableNumbers-take ns zero h = refl
+tableNumbers-take ns (suc n) h =
+    let m : 6 * suc n ≡ 6 * n + 6 = omega arith in
+    ap (flatMap (λ t. triangleNumbers t)) (tableOf-suc ns n)
+    ∙ flatMap-append (λ t. triangleNumbers t) (tableOf ns n) (triangleAt ns n ∷ [])
+    ∙ ap₂ _++_ (tableNumbers-take ns n (omega arith)) (append-nil (triangleNumbers (triangleAt ns n)) ∙ triangle-take ns n (omega arith))
+    ∙ sym (take-add (6 * n) 6 ns)
+    ∙ ap (λ k. take k ns) (sym m)

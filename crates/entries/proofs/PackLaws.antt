@@ -12,7 +12,7 @@ use Rattle.orthtree.specs.Entries.{Entry, emptyMark}
 use Rattle.chart_spec.specs.Table.{tableOf}
 use Rattle.chart_spec.specs.Cells.{entriesOf}
 use Rattle.chart_spec.proofs.ChainOfTable.{entries-bounds}
-use Rattle.shapes.proofs.PutLaws.{tableOf-length}
+use Rattle.chart_spec.proofs.TableLaws.{tableOf-length}
 use Rattle.filing.specs.Filing.{packed}
 use Rattle.entries.specs.Lists.{keyOf, levelOf, itemOf}
 

@@ -24,9 +24,9 @@ use Rattle.squares.proofs.ZOrderLaws.{zOrder-bound}
 use Rattle.chart_spec.specs.Table.{Table, tableOf, numbered}
 use Rattle.chart_spec.specs.Cells.{commonEnd, sidesMeeting, stopped, trianglesMeeting, orMark, entryOf, cellEntries, entriesIn}
 use Rattle.chart_spec.proofs.FilingLaws.{entriesIn-stopped, entriesIn-split, meeting-narrow, quarter-within}
+use Rattle.chart_spec.proofs.TableLaws.{tableOf-length}
 use Rattle.shapes.specs.Shape.{triangleMeetsAt}
 use Rattle.shapes.proofs.ShapeLaws.{triangle-meets-at}
-use Rattle.shapes.proofs.PutLaws.{tableOf-length}
 use Rattle.filing.specs.Filing.{part, packed, Ready, Prepared, Candidates, Filed}
 use Rattle.filing.proofs.StackLaws.{part-length, filter-length}
 use Rattle.filing.proofs.StopLaws.{framed, corners-small, meeting-below}

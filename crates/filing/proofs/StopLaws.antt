@@ -25,23 +25,12 @@ use Rattle.squares.specs.Square.{squareBox, Aligned}
 use Rattle.chart_spec.specs.Cells.{sidesMeeting, commonEnd, stopped, trianglesMeeting}
 use Rattle.chart_spec.proofs.FilingLaws.{sides-narrow}
 use Rattle.chart_spec.proofs.ChainOfTable.{meeting-rising}
+use Rattle.chart_spec.proofs.TableLaws.{numbered-at, tableOf-length}
 use Rattle.shapes.proofs.ShapeLaws.{OnTriangle, first-meets, second-meets, third-meets}
-use Rattle.shapes.proofs.PutLaws.{tableOf-length}
 use Rattle.filing.specs.Filing.{maskOf, masked, sidesMet, sidesAt, Prepared}
 use Rattle.filing.proofs.MaskLaws.{masked-filter}
 
 -- ---- the triangles of a table
-
-counted : {A : Type 0} (f : ℕ → A) (k n i : ℕ) (d : A) → i < n → getD (map f (countFrom k n)) i d ≡ f (k + i)
-unfolding countFrom
-counted f k zero i d h = absurd (omega arith)
-counted f k (suc n) zero d h = ap f (sym (add-zero k))
-counted f k (suc n) (suc i) d h = counted f (suc k) n i d (omega arith) ∙ ap f (omega arith)
-
--- triangle i of a table is read from its six numbers
-pub numbered-at : (ns : List ℕ) (n i : ℕ) → i < n → numbered (tableOf ns n) i ≡ triangleAt ns i
-unfolding numbered tableOf upTo
-numbered-at ns n i h = counted (λ j. triangleAt ns j) 0 n i noTriangle h ∙ ap (triangleAt ns) (zero-add i)
 
 -- the corners of its triangles are grid points
 pub corners-small : (ns : List ℕ) (n : ℕ) → ((k : ℕ) → getD ns k 0 < 65536) → (t : Triangle) → List·Memᴰ t (tableOf ns n) → OnTriangle t

@@ -20,9 +20,10 @@ use Rattle.squares.proofs.SquareLaws.{whole-aligned}
 use Rattle.orthtree.specs.Morton.{lowestBits, mortonKey}
 use Rattle.chart_spec.specs.Table.{Table, tableOf, numbered}
 use Rattle.chart_spec.specs.Cells.{trianglesMeeting}
+use Rattle.chart_spec.proofs.TableLaws.{tableOf-length}
 use Rattle.shapes.specs.Shape.{shapeOf, offsetsOf}
 use Rattle.shapes.proofs.ShapeLaws.{shape-length, offsets-length}
-use Rattle.shapes.proofs.PutLaws.{tableOf-length, flatMap-length}
+use Rattle.shapes.proofs.PutLaws.{flatMap-length}
 use Rattle.filing.specs.Filing.{part, Ready, Prepared, Candidates}
 use Rattle.filing.proofs.WalkLaws.{part-stored, ready-stored}
 

@@ -19,12 +19,12 @@ use Rattle.chart_spec.specs.Table.{Table, pointAt, triangleAt, tableOf, triangl
 use Rattle.chart_spec.specs.Cells.{entriesOf, maxEntries}
 use Rattle.chart_spec.proofs.FilingLaws.{entriesIn-whole}
 use Rattle.chart_spec.proofs.ChainOfTable.{entriesIn-positive, entries-chain}
+use Rattle.chart_spec.proofs.TableLaws.{numbered-at, tableOf-length}
 use Rattle.call_spec.specs.Buffers.{Chart, tooShort, padded, zipEntries, chartTable, chartEntries, chainRule, filed, chartWith, filedChart}
 use Rattle.call_spec.proofs.BuffersLaws.{sameEntries-reflects}
 use Rattle.chains.proofs.TestLaws.{reflects-true}
 use Rattle.chains.proofs.BufferLaws.{long-enough, counts-reflects, rule-joined}
-use Rattle.shapes.proofs.PutLaws.{tableOf-length, flatMap-length}
-use Rattle.filing.proofs.StopLaws.{numbered-at}
+use Rattle.shapes.proofs.PutLaws.{flatMap-length}
 
 -- ---- the table
 

@@ -1,5 +1,4 @@
 pub mod FaultyLaws
-pub mod TableLaws
 pub mod LoadLaws
 pub mod FiledLaws
 pub mod LoadFiled

@@ -10,9 +10,9 @@ use native.Mathlib.Omega.{arith}
 use lib.ListN.{length}
 use Rattle.chart_spec.specs.Cells.{entriesOf, maxEntries}
 use Rattle.chart_spec.specs.Refusals.{Refusal, refused, numberOf}
+use Rattle.chart_spec.proofs.TableLaws.{tableOf-length}
 use Rattle.call_spec.specs.Buffers.{Chart, tooShort}
 use Rattle.call_spec.specs.Calls.{changedBy, loadCall}
-use Rattle.shapes.proofs.PutLaws.{tableOf-length}
 use Rattle.load.specs.Faulty.{firstFaulty}
 use Rattle.load.proofs.LoadLaws.{lengthTest, length-few, given, given-proper, load-short, load-length, load-faulty, load-over, load-accepted}
 use Rattle.load.proofs.FiledLaws.{Editable, filed-editable}

@@ -17,13 +17,12 @@ use Rattle.chart_spec.specs.Table.{Table, tableOf, tableLength}
 use Rattle.chart_spec.specs.Cells.{entriesOf, maxEntries}
 use Rattle.chart_spec.specs.Refusals.{shortBuffer, badLength, faultyTriangle, tooManyEntries, refused, done, refuseIf, andThen}
 use Rattle.chart_spec.specs.Edits.{eventOn, proposed, loadTable, givenTable, withinLimit, limited}
+use Rattle.chart_spec.proofs.TableLaws.{tableNumbers-take, tableOf-length}
 use Rattle.call_spec.specs.Buffers.{Chart, chartOf, tooShort, padded, chartWith, filedChart}
 use Rattle.call_spec.specs.Calls.{Changed, changedBy, loadCall}
-use Rattle.shapes.proofs.PutLaws.{tableOf-length}
 use Rattle.entries.specs.Lists.{Listed}
 use Rattle.load.specs.Faulty.{firstFaulty}
 use Rattle.load.proofs.FaultyLaws.{faulty-none, faulty-done, faulty-refused}
-use Rattle.load.proofs.TableLaws.{tableNumbers-take}
 
 -- ---- the count that filing gave says whether the entries fit
 

@@ -15,8 +15,8 @@ use Rattle.plane.specs.Triangle.{Triangle}
 use Rattle.plane.specs.Interior.{noSideSeparates, interiorsMeet}
 use Rattle.chart_spec.specs.Table.{triangleAt, tableOf, numbered}
 use Rattle.chart_spec.specs.Reading.{sound}
+use Rattle.chart_spec.proofs.TableLaws.{numbered-at, tableOf-length}
 use Rattle.chains.proofs.TestLaws.{reflects-false}
-use Rattle.measures.proofs.TableLaws.{tableOf-length, numbered-at}
 
 -- "and" does not depend on the order
 and-swap : (a b : Bool) → a && b ≡ b && a

@@ -15,28 +15,6 @@ use Rattle.chart_spec.specs.Table.{triangleAt, tableOf, numbered, noTriangle}
 use Rattle.call_spec.specs.Buffers.{Chart, tooShort, chartTable, countsFit, chainRule}
 use Rattle.chains.proofs.BufferLaws.{long-enough, counts-reflects}
 
--- a table of n triangles has n
-pub tableOf-length : (ns : List ℕ) (n : ℕ) → length (tableOf ns n) ≡ n
-unfolding tableOf
-tableOf-length ns n = length-map (upTo n) (λ i. triangleAt ns i) ∙ upTo-length n
-
--- one triangle more
-pub tableOf-suc : (ns : List ℕ) (n : ℕ) → tableOf ns (suc n) ≡ tableOf ns n ++ (triangleAt ns n ∷ [])
-unfolding tableOf
-tableOf-suc ns n = ap (map (λ i. triangleAt ns i)) (upTo-suc n) ∙ map-append (λ i. triangleAt ns i) (upTo n) (n ∷ [])
-
--- what stands at a place of a list over the numbers from k on
-counted : {A : Type 0} (f : ℕ → A) (k n i : ℕ) (d : A) → i < n → getD (map f (countFrom k n)) i d ≡ f (k + i)
-unfolding countFrom
-counted f k zero i d h = absurd (omega arith)
-counted f k (suc n) zero d h = ap f (sym (add-zero k))
-counted f k (suc n) (suc i) d h = counted f (suc k) n i d (omega arith) ∙ ap f (omega arith)
-
--- triangle i of a table is read from its six numbers
-pub numbered-at : (ns : List ℕ) (n i : ℕ) → i < n → numbered (tableOf ns n) i ≡ triangleAt ns i
-unfolding numbered tableOf upTo
-numbered-at ns n i h = counted (λ j. triangleAt ns j) 0 n i noTriangle h ∙ ap (triangleAt ns) (zero-add i)
-
 -- a table's triangles have D > 0 where each number's does
 all-proper : (ns : List ℕ) (n : ℕ) → all (λ t. proper t) (tableOf ns n) ≡ all (λ k. proper (triangleAt ns k)) (upTo n)
 unfolding tableOf

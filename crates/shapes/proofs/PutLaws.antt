@@ -13,6 +13,7 @@ use Rattle.lists.proofs.ListsLaws.{sets-join}
 use Rattle.plane.specs.declared.Point.{Point}
 use Rattle.plane.specs.Triangle.{Triangle}
 use Rattle.chart_spec.specs.Table.{triangleAt, tableOf}
+use Rattle.chart_spec.proofs.TableLaws.{tableOf-length, tableOf-suc}
 use Rattle.shapes.specs.Shape.{sideShape, boxShape, shapeOf, sideOffset, offsetsOf}
 
 -- a triangle by its corners
@@ -42,25 +43,9 @@ put-offsets l k u v w a b c e f g = cc (add-one k, add-two k)
 
 -- ---- a table's numbers, one triangle after another
 
-upTo-suc : (k n : ℕ) → countFrom k (suc n) ≡ countFrom k n ++ ((k + n) ∷ [])
-unfolding countFrom
-upTo-suc k zero = ap (λ m. m ∷ []) (sym (add-zero k))
-upTo-suc k (suc n) = ap (λ r. k ∷ r) (upTo-suc (suc k) n ∙ ap (λ m. countFrom (suc k) n ++ (m ∷ [])) (omega arith))
-
--- one triangle more
-pub tableOf-suc : (ns : List ℕ) (n : ℕ) → tableOf ns (suc n) ≡ tableOf ns n ++ (triangleAt ns n ∷ [])
-unfolding tableOf upTo
-tableOf-suc ns n =
-    ap (map (λ i. triangleAt ns i)) (upTo-suc 0 n ∙ ap (λ m. countFrom 0 n ++ (m ∷ [])) (zero-add n))
-    ∙ map-append (λ i. triangleAt ns i) (countFrom 0 n) (n ∷ [])
-
 tableOf-empty : (ns : List ℕ) → tableOf ns 0 ≡ []
 unfolding tableOf upTo countFrom
 tableOf-empty ns = refl
-
-pub tableOf-length : (ns : List ℕ) (n : ℕ) → length (tableOf ns n) ≡ n
-tableOf-length ns zero = ap length (tableOf-empty ns)
-tableOf-length ns (suc n) = rw (tableOf-suc, length-append, tableOf-length ns n) (add-one n)
 
 module _ (f : Triangle → List ℕ) (c : ℕ) (size : (t : Triangle) → length (f t) ≡ c) where
   flatMap-snoc : (l : List Triangle) (t : Triangle) → flatMap f (l ++ (t ∷ [])) ≡ flatMap f l ++ f t
