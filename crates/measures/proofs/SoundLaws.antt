@@ -1,7 +1,7 @@
 -- Soundness by the pairs i and j with j < i: the test that two triangles share ground does not depend on their order.
 -- Assumes nothing.
 use mathlib.Core.Path.{_≡_, refl, sym, _∙_, ap}
-use mathlib.Core.Bool.{Bool, true, false, not, _&&_, _||_}
+use mathlib.Core.Bool.{Bool, true, false, not, _||_, and-comm}
 use mathlib.Core.List.{List}
 use Prim.Native.Nat.{ℕ, _+_, _≤_, _<_}
 use native.Mathlib.Decide.{decLe}
@@ -18,17 +18,10 @@ use Rattle.chart_spec.specs.Reading.{sound}
 use Rattle.chart_spec.proofs.TableLaws.{numbered-at, tableOf-length}
 use Rattle.chains.proofs.TestLaws.{reflects-false}
 
--- "and" does not depend on the order
-and-swap : (a b : Bool) → a && b ≡ b && a
-and-swap true true = refl
-and-swap true false = refl
-and-swap false true = refl
-and-swap false false = refl
-
--- nor does sharing ground
+-- sharing ground does not depend on the order
 interiorsMeet-sym : (s t : Triangle) → interiorsMeet s t ≡ interiorsMeet t s
 unfolding interiorsMeet
-interiorsMeet-sym s t = and-swap (noSideSeparates s t) (noSideSeparates t s)
+interiorsMeet-sym s t = and-comm (noSideSeparates s t) (noSideSeparates t s)
 
 -- one test that fails below the bound
 pub all-below-fails : (f : ℕ → Bool) (n i : ℕ) → i < n → f i ≡ false → false ≡ all f (upTo n)
