@@ -4,10 +4,11 @@ use mathlib.Core.Path.{_≡_, refl}
 use mathlib.Core.Bool.{Bool, true, false, true≢false, _&&_, _||_}
 use Prim.Native.Nat.{ℕ, _≤_}
 use borrow.Author.Tests.{ltb-false}
-use lib.Dec.{ltb}
+use lib.Dec.{T, ltb}
 use lib.ListN.{length, take}
 use Rattle.lists.specs.Lists.{all}
-use Rattle.lists.proofs.Reflects.{Reflects, reflects-and₃, reflects-leb}
+use Rattle.lists.proofs.Reflects.{Reflects, reflects-and₃, reflects-leb, reflects-test, test-true}
+use Rattle.lists.proofs.ListsLaws.{Every, all-reflects}
 use Rattle.orthtree.specs.Entries.{chain}
 use Rattle.plane.specs.Triangle.{proper}
 use Rattle.squares.specs.Square.{arity, depth}
@@ -22,7 +23,8 @@ pub record LongEnough (c : Chart) : Type 0 where
   pub levels : maxEntries ≤ length (c .levels)
   pub items : maxEntries ≤ length (c .items)
 
-or-neither : (a b : Bool) → a || b ≡ false → (a ≡ false) × (b ≡ false)
+-- neither of two tests holds where "or" fails
+pub or-neither : (a b : Bool) → a || b ≡ false → (a ≡ false) × (b ≡ false)
 or-neither true b h = absurd (true≢false h)
 or-neither false b h = (refl, h)
 
@@ -56,3 +58,21 @@ pub rule-joined : (c : Chart) → countsFit (c .triangleCount) (c .entryCount) �
     → p && q ≡ chainRule c
 unfolding chainRule chartTable chartEntries
 rule-joined c h p q = rw (h, p, q)
+
+-- what the chain rule says of a chart
+pub record Ruled (c : Chart) : Type 0 where
+  pub triangles : c .triangleCount ≤ maxTriangles
+  pub entries : c .entryCount ≤ maxEntries
+  pub allProper : all (λ t. proper t) (chartTable c) ≡ true
+  pub good : Every (λ t. T (proper t)) (chartTable c)
+  pub chained : T (chain arity depth (c .triangleCount) (chartEntries c))
+
+pub ruled : (c : Chart) → chainRule c ≡ true → Ruled c
+unfolding chainRule
+ruled c e =
+    let q = all-reflects (λ t. proper t) (λ t. reflects-test (proper t)) (chartTable c) in
+    let r =
+    reflects-and₃ (counts-reflects (c .triangleCount) (c .entryCount)) q
+    (reflects-test (chain arity depth (c .triangleCount) (chartEntries c))) in
+    let p = r .to (rw e tt) in
+    record { triangles = p .0 .0; entries = p .0 .1 .1; allProper = test-true (q .from (p .1 .0)); good = p .1 .0; chained = p .1 .1 }

@@ -4,14 +4,14 @@
 -- Assumes nothing.
 use mathlib.Core.Path.{_≡_, refl, sym, _∙_, ap, ap₂}
 use mathlib.Core.Bool.{Bool, true, _||_}
-use mathlib.Core.List.{List, [], _∷_, map, flatMap, List·Memᴰ}
-use Prim.Native.Nat.{ℕ, zero, suc, _+_, _*_, _<_}
-use native.Mathlib.Nat.{zero-add, add-zero, le-of-suc-le-suc}
+use mathlib.Core.List.{List, [], _∷_, flatMap, List·Memᴰ}
+use Prim.Native.Nat.{ℕ, _+_, _*_, _<_}
+use native.Mathlib.Nat.{le-of-suc-le-suc}
 use native.Mathlib.Omega.{arith}
 use borrow.Author.Tests.{eq-eqb, ne-eqb}
 use lib.Dec.{T}
 use lib.ListN.{length, getD}
-use Rattle.lists.specs.Lists.{filter, countFrom, upTo}
+use Rattle.lists.specs.Lists.{filter, upTo}
 use Rattle.lists.proofs.Reflects.{reflects-test}
 use Rattle.lists.proofs.ListsLaws.{Every, all-reflects}
 use Rattle.lists.proofs.Order.{rising-members}
@@ -19,7 +19,7 @@ use Rattle.lists.proofs.EveryLaws.{every-map, flatMap-agree}
 use Rattle.plane.specs.Triangle.{Triangle, Side, sides, proper}
 use Rattle.plane.specs.Box.{Box, sideMeets}
 use Rattle.plane.proofs.ExtremeLaws.{Framed, OnGrid}
-use Rattle.chart_spec.specs.Table.{Table, pointAt, triangleAt, tableOf, numbered, noTriangle}
+use Rattle.chart_spec.specs.Table.{Table, pointAt, triangleAt, tableOf, numbered}
 use Rattle.squares.specs.declared.Square.{Square}
 use Rattle.squares.specs.Square.{squareBox, Aligned}
 use Rattle.chart_spec.specs.Cells.{sidesMeeting, commonEnd, stopped, trianglesMeeting}

@@ -2,7 +2,7 @@
 -- The idea: the tests are those of `loadCall` in its order, so each one settles one row of it.
 -- Assumes nothing.
 use mathlib.Core.Path.{_≡_, sym, _∙_, ap}
-use mathlib.Core.Bool.{Bool, true, false, not, _||_, true≢false}
+use mathlib.Core.Bool.{Bool, true, false, not, _||_}
 use mathlib.Core.List.{List}
 use Prim.Native.Nat.{ℕ, _*_, _/_, _%_, _≤_, _<_}
 use native.Mathlib.Decide.{decLe}
@@ -22,6 +22,7 @@ use Rattle.call_spec.specs.Buffers.{Chart, chartOf, tooShort, padded, chartWith
 use Rattle.call_spec.specs.Calls.{Changed, changedBy, loadCall}
 use Rattle.entries.specs.Lists.{Listed}
 use Rattle.load.specs.Faulty.{firstFaulty}
+use Rattle.chains.proofs.BufferLaws.{or-neither}
 use Rattle.load.proofs.FaultyLaws.{faulty-none, faulty-done, faulty-refused}
 
 -- ---- the count that filing gave says whether the entries fit
@@ -47,13 +48,9 @@ module _ {es : List Entry} {m : ℕ} {ks ks′ ls ls′ is is′ : List ℕ} (l 
 abbrev pub lengthTest : List ℕ → Bool
 lengthTest ns = not (eqb (length ns % 6) 0) || ltb tableLength (length ns)
 
-or-second : (a b : Bool) → a || b ≡ false → b ≡ false
-or-second true b h = absurd (true≢false h)
-or-second false b h = h
-
 -- a length that passes is at most that of a full table
 pub length-few : (ns : List ℕ) → lengthTest ns ≡ false → length ns ≤ tableLength
-length-few ns h = ltb-false tableLength (length ns) (or-second (not (eqb (length ns % 6) 0)) (ltb tableLength (length ns)) h)
+length-few ns h = ltb-false tableLength (length ns) (or-neither (not (eqb (length ns % 6) 0)) (ltb tableLength (length ns)) h .1)
 
 -- the triangles of the numbers given
 abbrev pub given : List ℕ → Table

@@ -6,48 +6,28 @@ use mathlib.Core.List.{List, []}
 use mathlib.Core.Option.{Option, none, some}
 use Prim.Native.Nat.{ℕ, _*_, _≤_, _<_}
 use native.Mathlib.Omega.{arith}
-use lib.Dec.{T}
 use lib.ListN.{length, getD, take}
 use Rattle.lists.specs.Lists.{first}
-use Rattle.lists.proofs.Reflects.{reflects-and₃, reflects-test, test-true}
-use Rattle.lists.proofs.ListsLaws.{Every, all-reflects, getD-member}
+use Rattle.lists.proofs.Reflects.{test-true}
+use Rattle.lists.proofs.ListsLaws.{Every, getD-member}
 use Rattle.orthtree.specs.Entries.{chain}
 use Rattle.plane.specs.declared.Point.{Point}
-use Rattle.plane.specs.Triangle.{proper, holds}
+use Rattle.plane.specs.Triangle.{holds}
 use Rattle.squares.specs.Square.{arity, depth}
-use Rattle.chart_spec.specs.Table.{triangleAt, numbered, maxTriangles}
-use Rattle.chart_spec.specs.Cells.{maxEntries}
+use Rattle.chart_spec.specs.Table.{triangleAt, numbered}
 use Rattle.chart_spec.specs.Refusals.{shortBuffer, brokenChain, done, refuseIf, outcomeNumber, doneOr}
 use Rattle.chart_spec.specs.Reading.{listing, located}
 use Rattle.chart_spec.proofs.TableLaws.{numbered-at}
 use Rattle.call_spec.specs.Buffers.{Chart, tooShort, zipEntries, chainRule, chartTable, chartEntries}
 use Rattle.call_spec.specs.Calls as Calls
 use Rattle.call_spec.specs.Calls.{reading, locateCall, listingCall}
-use Rattle.chains.proofs.BufferLaws.{long-enough, counts-reflects}
+use Rattle.chains.proofs.BufferLaws.{long-enough, ruled}
 use Rattle.answers.specs.declared.Located.{Located}
 use Rattle.answers.specs.declared.Located.the-variants as locations
 use Rattle.answers.specs.Outcomes.{locatedOf}
 use Rattle.reading.specs.Holding.{readable, foundOf}
 use Rattle.reading.proofs.FirstLaws.{first-agree}
 use Rattle.reading.proofs.ListedLaws.{listed-below}
-
--- what the chain rule asks of a chart
-pub record Ruled (c : Chart) : Type 0 where
-  pub triangles : c .triangleCount ≤ maxTriangles
-  pub entries : c .entryCount ≤ maxEntries
-  pub good : Every (λ t. T (proper t)) (chartTable c)
-  pub chained : T (chain arity depth (c .triangleCount) (chartEntries c))
-
--- where it holds
-pub ruled : (c : Chart) → chainRule c ≡ true → Ruled c
-unfolding chainRule
-ruled c e =
-    let r =
-    reflects-and₃ (counts-reflects (c .triangleCount) (c .entryCount))
-    (all-reflects (λ t. proper t) (λ t. reflects-test (proper t)) (chartTable c))
-    (reflects-test (chain arity depth (c .triangleCount) (chartEntries c))) in
-    let p = r .to (rw e tt) in
-    record { triangles = p .0 .0; entries = p .0 .1 .1; good = p .1 .0; chained = p .1 .1 }
 
 -- then the lists may be searched
 pub searchable : (c : Chart) → tooShort c ≡ false → chainRule c ≡ true

@@ -2,25 +2,26 @@
 -- Assumes nothing.
 use mathlib.Core.Path.{_≡_, sym, _∙_, ap}
 use mathlib.Core.Bool.{true, false}
-use lib.ListN.{length, length-map}
+use lib.ListN.{length}
 use Rattle.lists.specs.Lists.{first, upTo}
-use Rattle.lists.proofs.IndexLaws.{upTo-length}
 use Rattle.plane.specs.declared.Point.{Point}
 use Rattle.plane.specs.Triangle.{holds}
 use Rattle.squares.proofs.ZOrderLaws.{InGrid}
-use Rattle.chart_spec.specs.Table.{tableOf, triangleAt, numbered}
+use Rattle.chart_spec.specs.Table.{numbered}
 use Rattle.chart_spec.specs.Cells.{entriesOf}
 use Rattle.chart_spec.specs.Reading.{located}
 use Rattle.chart_spec.proofs.LocateOfTable.{locate-listing}
+use Rattle.chart_spec.proofs.TableLaws.{tableOf-length}
 use Rattle.call_spec.specs.Buffers.{Chart, tooShort, chainRule, filed, chartTable, chartEntries}
 use Rattle.call_spec.specs.Calls.{locateCall}
 use Rattle.call_spec.proofs.BuffersLaws.{sameEntries-reflects}
-use Rattle.reading.proofs.CallLaws.{ruled, located-done}
+use Rattle.chains.proofs.BufferLaws.{ruled}
+use Rattle.reading.proofs.CallLaws.{located-done}
 
 -- a table has as many triangles as its count says
 table-length : (c : Chart) → length (chartTable c) ≡ c .triangleCount
-unfolding chartTable tableOf
-table-length c = length-map (upTo (c .triangleCount)) (λ i. triangleAt (c .table) i) ∙ upTo-length (c .triangleCount)
+unfolding chartTable
+table-length c = tableOf-length (c .table) (c .triangleCount)
 
 -- a chart whose entries are those of its table
 filed-entries : (c : Chart) → filed c ≡ true → chartEntries c ≡ entriesOf (chartTable c)
