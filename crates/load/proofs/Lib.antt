@@ -1,0 +1,3 @@
+pub mod FaultyLaws
+pub mod TableLaws
+pub mod LoadLaws
