@@ -1,4 +1,5 @@
 pub mod Evaluate
+pub mod TableLaws
 pub mod CellsLaws
 pub mod ReadingLaws
 pub mod FilingLaws

@@ -1,0 +1,122 @@
+-- The calls locate and cell listing by their checks: too short a buffer, a broken chain, or what is read.
+-- Assumes nothing.
+use mathlib.Core.Path.{_≡_, refl, sym, _∙_, ap}
+use mathlib.Core.Bool.{true, false}
+use mathlib.Core.List.{List, []}
+use mathlib.Core.Option.{Option, none, some}
+use Prim.Native.Nat.{ℕ, _*_, _≤_, _<_}
+use native.Mathlib.Omega.{arith}
+use lib.Dec.{T}
+use lib.ListN.{length, getD, take}
+use Rattle.lists.specs.Lists.{first}
+use Rattle.lists.proofs.Reflects.{reflects-and₃, reflects-test, test-true}
+use Rattle.lists.proofs.ListsLaws.{Every, all-reflects, getD-member}
+use Rattle.orthtree.specs.Entries.{chain}
+use Rattle.plane.specs.declared.Point.{Point}
+use Rattle.plane.specs.Triangle.{proper, holds}
+use Rattle.squares.specs.Square.{arity, depth}
+use Rattle.chart_spec.specs.Table.{triangleAt, numbered, maxTriangles}
+use Rattle.chart_spec.specs.Cells.{maxEntries}
+use Rattle.chart_spec.specs.Refusals.{refuseIf, outcomeNumber, doneOr}
+use Rattle.chart_spec.specs.Reading.{listing, located}
+use Rattle.chart_spec.proofs.TableLaws.{numbered-at}
+use Rattle.call_spec.specs.Buffers.{Chart, tooShort, zipEntries, chainRule, chartTable, chartEntries}
+use Rattle.call_spec.specs.Calls as Calls
+use Rattle.call_spec.specs.Calls.{reading, locateCall, listingCall}
+use Rattle.chains.proofs.BufferLaws.{long-enough, counts-reflects}
+use Rattle.answers.specs.declared.Located.{Located}
+use Rattle.answers.specs.declared.Located.the-variants as locations
+use Rattle.answers.specs.Outcomes.{locatedOf}
+use Rattle.reading.specs.Holding.{foundOf}
+use Rattle.reading.proofs.FirstLaws.{first-agree}
+use Rattle.reading.proofs.ListedLaws.{listed-below}
+
+-- what the chain rule asks of a chart
+pub record Ruled (c : Chart) : Type 0 where
+  pub triangles : c .triangleCount ≤ maxTriangles
+  pub entries : c .entryCount ≤ maxEntries
+  pub good : Every (λ t. T (proper t)) (chartTable c)
+  pub chained : T (chain arity depth (c .triangleCount) (chartEntries c))
+
+-- where it holds
+pub ruled : (c : Chart) → chainRule c ≡ true → Ruled c
+unfolding chainRule
+ruled c e =
+    let r =
+    reflects-and₃ (counts-reflects (c .triangleCount) (c .entryCount))
+    (all-reflects (λ t. proper t) (λ t. reflects-test (proper t)) (chartTable c))
+    (reflects-test (chain arity depth (c .triangleCount) (chartEntries c))) in
+    let p = r .to (rw e tt) in
+    record { triangles = p .0 .0; entries = p .0 .1 .1; good = p .1 .0; chained = p .1 .1 }
+
+-- an answer that is no refusal: the number 0, and the triangle found
+found-of : (o : Option ℕ) → _≡_ {A = Calls.Located} (locatedOf (foundOf o)) (record { number = 0; found = o })
+unfolding outcomeNumber doneOr
+found-of none = refl
+found-of (some i) = refl
+
+module _ (c : Chart) (p : Point) where
+  -- cell listing at refusal 1
+  pub listing-short : tooShort c ≡ true → [] ≡ listingCall c p
+  unfolding listingCall reading refuseIf doneOr
+  listing-short s = rw s
+
+  -- locate at refusal 1
+  pub locate-short : tooShort c ≡ true → _≡_ {A = Calls.Located} (locatedOf locations.ShortBuffer) (locateCall c p)
+  unfolding locateCall reading refuseIf doneOr outcomeNumber
+  locate-short s = rw s
+
+  module _ (s : tooShort c ≡ false) where
+    -- cell listing at refusal 2
+    pub listing-broken : chainRule c ≡ false → [] ≡ listingCall c p
+    unfolding listingCall reading refuseIf doneOr
+    listing-broken r = rw (s, r)
+
+    -- locate at refusal 2
+    pub locate-broken : chainRule c ≡ false → _≡_ {A = Calls.Located} (locatedOf locations.BrokenChain) (locateCall c p)
+    unfolding locateCall reading refuseIf doneOr outcomeNumber
+    locate-broken r = rw (s, r)
+
+    module _ (r : chainRule c ≡ true) where
+      -- the lists may be searched
+      pub searchable : ((c .entryCount ≤ length (c .keys)) × ((c .entryCount ≤ length (c .levels)) × (c .entryCount ≤ length (c .items))))
+          × (chain arity depth (c .triangleCount) (take (c .entryCount) (zipEntries (c .keys) (c .levels) (c .items))) ≡ true)
+      unfolding chartEntries
+      searchable =
+          let long = long-enough c s in
+          let rule = ruled c r in ((omega arith, (omega arith, omega arith)), test-true (rule .chained))
+
+      -- the table has the listed triangles
+      pub table-holds : {l : List ℕ} → l ≡ listing (chartEntries c) p
+          → (6 * c .triangleCount ≤ length (c .table)) × ((k : ℕ) → k < length l → getD l k 0 < c .triangleCount)
+      table-holds {l} e =
+          let long = long-enough c s in
+          let rule = ruled c r in
+          let below : Every (λ i. i < c .triangleCount) l = rw e (listed-below (c .triangleCount) (chartEntries c) (rule .chained) p) in
+          (omega arith, λ k h. below (getD l k 0) (getD-member l k 0 h))
+
+      -- cell listing gives the cell's numbers
+      pub listing-done : listing (chartEntries c) p ≡ listingCall c p
+      unfolding listingCall reading refuseIf doneOr
+      listing-done = rw (s, r)
+
+      -- the triangles tested are read from the table's numbers
+      located-first : located (chartTable c) (chartEntries c) p ≡ first (λ i. holds (triangleAt (c .table) i) p) (listing (chartEntries c) p)
+      unfolding located chartTable
+      located-first =
+          first-agree (λ i. holds (numbered (chartTable c) i) p) (λ i. holds (triangleAt (c .table) i) p) (listing (chartEntries c) p)
+          (λ i m. ap (λ t. holds t p) (numbered-at (c .table) (c .triangleCount) i (listed-below (c .triangleCount) (chartEntries c) (ruled c r .chained) p i m)))
+
+      -- locate gives the number 0 and what the definition finds
+      pub located-done : _≡_ {A = Calls.Located} (record { number = 0; found = located (chartTable c) (chartEntries c) p }) (locateCall c p)
+      unfolding locateCall reading refuseIf doneOr outcomeNumber
+      located-done = rw (s, r)
+
+      -- so does the first listed triangle that holds the point
+      pub locate-done : {l : List ℕ} → l ≡ listing (chartEntries c) p → {a : Located} → a ≡ foundOf (first (λ i. holds (triangleAt (c .table) i) p) l)
+          → _≡_ {A = Calls.Located} (locatedOf a) (locateCall c p)
+      locate-done e h =
+          ap (λ b. locatedOf b) (h ∙ ap (λ m. foundOf (first (λ i. holds (triangleAt (c .table) i) p) m)) e)
+          ∙ found-of _
+          ∙ ap (λ o. record { number = 0; found = o }) (sym located-first)
+          ∙ located-done

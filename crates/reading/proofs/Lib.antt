@@ -1,0 +1,4 @@
+pub mod FirstLaws
+pub mod ListedLaws
+pub mod CallLaws
+pub mod LocateLaws
