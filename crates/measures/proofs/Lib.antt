@@ -1,0 +1,3 @@
+pub mod TableLaws
+pub mod SoundLaws
+pub mod AreaLaws
