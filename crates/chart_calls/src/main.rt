@@ -9,6 +9,7 @@
 
 use answers::Area;
 use answers::Change;
+use answers::Changed;
 use answers::Located;
 use answers::Soundness;
 use libc::STDIN_FILENO;
@@ -189,6 +190,59 @@ fn decode(bytes: &[u8], n: usize, given: &mut [u16])
     }
 }
 
+// Loads a list into lent buffers.
+fn load_into(
+    given: &[u16],
+    table: &mut [u16],
+    keys: &mut [u32],
+    levels: &mut [u8],
+    items: &mut [u16],
+    triangles: usize,
+    entries: usize,
+) -> Changed {
+    let r = load::load(given, table, keys, levels, items, triangles, entries);
+    let change = r.change;
+    say(b"load");
+    print(change_number(change));
+    print(change_value(change));
+    print(r.triangles as u64);
+    print(r.entries as u64);
+    print_sum(table, keys, levels, items);
+    r
+}
+
+// Loads a list.
+fn load_given(
+    l: Lent,
+    given: &[u16],
+    table: &mut [u16],
+    keys: &mut [u32],
+    levels: &mut [u8],
+    items: &mut [u16],
+) -> Lent {
+    let t = least(l.table, table.len());
+    let k = least(l.keys, keys.len());
+    let v = least(l.levels, levels.len());
+    let i = least(l.items, items.len());
+    let r = load_into(
+        given,
+        &mut table[..t],
+        &mut keys[..k],
+        &mut levels[..v],
+        &mut items[..i],
+        l.triangles,
+        l.entries,
+    );
+    Lent {
+        table: t,
+        keys: k,
+        levels: v,
+        items: i,
+        triangles: r.triangles,
+        entries: r.entries,
+    }
+}
+
 // Loads the n numbers that follow in the input.
 fn run_load(
     l: Lent,
@@ -205,32 +259,29 @@ fn run_load(
     io::read_full(STDIN_FILENO, &mut bytes[..size]);
     let mut given = [0u16; 3200];
     decode(&bytes, n, &mut given);
-    let t = least(l.table, table.len());
-    let k = least(l.keys, keys.len());
-    let v = least(l.levels, levels.len());
-    let i = least(l.items, items.len());
-    let r = load::load(
-        &given[..n],
-        &mut table[..t],
-        &mut keys[..k],
-        &mut levels[..v],
-        &mut items[..i],
-        l.triangles,
-        l.entries,
-    );
-    say(b"load");
-    print(change_number(r.change));
-    print(change_value(r.change));
-    print(r.triangles as u64);
-    print(r.entries as u64);
-    print_sum(&table[..t], &keys[..k], &levels[..v], &items[..i]);
-    Lent {
-        table: t,
-        keys: k,
-        levels: v,
-        items: i,
-        triangles: r.triangles,
-        entries: r.entries,
+    load_given(l, &given[..n], table, keys, levels, items)
+}
+
+// A call that reads the chart of lent buffers with n triangles and m entries.
+fn answer(what: u8, t: &[u16], k: &[u32], v: &[u8], i: &[u16], n: usize, m: usize, p: Point) {
+    if what == 2 {
+        say(b"locate");
+        print_located(reading::locate(t, k, v, i, n, m, p));
+        return;
+    }
+    if what == 3 {
+        say(b"listing");
+        print_list(reading::cell_listing(t, k, v, i, n, m, p));
+        return;
+    }
+    if what == 4 {
+        say(b"sound");
+        print_soundness(measures::soundness(t, k, v, i, n, m));
+        return;
+    }
+    if what == 5 {
+        say(b"area");
+        print_area(measures::doubled_area(t, k, v, i, n, m));
     }
 }
 
@@ -248,29 +299,34 @@ fn run_reader(
     let b = least(l.keys, keys.len());
     let c = least(l.levels, levels.len());
     let d = least(l.items, items.len());
-    let n = l.triangles;
-    let m = l.entries;
     let t = &table[..a];
     let k = &keys[..b];
     let v = &levels[..c];
     let i = &items[..d];
-    if what == 2 {
-        say(b"locate");
-        print_located(reading::locate(t, k, v, i, n, m, p));
-    }
-    if what == 3 {
-        say(b"listing");
-        print_list(reading::cell_listing(t, k, v, i, n, m, p));
-    }
-    if what == 4 {
-        say(b"sound");
-        print_soundness(measures::soundness(t, k, v, i, n, m));
-    }
-    if what == 5 {
-        say(b"area");
-        print_area(measures::doubled_area(t, k, v, i, n, m));
-    }
+    answer(what, t, k, v, i, l.triangles, l.entries, p);
     print_sum(t, k, v, i);
+}
+
+// x at a place of a list, if it has that place.
+fn put_short(list: &mut [u16], place: usize, x: u32) {
+    if place >= list.len() {
+        return;
+    }
+    list[place] = (x % 65536) as u16;
+}
+
+fn put_key(list: &mut [u32], place: usize, x: u32) {
+    if place >= list.len() {
+        return;
+    }
+    list[place] = x;
+}
+
+fn put_level(list: &mut [u8], place: usize, x: u32) {
+    if place >= list.len() {
+        return;
+    }
+    list[place] = (x % 256) as u8;
 }
 
 // x at a place of a buffer, if it has that place.
@@ -283,17 +339,20 @@ fn put(
     levels: &mut [u8],
     items: &mut [u16],
 ) {
-    if (buffer == 0) & (place < table.len()) {
-        table[place] = (x % 65536) as u16;
+    if buffer == 0 {
+        put_short(table, place, x);
+        return;
     }
-    if (buffer == 1) & (place < keys.len()) {
-        keys[place] = x;
+    if buffer == 1 {
+        put_key(keys, place, x);
+        return;
     }
-    if (buffer == 2) & (place < levels.len()) {
-        levels[place] = (x % 256) as u8;
+    if buffer == 2 {
+        put_level(levels, place, x);
+        return;
     }
-    if (buffer == 3) & (place < items.len()) {
-        items[place] = (x % 65536) as u16;
+    if buffer == 3 {
+        put_short(items, place, x);
     }
 }
 
@@ -349,7 +408,7 @@ fn lend(mut l: Lent, buffer: u8, n: usize) -> Lent {
 
 // One step, by its twelve bytes.
 fn step(
-    mut l: Lent,
+    l: Lent,
     s: &[u8],
     table: &mut [u16],
     keys: &mut [u32],
@@ -384,9 +443,14 @@ fn step(
         return lend(l, buffer, a);
     }
     if what == 8 {
-        l.triangles = b as usize;
-        l.entries = c as usize;
-        return l;
+        return Lent {
+            table: l.table,
+            keys: l.keys,
+            levels: l.levels,
+            items: l.items,
+            triangles: b as usize,
+            entries: c as usize,
+        };
     }
     if what == 9 {
         fill(
