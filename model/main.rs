@@ -47,6 +47,8 @@
 //!
 //! Other lines:
 //!   dump BUF [FROM TO]   prints `dump BUF LENGTH v v v ...`
+//!   sum C                prints `sum S`, a checksum of the buffers of chart C:
+//!                        S * 31 + value + 1 modulo 4,294,967,291 for each place
 //!   echo WORDS           prints `echo WORDS`
 //!
 //! A line that is not of these forms, or a value that does not fit its place,
@@ -132,6 +134,17 @@ fn hash(b: &Bench) -> u64 {
     }
     b.pairs.iter().for_each(|v| v.to_le_bytes().into_iter().for_each(&mut byte));
     h
+}
+
+/// A short checksum of a chart's buffers, place by place.
+fn checksum(c: &Chart) -> u64 {
+    let mut s = 0;
+    let mut place = |v: u64| s = (s * 31 + v + 1) % 4_294_967_291;
+    c.table.iter().for_each(|v| place(*v as u64));
+    c.keys.iter().for_each(|v| place(*v as u64));
+    c.levels.iter().for_each(|v| place(*v as u64));
+    c.tris.iter().for_each(|v| place(*v as u64));
+    s
 }
 
 /// One of the nine buffers.
@@ -254,6 +267,11 @@ impl Bench {
                     s += &format!(" {}", b.get(i));
                 }
                 return Some(Some(s));
+            }
+            "sum" => {
+                exact(2)?;
+                let c = &self.charts[chart_number(w[1])?];
+                return Some(Some(format!("sum {}", checksum(c))));
             }
             "echo" => return Some(Some(w.join(" "))),
             _ => {}
