@@ -130,10 +130,29 @@ def boundaries(s, rng):
     s.measure()
 
 
+# buffer, place and value of one fault each, in the chart of U and V: entries 0 to 2 alone in their cells, then three cells of
+# two, then one
 FAULTS = [
-    (2, 0, 17), (2, 1, 16), (2, 0, 255), (1, 0, 1), (1, 1, 3), (1, 1, 0), (1, 2, 0), (3, 0, 65535), (3, 1, 65535), (3, 0, 1), (3, 3, 2),
-    (0, 0, 40000), (0, 2, 0),
-]  # fmt: skip
+    (2, 0, 17),  # a level above 16
+    (2, 0, 255),
+    (2, 1, 16),  # a gap after a cell that is too small
+    (1, 0, 1),  # the first key is not 0
+    (1, 1, 268435457),  # a key that is no multiple
+    (1, 1, 536870912),  # a gap
+    (1, 2, 268435456),  # a cell that starts over
+    (1, 2, 0),
+    (2, 2, 1),  # a cell that overlaps the next
+    (2, 9, 2),  # the last cell ends short
+    (3, 0, 65535),  # another listing: no fault of the chain
+    (3, 3, 65535),  # the mark beside a triangle
+    (3, 4, 65535),
+    (3, 4, 0),  # a triangle twice in its cell
+    (3, 0, 2),  # a triangle number at the count
+    (3, 9, 3),
+    (3, 0, 1),  # a triangle that does not meet its cell: no fault of the chain
+    (0, 0, 40000),  # another triangle
+    (0, 2, 0),  # a triangle with D = 0
+]
 
 
 def damaged(s, rng):

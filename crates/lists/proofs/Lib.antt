@@ -8,3 +8,4 @@ pub mod Order
 pub mod Runs
 pub mod IndexLaws
 pub mod Examples
+pub mod LentLaws

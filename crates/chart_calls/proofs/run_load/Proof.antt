@@ -1,5 +1,5 @@
 use Prim.Native.Nat.{_*_}
-use Rattle.chart_calls.proofs.PartLaws.{part-length, back-length}
+use Rattle.lists.proofs.LentLaws.{part-length, back-length}
 use borrow.Author.Needs.{needs}
 use lib.Seq.{length-take-le}
 use mathlib.Core.Path.{sym}

@@ -2,7 +2,7 @@ use mathlib.Core.Path.{sym}
 use Prim.Native.Nat.{_*_}
 use native.Mathlib.Omega.{arith}
 use lib.Seq.{length-take-le}
-use Rattle.file_tables.proofs.PartLaws.{part-length, back-length}
+use Rattle.lists.proofs.LentLaws.{part-length, back-length}
 use borrow.Author.Needs.{needs}
 use Rattle.file_tables.proofs.next_table.Statement.{statement}
 use Rattle.file_tables.proofs.next_table.Tie as tie
