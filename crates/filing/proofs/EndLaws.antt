@@ -24,7 +24,7 @@ use Rattle.plane.specs.Box.{Box}
 use Rattle.plane.proofs.PointLaws.{samePoint-reflects}
 use Rattle.chart_spec.specs.Table.{pointAt, triangleAt}
 use Rattle.chart_spec.specs.Cells.{isEnd, commonEnd}
-use Rattle.filing.specs.Filing.{maskOf, masked, unpacked, unpackedTriangle, startOf, sidesMet, sidesAt, eitherEnd, part}
+use Rattle.filing.specs.Filing.{maskOf, masked, unpacked, unpackedTriangle, startOf, sidesMet, sidesAt, eitherEnd, part, Skipped, Tested}
 use Rattle.filing.proofs.MaskLaws.{masked-zero}
 use Rattle.filing.proofs.StackLaws.{part-snoc, part-none, part-split}
 
@@ -114,16 +114,12 @@ module _ (S : ℕ → List Side) (l : List ℕ) where
       sides-split k (k + 1) t (omega arith) (omega arith)
       ∙ ap (λ r. r ++ flatMap S (part (k + 1) t l)) (sides-more k k (le-refl k) (omega arith) ∙ ap (λ r. r ++ S (getD l k 0)) (sides-none k))
 
-  -- the state of the first loop: no candidate before k has a side
-  pub record Skipped (f t k : ℕ) : Type 0 where
-    pub low : f ≤ k
-    pub high : k ≤ t
-    pub none : flatMap S (part f k l) ≡ []
-
-  pub skipped-start : (f t : ℕ) → f ≤ t → Skipped f t f
+  -- the first loop: at its start
+  pub skipped-start : (f t : ℕ) → f ≤ t → Skipped S l f t f
   skipped-start f t h = record { low = le-refl f; high = h; none = sides-none f }
 
-  pub skipped-next : (f t k : ℕ) → t ≤ length l → Skipped f t k → k < t → S (getD l k 0) ≡ [] → Skipped f t (k + 1)
+  -- one candidate more without a side
+  pub skipped-next : (f t k : ℕ) → t ≤ length l → Skipped S l f t k → k < t → S (getD l k 0) ≡ [] → Skipped S l f t (k + 1)
   skipped-next f t k b v h e = record {
     low = omega (arith, v .low);
     high = omega arith;
@@ -131,7 +127,7 @@ module _ (S : ℕ → List Side) (l : List ℕ) where
   }
 
   -- the two ends of the first side are tested against the sides from its candidate on
-  common-from : (f k t : ℕ) (p q : Point) → Skipped f t k → k < t → t ≤ length l
+  common-from : (f k t : ℕ) (p q : Point) → Skipped S l f t k → k < t → t ≤ length l
       → ((ds : List Side) → commonEnd (S (getD l k 0) ++ ds) ≡ eitherEnd p q (S (getD l k 0) ++ ds))
       → eitherEnd p q (flatMap S (part k t l)) ≡ commonEnd (flatMap S (part f t l))
   common-from f k t p q v h b e =
@@ -155,21 +151,19 @@ module _ (S : ℕ → List Side) (l : List ℕ) where
       ∙ ap₂ _&&_ e e′
       ∙ sym (ap (all (isEnd p)) (sides-more f k h b) ∙ all-append (isEnd p) (flatMap S (part f k l)) (S (getD l k 0)))
 
-  -- the state of the second loop: a number is 0 if its point is an end of every side so far
-  pub record Tested (p q : Point) (f t k x y : ℕ) : Type 0 where
-    pub low : f ≤ k
-    pub high : k ≤ t
-    pub first : eqb x 0 ≡ all (isEnd p) (flatMap S (part f k l))
-    pub second : eqb y 0 ≡ all (isEnd q) (flatMap S (part f k l))
-
   module _ (p q : Point) (f t : ℕ) where
-    pub tested-start : f ≤ t → Tested p q f t f 0 0
-    unfolding all
-    tested-start h = record { low = le-refl f; high = h; first = rw (sides-none f) refl; second = rw (sides-none f) refl }
+    -- the second loop: after the first candidate
+    tested-first : (x y : ℕ) → f < t → t ≤ length l
+        → eqb x 0 ≡ all (isEnd p) (S (getD l f 0)) → eqb y 0 ≡ all (isEnd q) (S (getD l f 0))
+        → Tested S l p q f t (f + 1) x y
+    tested-first x y h b ex ey =
+        let e = sides-more f f (le-refl f) (omega arith) ∙ ap (λ r. r ++ S (getD l f 0)) (sides-none f) in
+        record { low = omega arith; high = omega arith; first = ex ∙ ap (all (isEnd p)) (sym e); second = ey ∙ ap (all (isEnd q)) (sym e) }
 
-    tested-next : (k x y x′ y′ : ℕ) → t ≤ length l → Tested p q f t k x y → k < t
+    -- one candidate more
+    tested-next : (k x y x′ y′ : ℕ) → t ≤ length l → Tested S l p q f t k x y → k < t
         → eqb x′ 0 ≡ all (isEnd p) (S (getD l k 0)) → eqb y′ 0 ≡ all (isEnd q) (S (getD l k 0))
-        → Tested p q f t (k + 1) (bitOr x x′) (bitOr y y′)
+        → Tested S l p q f t (k + 1) (bitOr x x′) (bitOr y y′)
     tested-next k x y x′ y′ b v h ex ey = record {
       low = omega (arith, v .low);
       high = omega arith;
@@ -178,7 +172,7 @@ module _ (S : ℕ → List Side) (l : List ℕ) where
     }
 
     -- both points are out
-    pub tested-out : (k x y : ℕ) → Tested p q f t k x y → (not (eqb x 0) && not (eqb y 0)) ≡ true
+    pub tested-out : (k x y : ℕ) → Tested S l p q f t k x y → (not (eqb x 0) && not (eqb y 0)) ≡ true
         → false ≡ eitherEnd p q (flatMap S (part f t l))
     unfolding eitherEnd
     tested-out k x y v h =
@@ -192,7 +186,7 @@ module _ (S : ℕ → List Side) (l : List ℕ) where
         go false false r s h = refl
 
     -- after all of them
-    pub tested-all : (k x y : ℕ) → Tested p q f t k x y → t ≤ k → (eqb x 0 || eqb y 0) ≡ eitherEnd p q (flatMap S (part f t l))
+    pub tested-all : (k x y : ℕ) → Tested S l p q f t k x y → t ≤ k → (eqb x 0 || eqb y 0) ≡ eitherEnd p q (flatMap S (part f t l))
     unfolding eitherEnd
     tested-all k x y v h =
         let e : k ≡ t = omega (arith, v .high) in
@@ -231,14 +225,23 @@ module _ (table s o : List ℕ) (box : Box) where
       tested-next (sidesAt table s o box) l (unpacked p) (unpacked q) f t k x y x′ y′ w v h
       (ex ∙ ap (all (isEnd (unpacked p))) e) (ey ∙ ap (all (isEnd (unpacked q))) e)
 
+  -- the first candidate, as code tests it
+  pub tested-read : (l : List ℕ) (p q f t i m a b c x y : ℕ) → f < t → t ≤ length l
+      → Read table s o box (getD l f 0) i m a b c
+      → eqb x 0 ≡ all (isEnd (unpacked p)) (masked m (sides (unpackedTriangle a b c)))
+      → eqb y 0 ≡ all (isEnd (unpacked q)) (masked m (sides (unpackedTriangle a b c)))
+      → Tested (sidesAt table s o box) l (unpacked p) (unpacked q) f t (f + 1) x y
+  tested-read l p q f t i m a b c x y h w r ex ey =
+      let e = sides-read (getD l f 0) i m a b c r in
+      tested-first (sidesAt table s o box) l (unpacked p) (unpacked q) f t x y h w
+      (ex ∙ ap (all (isEnd (unpacked p))) e) (ey ∙ ap (all (isEnd (unpacked q))) e)
+
   -- the test from the first candidate with a side on, as code makes it
   pub common-read : (l : List ℕ) (f k t i m a b c p q : ℕ) → Skipped (sidesAt table s o box) l f t k → k < t → t ≤ length l
-      → Read table s o box (getD l k 0) i m a b c → 0 < maskOf (sidesMet s o box (getD l k 0)) → m < 8
+      → Read table s o box (getD l k 0) i m a b c → 0 < m → m < 8
       → p ≡ startOf m a b c → q ≡ startOf m b c a
       → eitherEnd (unpacked p) (unpacked q) (flatMap (sidesAt table s o box) (part k t l)) ≡ commonEnd (flatMap (sidesAt table s o box) (part f t l))
   common-read l f k t i m a b c p q v h w r lo hi ep eq =
-      let e = sides-read (getD l k 0) i m a b c r in
-      let z : m ≡ maskOf (sidesMet s o box (getD l k 0)) = r .mask ∙ ap (λ j. maskOf (sidesMet s o box j)) (r .number) in
       ap₂ (λ x y. eitherEnd (unpacked x) (unpacked y) (flatMap (sidesAt table s o box) (part k t l))) ep eq
       ∙ common-from (sidesAt table s o box) l f k t (unpacked (startOf m a b c)) (unpacked (startOf m b c a)) v h w
-      (λ ds. rw e at (first-ends m a b c (omega arith) hi ds))
+      (λ ds. rw (sides-read (getD l k 0) i m a b c r) at (first-ends m a b c lo hi ds))

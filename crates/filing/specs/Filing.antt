@@ -2,7 +2,7 @@
 -- Assumes nothing.
 use mathlib.Core.Path.{_≡_}
 use mathlib.Core.Bool.{Bool, true, false, cond, _||_}
-use mathlib.Core.List.{List, [], _∷_, map}
+use mathlib.Core.List.{List, [], _∷_, map, flatMap}
 use Prim.Native.Nat.{ℕ, _+_, _*_, _-_, _/_, _%_, _≤_, _<_}
 use lib.Dec.{T, eqb}
 use lib.ListN.{length, getD, take, drop}
@@ -72,6 +72,19 @@ eitherEnd p q ds = all (λ d. isEnd p d) ds || all (λ d. isEnd q d) ds
 -- the elements of a list from place f up to place t
 abbrev pub part : ℕ → ℕ → List ℕ → List ℕ
 part f t l = take (t - f) (drop f l)
+
+-- of the candidates from f up to t, none before k has a side
+pub record Skipped (S : ℕ → List Side) (stack : List ℕ) (f t k : ℕ) : Type 0 where
+  pub low : f ≤ k
+  pub high : k ≤ t
+  pub none : flatMap S (part f k stack) ≡ []
+
+-- of the candidates from f up to t, those before k are tested: x and y are 0 if p and q are ends of every side of theirs
+pub record Tested (S : ℕ → List Side) (stack : List ℕ) (p q : Point) (f t k x y : ℕ) : Type 0 where
+  pub low : f ≤ k
+  pub high : k ≤ t
+  pub first : eqb x 0 ≡ all (isEnd p) (flatMap S (part f k stack))
+  pub second : eqb y 0 ≡ all (isEnd q) (flatMap S (part f k stack))
 
 -- what the functions over a list of candidates on the stack, from f up to t, ask: the numbers are those of triangles, and
 -- the lists are long enough

@@ -5,7 +5,7 @@ use shapes::Frame;
 use squares::Square;
 ghost use mathlib.Core.Path.{_≡_};
 ghost use mathlib.Core.Bool.{true};
-ghost use mathlib.Core.List.{[], map, flatMap};
+ghost use mathlib.Core.List.{map, flatMap};
 ghost use Prim.Native.Nat.{suc, _+_, _*_, _-_, _≤_, _<_, max};
 ghost use lib.Dec.{eqb};
 ghost use lib.ListN.{length, getD};
@@ -17,7 +17,13 @@ ghost use Rattle.squares.specs.Square.{squareBox, squareKey, quarters, Aligned}
 ghost use Rattle.chart_spec.specs.Table.{pointAt, tableOf};
 ghost use Rattle.chart_spec.specs.Cells.{isEnd, commonEnd, stopped, trianglesMeeting, orMark, entriesIn, entriesOf};
 ghost use Rattle.shapes.specs.Shape.{boxOf, InGrid, triangleMeetsAt};
-ghost use Rattle.filing.specs.Filing.{packed, only, maskOf, masked, unpacked, unpackedTriangle, startOf, sidesMet, sidesAt, eitherEnd, part, Ready, Prepared, Candidates, Filed};
+ghost use Rattle.filing.specs.Filing.{packed, only, maskOf, masked, unpacked, unpackedTriangle, startOf, sidesMet, sidesAt, eitherEnd, part, Skipped, Tested, Ready, Prepared, Candidates, Filed};
+
+// A candidate: its place on the stack, and the mask of its sides that meet the frame.
+pub struct Met {
+    pub at: usize,
+    pub mask: u32,
+}
 
 // i on top of the stack where the test passed.
 fn push_when(b: bool, stack: &mut [u16], top: usize, i: u16) -> usize
@@ -103,7 +109,7 @@ fn start_of(m: u32, a: u32, b: u32, c: u32) -> u32
     c
 }
 
-// The place of the first candidate, from `from` up to `to`, of which some side meets the frame, or `to`.
+// The first candidate, from `from` up to `to`, of which some side meets the frame: its place, or `to`, and its mask.
 fn first_met(
     table: &[u16],
     n: usize,
@@ -113,23 +119,24 @@ fn first_met(
     from: usize,
     to: usize,
     f: Frame,
-) -> usize
+) -> Met
     requires { ⌜ Ready n from to (now table) (now shape) (now offsets) (now stack) × InGrid f ⌝ }
-    ensures { λ r. ⌜ ((from ≤ r) × (r ≤ to)) × (flatMap (λ i. sidesAt (now (table .entry)) (now (shape .entry)) (now (offsets .entry)) (boxOf f) i) (part from r (now (stack .entry))) ≡ []) ⌝ }
-    ensures { λ r. ⌜ (r < to → 0 < maskOf (sidesMet (now (shape .entry)) (now (offsets .entry)) (boxOf f) (getD (now (stack .entry)) r 0))) ⌝ }
+    ensures { λ r. ⌜ Skipped (λ i. sidesAt (now (table .entry)) (now (shape .entry)) (now (offsets .entry)) (boxOf f) i) (now (stack .entry)) from to (r .at) ⌝ }
+    ensures { λ r. ⌜ (r .at < to → (r .mask ≡ maskOf (sidesMet (now (shape .entry)) (now (offsets .entry)) (boxOf f) (getD (now (stack .entry)) (r .at) 0))) × ((0 < r .mask) × (r .mask < 8))) ⌝ }
 {
     let mut k = from;
     while k < to {
         let m = sides_met(shape, offsets, numbers::index(stack[k]), f);
         if m != 0 {
-            return k;
+            return Met { at: k, mask: m };
         }
         k += 1;
     }
-    to
+    Met { at: to, mask: 0 }
 }
 
-// p or q is an end of every side, of the candidates from `from` up to `to`, that meets the frame.
+// p or q is an end of every side, of the candidates from `from` up to `to`, that meets the frame; x and y are 0 if p and q
+// are ends of those of the first candidate.
 fn either_end(
     table: &[u16],
     n: usize,
@@ -141,13 +148,16 @@ fn either_end(
     f: Frame,
     p: u32,
     q: u32,
+    x: u32,
+    y: u32,
 ) -> bool
     requires { ⌜ Ready n from to (now table) (now shape) (now offsets) (now stack) × InGrid f ⌝ }
+    requires { ⌜ Tested (λ i. sidesAt (now table) (now shape) (now offsets) (boxOf f) i) (now stack) (unpacked p) (unpacked q) from to (from + 1) x y ⌝ }
     ensures { λ o. ⌜ o ≡ eitherEnd (unpacked p) (unpacked q) (flatMap (λ i. sidesAt (now (table .entry)) (now (shape .entry)) (now (offsets .entry)) (boxOf f) i) (part from to (now (stack .entry)))) ⌝ }
 {
-    let mut first = 0;
-    let mut second = 0;
-    let mut k = from;
+    let mut first = x;
+    let mut second = y;
+    let mut k = from + 1;
     while k < to {
         let i = numbers::index(stack[k]);
         let m = sides_met(shape, offsets, i, f);
@@ -178,16 +188,19 @@ fn common_end(
     requires { ⌜ Ready n from to (now table) (now shape) (now offsets) (now stack) × InGrid f ⌝ }
     ensures { λ o. ⌜ o ≡ commonEnd (flatMap (λ i. sidesAt (now (table .entry)) (now (shape .entry)) (now (offsets .entry)) (boxOf f) i) (part from to (now (stack .entry)))) ⌝ }
 {
-    let k = first_met(table, n, shape, offsets, stack, from, to, f);
+    let met = first_met(table, n, shape, offsets, stack, from, to, f);
+    let k = met.at;
     if k < to {
         let i = numbers::index(stack[k]);
-        let m = sides_met(shape, offsets, i, f);
+        let m = met.mask;
         let a = packed_at(table, 6 * i);
         let b = packed_at(table, 6 * i + 2);
         let c = packed_at(table, 6 * i + 4);
         let p = start_of(m, a, b, c);
         let q = start_of(m, b, c, a);
-        return either_end(table, n, shape, offsets, stack, k, to, f, p, q);
+        let x = missed(m, p, a, b, c);
+        let y = missed(m, q, a, b, c);
+        return either_end(table, n, shape, offsets, stack, k, to, f, p, q, x, y);
     }
     true
 }

@@ -2,7 +2,8 @@ use mathlib.Core.Path.{_≡_, sym, _∙_, ap}
 use native.Mathlib.Omega.{arith}
 use Rattle.chart_spec.specs.Cells.{commonEnd}
 use Rattle.shapes.specs.Shape.{boxOf}
-use Rattle.filing.proofs.EndLaws.{common-read}
+use Rattle.filing.specs.Filing.{maskOf, sidesMet}
+use Rattle.filing.proofs.EndLaws.{tested-read, common-read}
 use borrow.Author.Needs.{needs}
 use Rattle.filing.proofs.common_end.Statement.{statement}
 use Rattle.filing.proofs.common_end.Tie as tie
@@ -19,23 +20,14 @@ shared-slice-read-index c = search needs
 index-requires : tie.Need-index-requires
 index-requires c κs = search needs
 
-sides-met-requires : tie.Need-sides-met-requires
-sides-met-requires c κs =
-    let g = c .before .before .before .before .before .before .before .before .pre .0 in
-    let r = c .before .before .before .first-met .ensures .0 .0 in
-    let h = g .held (c .before .before .before .first-met .result) (r .0) (c .before .before .if1 .taken) in
-    let w = c .index .ensures .0 in
-    ((omega (arith, g .shapes), omega (arith, g .offs)), c .before .before .before .before .before .before .before .before .pre .1)
-
 mul-packed-at : tie.Need-mul-packed-at
 mul-packed-at c = search needs
 
 packed-at-requires : tie.Need-packed-at-requires
 packed-at-requires c κs =
-    let g = c .before .before .before .before .before .before .before .before .before .pre .0 in
-    let r = c .before .before .before .before .first-met .ensures .0 .0 in
-    let h = g .held (c .before .before .before .before .first-met .result) (r .0) (c .before .before .before .if1 .taken) in
-    let w = c .before .index .ensures .0 in
+    let g = c .before .before .before .before .before .before .before .before .pre .0 in
+    let h = g .held (c .before .before .before .first-met .result .at) (c .before .before .before .first-met .ensures .0 .low) (c .before .before .if1 .taken) in
+    let w = c .index .ensures .0 in
     omega (arith, g .tables)
 
 mul-packed-at-2 : tie.Need-mul-packed-at-2
@@ -46,10 +38,9 @@ add-packed-at c = search needs
 
 packed-at-requires-2 : tie.Need-packed-at-requires-2
 packed-at-requires-2 c κs =
-    let g = c .before .before .before .before .before .before .before .before .before .before .pre .0 in
-    let r = c .before .before .before .before .before .first-met .ensures .0 .0 in
-    let h = g .held (c .before .before .before .before .before .first-met .result) (r .0) (c .before .before .before .before .if1 .taken) in
-    let w = c .before .before .index .ensures .0 in
+    let g = c .before .before .before .before .before .before .before .before .before .pre .0 in
+    let h = g .held (c .before .before .before .before .first-met .result .at) (c .before .before .before .before .first-met .ensures .0 .low) (c .before .before .before .if1 .taken) in
+    let w = c .before .index .ensures .0 in
     omega (arith, g .tables)
 
 mul-packed-at-3 : tie.Need-mul-packed-at-3
@@ -60,10 +51,9 @@ add-packed-at-2 c = search needs
 
 packed-at-requires-3 : tie.Need-packed-at-requires-3
 packed-at-requires-3 c κs =
-    let g = c .before .before .before .before .before .before .before .before .before .before .before .pre .0 in
-    let r = c .before .before .before .before .before .before .first-met .ensures .0 .0 in
-    let h = g .held (c .before .before .before .before .before .before .first-met .result) (r .0) (c .before .before .before .before .before .if1 .taken) in
-    let w = c .before .before .before .index .ensures .0 in
+    let g = c .before .before .before .before .before .before .before .before .before .before .pre .0 in
+    let h = g .held (c .before .before .before .before .before .first-met .result .at) (c .before .before .before .before .before .first-met .ensures .0 .low) (c .before .before .before .before .if1 .taken) in
+    let w = c .before .before .index .ensures .0 in
     omega (arith, g .tables)
 
 start-of-requires : tie.Need-start-of-requires
@@ -72,45 +62,66 @@ start-of-requires c κs = search needs
 start-of-requires-2 : tie.Need-start-of-requires-2
 start-of-requires-2 c κs = search needs
 
+missed-requires : tie.Need-missed-requires
+missed-requires c κs = c .before .before .before .before .before .before .before .before .first-met .ensures .1 (c .before .before .before .before .before .before .before .if1 .taken) .1 .1
+
+missed-requires-2 : tie.Need-missed-requires-2
+missed-requires-2 c κs = c .before .before .before .before .before .before .before .before .before .first-met .ensures .1 (c .before .before .before .before .before .before .before .before .if1 .taken) .1 .1
+
 either-end-requires : tie.Need-either-end-requires
 either-end-requires c κs =
-    let g = c .before .before .before .before .before .before .before .before .before .before .before .before .before .before .pre .0 in
-    let r = c .before .before .before .before .before .before .before .before .before .first-met .ensures .0 .0 in (
-      record {
-        order = r .1;
-        within = g .within;
-        held = λ k lo hi. g .held k (omega (arith, r .0)) hi;
-        tables = g .tables;
-        shapes = g .shapes;
-        offs = g .offs;
-      },
-      c .before .before .before .before .before .before .before .before .before .before .before .before .before .before .pre .1,
+    let a = c .before .before .before .before .before .before .before .before .before .before .before .before .before .before .before .args in
+    let g = c .before .before .before .before .before .before .before .before .before .before .before .before .before .before .before .pre .0 in
+    let r = c .before .before .before .before .before .before .before .before .before .before .first-met .ensures in
+    let h = c .before .before .before .before .before .before .before .before .before .if1 .taken in (
+      (
+        record {
+          order = r .0 .high;
+          within = g .within;
+          held = λ k lo hi. g .held k (omega (arith, r .0 .low)) hi;
+          tables = g .tables;
+          shapes = g .shapes;
+          offs = g .offs;
+        },
+        c .before .before .before .before .before .before .before .before .before .before .before .before .before .before .before .pre .1,
+      ),
+      tested-read (a .table .now) (a .shape .now) (a .offsets .now) (boxOf (a .f)) (a .stack .now) (c .before .before .before .start-of .result) (c .before .before .start-of2 .result) (c .before .before .before .before .before .before .before .before .before .before .first-met .result .at) (a .to)
+          (c .before .before .before .before .before .before .before .index .result) (c .before .before .before .before .before .before .before .before .before .before .first-met .result .mask) (c .before .before .before .before .before .before .packed-at .result) (c .before .before .before .before .before .packed-at2 .result) (c .before .before .before .before .packed-at3 .result) (c .before .missed .result) (c .missed2 .result)
+          h (g .within)
+          (record {
+            number = c .before .before .before .before .before .before .before .index .ensures .0;
+            mask = r .1 h .0 ∙ ap (λ i. maskOf (sidesMet (a .shape .now) (a .offsets .now) (boxOf (a .f)) i)) (sym (c .before .before .before .before .before .before .before .index .ensures .0));
+            first = c .before .before .before .before .before .before .packed-at .ensures;
+            second = c .before .before .before .before .before .packed-at2 .ensures;
+            third = c .before .before .before .before .packed-at3 .ensures;
+          })
+          (c .before .missed .ensures) (c .missed2 .ensures),
     )
 
 returns : tie.Need-returns
 returns c =
-    let a = c .before .before .before .before .before .before .before .before .before .before .before .before .before .before .before .args in
-    let r = c .before .before .before .before .before .before .before .before .before .before .first-met .ensures in
-    let h = c .before .before .before .before .before .before .before .before .before .if1 .taken in
+    let a = c .before .before .before .before .before .before .before .before .before .before .before .before .before .before .before .before .args in
+    let r = c .before .before .before .before .before .before .before .before .before .before .before .first-met .ensures in
+    let h = c .before .before .before .before .before .before .before .before .before .before .if1 .taken in
     c .either-end .ensures
-    ∙ common-read (a .table .now) (a .shape .now) (a .offsets .now) (boxOf (a .f)) (a .stack .now) (a .from) (c .before .before .before .before .before .before .before .before .before .before .first-met .result) (a .to)
-    (c .before .before .before .before .before .before .before .index .result) (c .before .before .before .before .before .before .sides-met .result) (c .before .before .before .before .before .packed-at .result) (c .before .before .before .before .packed-at2 .result) (c .before .before .before .packed-at3 .result) (c .before .before .start-of .result) (c .before .start-of2 .result)
-    (record { low = r .0 .0 .0; high = r .0 .0 .1; none = r .0 .1 }) h (c .before .before .before .before .before .before .before .before .before .before .before .before .before .before .before .pre .0 .within)
+    ∙ common-read (a .table .now) (a .shape .now) (a .offsets .now) (boxOf (a .f)) (a .stack .now) (a .from) (c .before .before .before .before .before .before .before .before .before .before .before .first-met .result .at) (a .to)
+    (c .before .before .before .before .before .before .before .before .index .result) (c .before .before .before .before .before .before .before .before .before .before .before .first-met .result .mask) (c .before .before .before .before .before .before .before .packed-at .result) (c .before .before .before .before .before .before .packed-at2 .result) (c .before .before .before .before .before .packed-at3 .result) (c .before .before .before .before .start-of .result) (c .before .before .before .start-of2 .result)
+    (r .0) h (c .before .before .before .before .before .before .before .before .before .before .before .before .before .before .before .before .pre .0 .within)
     (record {
-      number = c .before .before .before .before .before .before .before .index .ensures .0;
-      mask = c .before .before .before .before .before .before .sides-met .ensures .0;
-      first = c .before .before .before .before .before .packed-at .ensures;
-      second = c .before .before .before .before .packed-at2 .ensures;
-      third = c .before .before .before .packed-at3 .ensures;
+      number = c .before .before .before .before .before .before .before .before .index .ensures .0;
+      mask = r .1 h .0 ∙ ap (λ i. maskOf (sidesMet (a .shape .now) (a .offsets .now) (boxOf (a .f)) i)) (sym (c .before .before .before .before .before .before .before .before .index .ensures .0));
+      first = c .before .before .before .before .before .before .before .packed-at .ensures;
+      second = c .before .before .before .before .before .before .packed-at2 .ensures;
+      third = c .before .before .before .before .before .packed-at3 .ensures;
     })
-    (r .1 h) (c .before .before .before .before .before .before .sides-met .ensures .1) (c .before .before .start-of .ensures) (c .before .start-of2 .ensures)
+    (r .1 h .1 .0) (r .1 h .1 .1) (c .before .before .before .before .start-of .ensures) (c .before .before .before .start-of2 .ensures)
 
 returns-2 : tie.Need-returns-2
 unfolding commonEnd
 returns-2 c =
     let r = c .before .first-met .ensures .0 in
-    let k : c .before .first-met .result ≡ c .before .before .before .before .before .before .args .to = omega (arith, r .0 .1) in
-    sym (ap commonEnd (rw k at (r .1)))
+    let k : c .before .first-met .result .at ≡ c .before .before .before .before .before .before .args .to = omega (arith, r .high) in
+    sym (ap commonEnd (rw k at (r .none)))
 
 pub common-end-spec : {M : Type 1} → statement M
 common-end-spec =
@@ -120,7 +131,6 @@ common-end-spec =
     mul-index
     shared-slice-read-index
     index-requires
-    sides-met-requires
     mul-packed-at
     packed-at-requires
     mul-packed-at-2
@@ -131,6 +141,8 @@ common-end-spec =
     packed-at-requires-3
     start-of-requires
     start-of-requires-2
+    missed-requires
+    missed-requires-2
     either-end-requires
     returns
     returns-2)

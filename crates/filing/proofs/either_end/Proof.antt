@@ -1,45 +1,46 @@
 use Prim.Native.Nat.{_+_, _-_}
 use native.Mathlib.Omega.{arith}
 use Rattle.shapes.specs.Shape.{boxOf}
-use Rattle.filing.specs.Filing.{unpacked, sidesAt}
-use Rattle.filing.proofs.EndLaws.{Tested, tested-start, tested-more, tested-out, tested-all}
+use Rattle.filing.specs.Filing.{unpacked, sidesAt, Tested}
+use Rattle.filing.proofs.EndLaws.{tested-more, tested-out, tested-all}
 use Rattle.filing.proofs.either_end.Statement.{statement}
 use Rattle.filing.proofs.either_end.Tie as tie
 
 abbrev Inv-loop : tie.InvT-loop
-Inv-loop table n shape offsets stack from to f p q first₀ second₀ k₀ first second k =
+Inv-loop table n shape offsets stack from to f p q x y first₀ second₀ k₀ first second k =
     Tested (sidesAt table shape offsets (boxOf f)) stack (unpacked p) (unpacked q) from to k first second
 
 abbrev μ-loop : tie.MeasureT-loop
-μ-loop table n shape offsets stack from to f p q first₀ second₀ k₀ first second k = to - k
+μ-loop table n shape offsets stack from to f p q x y first₀ second₀ k₀ first second k = to - k
+
+add-k : tie.Need-add-k Inv-loop μ-loop
+add-k c = omega (arith, c .before .before .before .before .pre .1 .high)
 
 loop-holds : tie.Need-loop-holds Inv-loop μ-loop
-loop-holds c =
-    let a = c .before .before .before .before .args in
-    tested-start (sidesAt (a .table .now) (a .shape .now) (a .offsets .now) (boxOf (a .f))) (a .stack .now) (unpacked (a .p)) (unpacked (a .q)) (a .from) (a .to) (c .before .before .before .before .pre .0 .order)
+loop-holds c = c .before .before .before .before .pre .1
 
 mul-index : tie.Need-mul-index Inv-loop μ-loop
 mul-index c = omega arith
 
 shared-slice-read-index : tie.Need-shared-slice-read-index Inv-loop μ-loop
-shared-slice-read-index c = omega (arith, c .before .before .before .before .before .before .before .pre .0 .within)
+shared-slice-read-index c = omega (arith, c .before .before .before .before .before .before .before .pre .0 .0 .within)
 
 index-requires : tie.Need-index-requires Inv-loop μ-loop
 index-requires c κs = tt
 
 sides-met-requires : tie.Need-sides-met-requires Inv-loop μ-loop
 sides-met-requires c κs =
-    let g = c .before .before .before .before .before .before .before .before .pre .0 in
+    let g = c .before .before .before .before .before .before .before .before .pre .0 .0 in
     let h = g .held (c .before .before .before .loop .k) (c .before .before .before .loop .inv .low) (c .before .before .loop-test .taken) in
     let w = c .index .ensures .0 in
-    ((omega (arith, g .shapes), omega (arith, g .offs)), c .before .before .before .before .before .before .before .before .pre .1)
+    ((omega (arith, g .shapes), omega (arith, g .offs)), c .before .before .before .before .before .before .before .before .pre .0 .1)
 
 mul-packed-at : tie.Need-mul-packed-at Inv-loop μ-loop
 mul-packed-at c = omega (arith, c .before .index .ensures .1)
 
 packed-at-requires : tie.Need-packed-at-requires Inv-loop μ-loop
 packed-at-requires c κs =
-    let g = c .before .before .before .before .before .before .before .before .before .pre .0 in
+    let g = c .before .before .before .before .before .before .before .before .before .pre .0 .0 in
     let h = g .held (c .before .before .before .before .loop .k) (c .before .before .before .before .loop .inv .low) (c .before .before .before .loop-test .taken) in
     let w = c .before .index .ensures .0 in
     omega (arith, g .tables)
@@ -52,7 +53,7 @@ add-packed-at c = omega (arith, c .before .before .index .ensures .1)
 
 packed-at-requires-2 : tie.Need-packed-at-requires-2 Inv-loop μ-loop
 packed-at-requires-2 c κs =
-    let g = c .before .before .before .before .before .before .before .before .before .before .pre .0 in
+    let g = c .before .before .before .before .before .before .before .before .before .before .pre .0 .0 in
     let h = g .held (c .before .before .before .before .before .loop .k) (c .before .before .before .before .before .loop .inv .low) (c .before .before .before .before .loop-test .taken) in
     let w = c .before .before .index .ensures .0 in
     omega (arith, g .tables)
@@ -65,7 +66,7 @@ add-packed-at-2 c = omega (arith, c .before .before .before .index .ensures .1)
 
 packed-at-requires-3 : tie.Need-packed-at-requires-3 Inv-loop μ-loop
 packed-at-requires-3 c κs =
-    let g = c .before .before .before .before .before .before .before .before .before .before .before .pre .0 in
+    let g = c .before .before .before .before .before .before .before .before .before .before .before .pre .0 .0 in
     let h = g .held (c .before .before .before .before .before .before .loop .k) (c .before .before .before .before .before .before .loop .inv .low) (c .before .before .before .before .before .loop-test .taken) in
     let w = c .before .before .before .index .ensures .0 in
     omega (arith, g .tables)
@@ -83,7 +84,7 @@ returns c =
     let w =
     tested-more (a .table .now) (a .shape .now) (a .offsets .now) (boxOf (a .f)) (a .stack .now) (a .p) (a .q) (a .from) (a .to) (c .before .before .before .before .before .before .before .before .before .before .loop .k) (c .before .before .before .before .before .before .before .before .before .before .loop .first) (c .before .before .before .before .before .before .before .before .before .before .loop .second)
     (c .before .before .before .before .before .before .before .index .result) (c .before .before .before .before .before .before .sides-met .result) (c .before .before .before .before .before .packed-at .result) (c .before .before .before .before .packed-at2 .result) (c .before .before .before .packed-at3 .result) (c .before .before .missed .result) (c .before .missed2 .result)
-    (c .before .before .before .before .before .before .before .before .before .before .before .before .before .before .before .pre .0 .within) v (c .before .before .before .before .before .before .before .before .before .loop-test .taken)
+    (c .before .before .before .before .before .before .before .before .before .before .before .before .before .before .before .pre .0 .0 .within) v (c .before .before .before .before .before .before .before .before .before .loop-test .taken)
     (record {
       number = c .before .before .before .before .before .before .before .index .ensures .0;
       mask = c .before .before .before .before .before .before .sides-met .ensures .0;
@@ -94,8 +95,8 @@ returns c =
     (c .before .before .missed .ensures) (c .before .missed2 .ensures) in
     tested-out (sidesAt (a .table .now) (a .shape .now) (a .offsets .now) (boxOf (a .f))) (a .stack .now) (unpacked (a .p)) (unpacked (a .q)) (a .from) (a .to) (c .before .before .before .before .before .before .before .before .before .before .loop .k + 1) _ _ w (c .if1 .taken)
 
-add-k : tie.Need-add-k Inv-loop μ-loop
-add-k c = omega arith
+add-k-2 : tie.Need-add-k-2 Inv-loop μ-loop
+add-k-2 c = omega arith
 
 loop-less : tie.Need-loop-less Inv-loop μ-loop
 loop-less c = omega arith
@@ -106,7 +107,7 @@ loop-again c =
     let v = c .before .before .before .before .before .before .before .before .before .before .loop .inv in
     tested-more (a .table .now) (a .shape .now) (a .offsets .now) (boxOf (a .f)) (a .stack .now) (a .p) (a .q) (a .from) (a .to) (c .before .before .before .before .before .before .before .before .before .before .loop .k) (c .before .before .before .before .before .before .before .before .before .before .loop .first) (c .before .before .before .before .before .before .before .before .before .before .loop .second)
     (c .before .before .before .before .before .before .before .index .result) (c .before .before .before .before .before .before .sides-met .result) (c .before .before .before .before .before .packed-at .result) (c .before .before .before .before .packed-at2 .result) (c .before .before .before .packed-at3 .result) (c .before .before .missed .result) (c .before .missed2 .result)
-    (c .before .before .before .before .before .before .before .before .before .before .before .before .before .before .before .pre .0 .within) v (c .before .before .before .before .before .before .before .before .before .loop-test .taken)
+    (c .before .before .before .before .before .before .before .before .before .before .before .before .before .before .before .pre .0 .0 .within) v (c .before .before .before .before .before .before .before .before .before .loop-test .taken)
     (record {
       number = c .before .before .before .before .before .before .before .index .ensures .0;
       mask = c .before .before .before .before .before .before .sides-met .ensures .0;
@@ -127,6 +128,7 @@ either-end-spec =
     (tie.spec
     Inv-loop
     μ-loop
+    add-k
     loop-holds
     mul-index
     shared-slice-read-index
@@ -143,7 +145,7 @@ either-end-spec =
     missed-requires
     missed-requires-2
     returns
-    add-k
+    add-k-2
     loop-less
     loop-again
     returns-2)

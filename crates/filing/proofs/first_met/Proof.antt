@@ -3,8 +3,8 @@ use Prim.Native.Nat.{_-_}
 use native.Mathlib.Omega.{arith}
 use lib.ListN.{getD}
 use Rattle.shapes.specs.Shape.{boxOf}
-use Rattle.filing.specs.Filing.{maskOf, sidesMet, sidesAt}
-use Rattle.filing.proofs.EndLaws.{Skipped, skipped-start, skipped-next, sides-absent}
+use Rattle.filing.specs.Filing.{maskOf, sidesMet, sidesAt, Skipped}
+use Rattle.filing.proofs.EndLaws.{skipped-start, skipped-next, sides-absent}
 use Rattle.filing.proofs.first_met.Statement.{statement}
 use Rattle.filing.proofs.first_met.Tie as tie
 
@@ -41,7 +41,7 @@ returns c =
     let a = c .before .before .before .before .before .before .before .before .before .before .args in
     let v = c .before .before .before .before .before .loop .inv in
     let e = c .before .sides-met .ensures .0 ∙ ap (λ i. maskOf (sidesMet (a .shape .now) (a .offsets .now) (boxOf (a .f)) i)) (c .before .before .index .ensures .0) in
-    (((v .low, v .high), v .none), λ h. omega arith)
+    (v, λ h. (e, (omega arith, c .before .sides-met .ensures .1)))
 
 add-k : tie.Need-add-k Inv-loop μ-loop
 add-k c = omega arith
@@ -61,7 +61,7 @@ returns-2 : tie.Need-returns-2 Inv-loop μ-loop
 returns-2 c =
     let v = c .before .loop .inv in
     let k : c .before .loop .k ≡ c .before .before .before .before .before .before .args .to = omega (arith, v .high) in
-    (((omega (arith, c .before .before .before .before .before .before .pre .0 .order), omega arith), rw k at (v .none)), λ h. absurd (omega arith))
+    (rw k at v, λ h. absurd (omega arith))
 
 pub first-met-spec : {M : Type 1} → statement M
 first-met-spec =
