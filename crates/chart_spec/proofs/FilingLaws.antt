@@ -12,7 +12,7 @@ use lib.Dec.{T}
 use lib.ListN.{length}
 use Rattle.lists.specs.Lists.{filter, upTo}
 use Rattle.lists.proofs.Reflects.{test-false}
-use Rattle.lists.proofs.ListsLaws.{Every, every-cons, upTo-to, getD-member}
+use Rattle.lists.proofs.ListsLaws.{Every, every-cons, upTo-to}
 use Rattle.lists.proofs.EveryLaws.{every-nil}
 use Rattle.lists.proofs.FilterLaws.{filter-none}
 use Rattle.lists.proofs.FlatMapLaws.{flatMap-flatMap, filter-flatMap, flatMap-filter, filter-narrow, places-filter, flatMap-places}
@@ -27,6 +27,7 @@ use Rattle.squares.specs.Square.{depth, wholeSquare, topLeft, topRight, bottomL
 use Rattle.squares.proofs.SquareLaws.{side-half, quarters-level}
 use Rattle.chart_spec.specs.Table.{Table, tableSides, numbered, noTriangle}
 use Rattle.chart_spec.specs.Cells.{sidesMeeting, stopped, cellsIn, cells, trianglesMeeting, cellEntries, entriesIn, entriesOf}
+use Rattle.chart_spec.proofs.TableLaws.{proper-at}
 
 -- a stopped square is its only cell
 pub cellsIn-stopped : (table : Table) (s : Square) → stopped table s ≡ true → cellsIn table s ≡ s ∷ []
@@ -108,11 +109,6 @@ module _ (s : Square) (l : s .level < 16) where
 pub square-not-empty : (s : Square) → NotEmpty (squareBox s)
 unfolding squareBox
 square-not-empty s = omega arith
-
--- where all triangles of a table have D > 0, so has each that a number below the count stands for
-pub proper-at : (table : Table) → Every (λ t. T (proper t)) table → (i : ℕ) → i < length table → T (proper (numbered table i))
-unfolding numbered
-proper-at table good i h = good _ (getD-member table i noTriangle h)
 
 module _ (table : Table) (good : Every (λ t. T (proper t)) table) (s : Square) where
   abbrev meeting : ℕ → List Side

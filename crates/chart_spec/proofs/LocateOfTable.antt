@@ -29,7 +29,8 @@ use Rattle.squares.proofs.SquareLeavesLaws.{leaf-of-point, cell-of-point}
 use Rattle.chart_spec.specs.Table.{Table, numbered}
 use Rattle.chart_spec.specs.Cells.{stopped, cellsIn, cells, trianglesMeeting, orMark, entryOf, cellEntries, entriesOf}
 use Rattle.chart_spec.specs.Reading.{cellOf, listing, located}
-use Rattle.chart_spec.proofs.FilingLaws.{meeting-filter, proper-at}
+use Rattle.chart_spec.proofs.TableLaws.{proper-at}
+use Rattle.chart_spec.proofs.FilingLaws.{meeting-filter}
 use Rattle.chart_spec.proofs.ChainOfTable.{meeting-rising}
 
 -- the items of a cell's entries, without the mark

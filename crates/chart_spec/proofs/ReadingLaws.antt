@@ -2,18 +2,18 @@
 -- Assumes nothing.
 use mathlib.Core.Path.{_≡_}
 use mathlib.Core.Bool.{Bool, true, false, not, _||_}
-use mathlib.Core.List.{List}
 use Prim.Native.Nat.{ℕ, _<_}
 use lib.Dec.{T, eqb, T-not, not-T}
 use lib.ListN.{length}
-use Rattle.lists.specs.Lists.{all, upTo}
+use Rattle.lists.specs.Lists.{upTo}
 use Rattle.lists.proofs.Reflects.{Reflects, reflects-iff, reflects-eqb}
-use Rattle.lists.proofs.ListsLaws.{Every, all-reflects, upTo-to, upTo-from, getD-member}
-use Rattle.plane.specs.Triangle.{Triangle, proper}
+use Rattle.lists.proofs.ListsLaws.{Every, all-reflects, upTo-to, upTo-from}
+use Rattle.plane.specs.Triangle.{proper}
 use Rattle.plane.specs.Interior.{CommonInterior, interiorsMeet}
 use Rattle.separation.proofs.Separation.{interiors-meet-iff}
-use Rattle.chart_spec.specs.Table.{Table, numbered, noTriangle}
+use Rattle.chart_spec.specs.Table.{Table, numbered}
 use Rattle.chart_spec.specs.Reading.{sound}
+use Rattle.chart_spec.proofs.TableLaws.{proper-at}
 
 -- "no two different triangle numbers of the table have a point strictly inside both"
 abbrev pub Sound : Table → Type 0
@@ -37,17 +37,13 @@ every-apart table =
     all-reflects _ (λ i. all-reflects _ (λ j. apart-reflects i j (interiorsMeet (numbered table i) (numbered table j))) (upTo (length table))) (upTo (length table))
 
 module _ (table : Table) (good : Every (λ t. T (proper t)) table) where
-  proper-at : (i : ℕ) → i < length table → T (proper (numbered table i))
-  unfolding numbered
-  proper-at i h = good _ (getD-member table i noTriangle h)
-
   -- soundness is yes exactly when no two different triangle numbers share ground
   pub sound-reflects : Reflects (sound table) (Sound table)
   sound-reflects =
       reflects-iff
-      (λ e i j hi hj n c. e i (upTo-from hi) j (upTo-from hj) n (interiors-meet-iff _ _ (proper-at i hi) (proper-at j hj) .0 c))
+      (λ e i j hi hj n c. e i (upTo-from hi) j (upTo-from hj) n (interiors-meet-iff _ _ (proper-at table good i hi) (proper-at table good j hj) .0 c))
       (λ s i mi j mj n t.
       let hi = upTo-to mi in
       let hj = upTo-to mj in
-      s i j hi hj n (interiors-meet-iff _ _ (proper-at i hi) (proper-at j hj) .1 t))
+      s i j hi hj n (interiors-meet-iff _ _ (proper-at table good i hi) (proper-at table good j hj) .1 t))
       (every-apart table)

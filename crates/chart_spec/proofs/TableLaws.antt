@@ -5,12 +5,15 @@ use mathlib.Core.List.{List, [], _∷_, _++_, map, flatMap, append-nil, map-appe
 use Prim.Native.Nat.{ℕ, zero, suc, _+_, _*_, _-_, _≤_, _<_}
 use native.Mathlib.Nat.{zero-add, add-zero}
 use native.Mathlib.Omega.{arith}
+use lib.Dec.{T}
 use lib.ListN.{length, getD, take, drop, length-map}
 use lib.Seq.{take-add, drop-cons}
 use Rattle.lists.specs.Lists.{countFrom, upTo}
+use Rattle.lists.proofs.ListsLaws.{Every, getD-member}
 use Rattle.lists.proofs.FlatMapLaws.{flatMap-append}
 use Rattle.lists.proofs.IndexLaws.{upTo-suc, upTo-length}
-use Rattle.chart_spec.specs.Table.{pointAt, triangleAt, tableOf, numbered, noTriangle, triangleNumbers, tableNumbers}
+use Rattle.plane.specs.Triangle.{proper}
+use Rattle.chart_spec.specs.Table.{Table, pointAt, triangleAt, tableOf, numbered, noTriangle, triangleNumbers, tableNumbers}
 
 -- a table of n triangles has n
 pub tableOf-length : (ns : List ℕ) (n : ℕ) → length (tableOf ns n) ≡ n
@@ -65,3 +68,8 @@ tableNumbers-take ns (suc n) h =
     ∙ ap₂ _++_ (tableNumbers-take ns n (omega arith)) (append-nil (triangleNumbers (triangleAt ns n)) ∙ triangle-take ns n (omega arith))
     ∙ sym (take-add (6 * n) 6 ns)
     ∙ ap (λ k. take k ns) (sym m)
+
+-- where all triangles of a table have D > 0, so has each that a number below the count stands for
+pub proper-at : (table : Table) → Every (λ t. T (proper t)) table → (i : ℕ) → i < length table → T (proper (numbered table i))
+unfolding numbered
+proper-at table good i h = good _ (getD-member table i noTriangle h)

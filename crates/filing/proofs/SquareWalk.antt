@@ -1,56 +1,40 @@
 -- One square of the recursion: its triangles among the candidates, its entries as a leaf, and its quarters.
 -- Assumes nothing.
-use mathlib.Core.Path.{_≡_, refl, sym, _∙_, ap, ap₂}
-use mathlib.Core.Bool.{Bool, true, false, _||_, true≢false}
-use mathlib.Core.List.{List, [], _∷_, _++_, map, flatMap, append-nil, List·Memᴰ, List·Memᴰ·head, List·Memᴰ·tail}
-use Prim.Native.Nat.{ℕ, zero, suc, _+_, _*_, _-_, _^_, _≤_, _<_}
+use mathlib.Core.Path.{_≡_, refl, sym, _∙_, ap}
+use mathlib.Core.Bool.{true, false, _||_, true≢false}
+use mathlib.Core.List.{List, [], _∷_, _++_, map, flatMap, append-nil, List·Memᴰ}
+use Prim.Native.Nat.{ℕ, zero, suc, _+_, _*_, _-_, _≤_, _<_}
 use native.Mathlib.Nat.{suc-mul}
 use native.Mathlib.Numerals.{add-one}
 use native.Mathlib.Decide.{decLe}
 use native.Mathlib.Omega.{arith}
 use borrow.Author.Tests.{eq-eqb}
-use lib.Dec.{T}
-use lib.ListN.{length, getD, take, drop, length-map}
-use lib.Seq.{sets, take-suc, getD-take, getD-drop}
+use lib.ListN.{length, getD, take, length-map}
+use lib.Seq.{sets, take-suc}
 use Rattle.lists.specs.Lists.{filter}
 use Rattle.lists.proofs.ListsLaws.{Every, getD-member, sets-length}
 use Rattle.lists.proofs.FlatMapLaws.{flatMap-append}
+use Rattle.lists.proofs.PartLaws.{part-length, part-every}
 use Rattle.orthtree.specs.Entries.{Entry, span}
 use Rattle.plane.specs.Box.{Box, triangleMeets}
 use Rattle.squares.specs.declared.Square.{Square}
 use Rattle.squares.specs.Square.{quarters, topLeft, topRight, bottomLeft, bottomRight, squareKey, squareBox, Aligned}
 use Rattle.squares.proofs.SquareLaws.{quarters-aligned, quarters-level, quarter-key}
 use Rattle.squares.proofs.ZOrderLaws.{zOrder-bound}
-use Rattle.chart_spec.specs.Table.{Table, tableOf, numbered}
+use Rattle.chart_spec.specs.Table.{tableOf, numbered}
 use Rattle.chart_spec.specs.Cells.{commonEnd, sidesMeeting, stopped, trianglesMeeting, orMark, entryOf, cellEntries, entriesIn}
 use Rattle.chart_spec.proofs.FilingLaws.{entriesIn-stopped, entriesIn-split, meeting-narrow, quarter-within}
 use Rattle.chart_spec.proofs.TableLaws.{tableOf-length}
 use Rattle.shapes.specs.Shape.{triangleMeetsAt}
 use Rattle.shapes.proofs.ShapeLaws.{triangle-meets-at}
 use Rattle.filing.specs.Filing.{part, packed, Ready, Prepared, Candidates, Filed}
-use Rattle.filing.proofs.StackLaws.{part-length, filter-length}
+use Rattle.filing.proofs.StackLaws.{filter-length}
 use Rattle.filing.proofs.StopLaws.{framed, corners-small, meeting-below}
 use Rattle.filing.proofs.WalkLaws.{filter-agree, part-stored, take-before, ready-stored}
 
 quarters-four : (s : Square) → length (quarters s) ≡ 4
 unfolding quarters
 quarters-four s = refl
-
--- where a member of a list stands
-member-at : {x : ℕ} {l : List ℕ} → List·Memᴰ x l → (i : ℕ) × (i < length l) × (getD l i 0 ≡ x)
-member-at (List·Memᴰ·head e) = (0, omega arith, sym e)
-member-at (List·Memᴰ·tail m) = let r = member-at m in (suc (r .0), omega (arith, r .1), r .2)
-
-part-at : (f t : ℕ) (l : List ℕ) (i : ℕ) → t ≤ length l → i < length (part f t l) → getD (part f t l) i 0 ≡ getD l (f + i) 0
-part-at f t l i w h =
-    let e = part-length f t l w in
-    getD-take (t - f) (drop f l) i 0 (omega arith) ∙ getD-drop f l i 0
-
--- what stands in a part stands in the list
-part-members : (n f t : ℕ) (l : List ℕ) → t ≤ length l → f ≤ t → ((k : ℕ) → f ≤ k → k < t → getD l k 0 < n) → Every (λ i. i < n) (part f t l)
-part-members n f t l w o h i m =
-    let g = member-at m in
-    rw (← g .2) (rw (part-at f t l (g .0) w (g .1)) (h (f + g .0) (omega arith) (omega (arith, part-length f t l w, g .1))))
 
 module _ (n : ℕ) (ns sh o : List ℕ) (h : Prepared n ns sh o) (s : Square) (p : Aligned s) where
   pub below : Every (λ i. i < n) (trianglesMeeting (tableOf ns n) s)
@@ -64,7 +48,7 @@ module _ (n : ℕ) (ns sh o : List ℕ) (h : Prepared n ns sh o) (s : Square) (p
       ∙ filter-agree (λ i. triangleMeetsAt sh o i (squareBox s)) (λ i. triangleMeets (numbered (tableOf ns n) i) (squareBox s)) (part f t l)
       (λ i m.
       triangle-meets-at (tableOf ns n) sh o (h .shaped) i
-      (rw (tableOf-length ns n) (part-members n f t l (r .within) (r .order) (r .held) i m))
+      (rw (tableOf-length ns n) (part-every l f t (r .order) (r .within) (λ k. k < n) 0 (r .held) i m))
       (corners-small ns n (h .small)) (squareBox s) (framed s p))
       ∙ c .among
 

@@ -1,18 +1,17 @@
 -- The stack of candidates: a loop that stores those that pass a test after the list that it reads.
 -- Assumes nothing.
-use mathlib.Core.Path.{_≡_, refl, sym, _∙_, ap, ap₂}
-use mathlib.Core.Bool.{Bool, true, false, cond}
+use mathlib.Core.Path.{_≡_, refl, sym, _∙_, ap}
+use mathlib.Core.Bool.{Bool, true, false}
 use mathlib.Core.List.{List, [], _∷_, _++_, map, map-append}
-use mathlib.Core.Logic.{_≢_}
-use Prim.Native.Nat.{ℕ, zero, suc, _+_, _-_, _≤_, _<_, max}
+use Prim.Native.Nat.{ℕ, suc, _+_, _-_, _≤_, _<_, max}
 use native.Mathlib.Nat.{add-zero, sub-self, le-refl}
-use native.Mathlib.Numerals.{add-one}
 use native.Mathlib.Omega.{arith}
-use lib.ListN.{length, getD, take, drop, set, length-append, length-take, length-drop, length-map}
+use lib.ListN.{length, getD, take, drop, set, length-append, length-drop, length-map}
 use lib.Seq.{sets, take-suc, take-add, drop-drop, getD-drop, getD-set-other}
 use Rattle.lists.specs.Lists.{filter}
 use Rattle.lists.proofs.ListsLaws.{sets-join}
 use Rattle.lists.proofs.FilterLaws.{filter-append}
+use Rattle.lists.proofs.PartLaws.{part-length}
 use Rattle.orthtree.specs.Entries.{emptyMark}
 use Rattle.chart_spec.specs.Cells.{orMark}
 use Rattle.filing.specs.Filing.{only, part}
@@ -29,9 +28,6 @@ part-snoc f k l h b =
 
 pub part-none : (f : ℕ) (l : List ℕ) → part f f l ≡ []
 part-none f l = ap (λ n. take n (drop f l)) (sub-self f)
-
-pub part-length : (f t : ℕ) (l : List ℕ) → t ≤ length l → length (part f t l) ≡ t - f
-part-length f t l h = rw (length-take, length-drop) (omega arith)
 
 -- stores from i on leave what stands before
 pub getD-before : (l : List ℕ) (i : ℕ) (v : List ℕ) (k : ℕ) → k < i → getD (sets l i v) k 0 ≡ getD l k 0

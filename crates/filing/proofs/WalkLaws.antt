@@ -1,8 +1,8 @@
 -- Filing a square: what its candidates come to, what a leaf writes, and how the entries of its quarters join.
 -- Assumes nothing.
-use mathlib.Core.Path.{_≡_, refl, sym, _∙_, ap, ap₂, subst}
+use mathlib.Core.Path.{_≡_, refl, sym, _∙_, ap, ap₂}
 use mathlib.Core.Bool.{Bool, true, false}
-use mathlib.Core.List.{List, [], _∷_, _++_, map, flatMap, map-append, append-assoc}
+use mathlib.Core.List.{List, [], _∷_, _++_, map, map-append, append-assoc}
 use Prim.Native.Nat.{ℕ, zero, suc, _+_, _*_, _-_, _/_, _^_, _≤_, _<_}
 use native.Mathlib.Decide.{decLe}
 use native.Mathlib.Nat.{add-zero, zero-add, suc-add, pow-succ', mul-le-mul}
@@ -10,13 +10,12 @@ use native.Mathlib.Omega.{arith}
 use lib.ListN.{length, getD, take, drop, set, length-append, length-map}
 use lib.Seq.{sets, length-sets, sets-eq, drop-at, take-at, take-set-le, take-take, take-nil, getD-drop, getD-take, length-take-le}
 use Rattle.lists.specs.Lists.{filter}
-use Rattle.lists.proofs.ListsLaws.{Every, every-uncons, every-cons, sets-join, getD-member}
+use Rattle.lists.proofs.ListsLaws.{Every, every-uncons, sets-join, getD-member}
 use lib.Pow.{pow-mono}
 use Rattle.orthtree.specs.Entries.{Entry, span}
 use Rattle.squares.specs.Square.{sideAt}
 use Rattle.squares.proofs.SideLaws.{shift-half}
 use Rattle.filing.specs.Filing.{part, packed, Ready, Filed}
-use Rattle.filing.proofs.StackLaws.{part-length, getD-before}
 
 -- ---- lists
 

@@ -6,7 +6,7 @@ use mathlib.Core.List.{List, flatMap}
 use Prim.Native.Nat.{ℕ, _+_, _*_, _-_, _≤_, _<_}
 use native.Mathlib.Nat.{zero-add}
 use native.Mathlib.Omega.{arith}
-use lib.ListN.{length, getD, take, drop}
+use lib.ListN.{length, getD, take}
 use lib.Seq.{sets, length-sets}
 use Rattle.lists.specs.Lists.{all, filter, upTo}
 use Rattle.lists.proofs.ListsLaws.{upTo-to}
@@ -18,7 +18,7 @@ use Rattle.squares.specs.declared.Square.{Square}
 use Rattle.squares.specs.Square.{wholeSquare, squareBox, squareKey, zOrder, Aligned}
 use Rattle.squares.proofs.SquareLaws.{whole-aligned}
 use Rattle.orthtree.specs.Morton.{lowestBits, mortonKey}
-use Rattle.chart_spec.specs.Table.{Table, tableOf, numbered}
+use Rattle.chart_spec.specs.Table.{tableOf, numbered}
 use Rattle.chart_spec.specs.Cells.{trianglesMeeting}
 use Rattle.chart_spec.proofs.TableLaws.{tableOf-length}
 use Rattle.shapes.specs.Shape.{shapeOf, offsetsOf}

@@ -8,4 +8,5 @@ pub mod Order
 pub mod Runs
 pub mod IndexLaws
 pub mod Examples
+pub mod PartLaws
 pub mod LentLaws

@@ -24,9 +24,9 @@ unfolding chartTable
 table-length c = tableOf-length (c .table) (c .triangleCount)
 
 -- a chart whose entries are those of its table
-filed-entries : (c : Chart) → filed c ≡ true → chartEntries c ≡ entriesOf (chartTable c)
+entries-filed : (c : Chart) → filed c ≡ true → chartEntries c ≡ entriesOf (chartTable c)
 unfolding filed
-filed-entries c f = sameEntries-reflects (chartEntries c) (entriesOf (chartTable c)) .to (rw f tt)
+entries-filed c f = sameEntries-reflects (chartEntries c) (entriesOf (chartTable c)) .to (rw f tt)
 
 -- the triangle found is the lowest numbered of the whole table that holds the point
 pub locate-lowest : (c : Chart) (p : Point) → InGrid p → tooShort c ≡ false → chainRule c ≡ true → filed c ≡ true
@@ -34,5 +34,5 @@ pub locate-lowest : (c : Chart) (p : Point) → InGrid p → tooShort c ≡ fals
 locate-lowest c p g s r f =
     let rule = ruled c r in
     sym (ap (λ a. a .found) (located-done c p s r))
-    ∙ ap (λ es. located (chartTable c) es p) (filed-entries c f)
+    ∙ ap (λ es. located (chartTable c) es p) (entries-filed c f)
     ∙ locate-listing (chartTable c) (rw table-length (rule .triangles)) p g (rule .good)

@@ -1,5 +1,4 @@
 pub mod HalvesLaws
-pub mod PartLaws
 pub mod BlockLaws
 pub mod MarkLaws
 pub mod ListingLaws

@@ -10,11 +10,11 @@ use native.Mathlib.Omega.{arith}
 use lib.Dec.{T}
 use lib.ListN.{length, getD, take, drop}
 use Rattle.lists.specs.Lists.{filter}
+use Rattle.lists.proofs.PartLaws.{part-map}
 use Rattle.orthtree.specs.Entries.{Entry, emptyMark, isMark, span, covers, chain}
 use Rattle.call_spec.specs.Buffers.{zipEntries}
 use Rattle.call_spec.proofs.BuffersLaws.{first-count, first-at}
 use Rattle.search.specs.Passes.{Rises, Passes}
-use Rattle.search.proofs.PartLaws.{part-map}
 use Rattle.search.proofs.BlockLaws.{CellPart, keys-rise, to-positive, cell-part}
 use Rattle.search.proofs.MarkLaws.{items-kept, mark-dropped}
 

@@ -14,10 +14,10 @@ use lib.ListN.{length, getD, take, drop}
 use Rattle.lists.specs.Lists.{filter}
 use Rattle.lists.proofs.Reflects.{reflects-no, test-true, test-false}
 use Rattle.lists.proofs.FilterLaws.{filter-all, filter-none}
+use Rattle.lists.proofs.PartLaws.{part-every}
 use Rattle.orthtree.specs.Entries.{Entry, emptyMark, isMark, rangeEnd, chain}
 use Rattle.orthtree.proofs.EntriesLaws.{span-positive}
 use Rattle.orthtree.proofs.ChainLaws.{NextItem, Follows, ChainAfter, last, link, ChainFrom, end, start, isMark-reflects, chain-reflects}
-use Rattle.search.proofs.PartLaws.{part-every}
 
 module _ (arity depth count : ℕ) (d : Entry) where
   -- each entry follows the one before it, by places

@@ -1,5 +1,5 @@
 use Prim.Native.Nat.{_*_}
-use Rattle.lists.proofs.LentLaws.{part-length, back-length}
+use Rattle.lists.proofs.LentLaws.{lent-length, back-length}
 use borrow.Author.Needs.{needs}
 use lib.Seq.{length-take-le}
 use mathlib.Core.Path.{sym}
@@ -14,7 +14,7 @@ array-borrow-prefix-bytes : tie.Need-array-borrow-prefix-bytes
 array-borrow-prefix-bytes c = search needs
 
 slice-aggregate-read-full : tie.Need-slice-aggregate-read-full
-slice-aggregate-read-full c = part-length (2 * c .before .before .before .before .before .args .n) 6400 (omega arith)
+slice-aggregate-read-full c = lent-length (2 * c .before .before .before .before .before .args .n) 6400 (omega arith)
 
 read-full-requires : tie.Need-read-full-requires
 read-full-requires c κs = search needs

@@ -2,7 +2,7 @@ use mathlib.Core.Path.{sym}
 use Prim.Native.Nat.{_*_}
 use native.Mathlib.Omega.{arith}
 use lib.Seq.{length-take-le}
-use Rattle.lists.proofs.LentLaws.{part-length, back-length}
+use Rattle.lists.proofs.LentLaws.{lent-length, back-length}
 use borrow.Author.Needs.{needs}
 use Rattle.file_tables.proofs.next_table.Statement.{statement}
 use Rattle.file_tables.proofs.next_table.Tie as tie
@@ -41,7 +41,7 @@ array-borrow-prefix-bytes : tie.Need-array-borrow-prefix-bytes
 array-borrow-prefix-bytes c = search needs
 
 slice-aggregate-read-full-2 : tie.Need-slice-aggregate-read-full-2
-slice-aggregate-read-full-2 c = part-length (12 * c .before .before .number-at .result) 6144 (omega arith)
+slice-aggregate-read-full-2 c = lent-length (12 * c .before .before .number-at .result) 6144 (omega arith)
 
 read-full-requires-2 : tie.Need-read-full-requires-2
 read-full-requires-2 c κs = search needs

@@ -6,18 +6,19 @@ use Prim.Native.Nat.{ℕ, suc, _+_, _-_, _≤_, _<_}
 use native.Mathlib.Omega.{arith}
 use lib.ListN.{length, getD, take, drop, length-take, length-drop, length-map, List·getD-map}
 use lib.Seq.{getD-take, getD-drop, ext-getD}
 use Rattle.lists.proofs.ListsLaws.{Every, every-cons}
 use Rattle.lists.proofs.EveryLaws.{every-nil}
 
 -- what holds at each place of a list holds of every element
 every-places : {A : Type 0} (P : A → Type 0) (l : List A) (d : A) → ((i : ℕ) → i < length l → P (getD l i d)) → Every P l
 every-places P [] d h = every-nil P
 every-places P (x ∷ xs) d h = every-cons (h 0 (omega arith), every-places P xs d (λ i l. h (suc i) (omega arith)))
 
-module _ {A : Type 0} (l : List A) (f t : ℕ) (h : f ≤ t) (w : t ≤ length l) where
-  part-length : length (take (t - f) (drop f l)) ≡ t - f
-  part-length = rw (length-take, length-drop) (omega arith)
+-- a part up to a place within the list has as many elements as places
+pub part-length : {A : Type 0} (f t : ℕ) (l : List A) → t ≤ length l → length (take (t - f) (drop f l)) ≡ t - f
+part-length f t l w = rw (length-take, length-drop) (omega arith)
 
+module _ {A : Type 0} (l : List A) (f t : ℕ) (h : f ≤ t) (w : t ≤ length l) where
   part-at : (d : A) (i : ℕ) → i < t - f → getD (take (t - f) (drop f l)) i d ≡ getD l (f + i) d
   part-at d i b = getD-take (t - f) (drop f l) i d b ∙ getD-drop f l i d
 
@@ -25,7 +26,7 @@ module _ {A : Type 0} (l : List A) (f t : ℕ) (h : f ≤ t) (w : t ≤ length l
   pub part-every : (P : A → Type 0) (d : A) → ((i : ℕ) → f ≤ i → i < t → P (getD l i d)) → Every P (take (t - f) (drop f l))
   part-every P d g =
       every-places P (take (t - f) (drop f l)) d (λ i b.
-      let c : i < t - f = rw part-length at b in
+      let c : i < t - f = rw (part-length f t l w) at b in
       rw (part-at d i c) (g (f + i) (omega arith) (omega arith)))
 
 -- a part of a list's images is that part of a list that holds them
@@ -34,8 +35,8 @@ pub part-map : {A : Type 0} (g : A → ℕ) (l : List A) (xs : List ℕ) (d : A)
 part-map g l xs d f t h w v e =
     let p = take (t - f) (drop f l) in
     let m = length-map p g in
-    let a = part-length xs f t h v in
-    let b = part-length l f t h w in
+    let a = part-length f t xs v in
+    let b = part-length f t l w in
     ext-getD (g d) (take (t - f) (drop f xs)) (map g p) (omega arith) (λ i c.
     let j : i < t - f = rw a at c in
     getD-take (t - f) (drop f xs) i (g d) j ∙ getD-drop f xs i (g d) ∙ sym (e (f + i) (omega arith))
