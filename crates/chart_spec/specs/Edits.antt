@@ -10,7 +10,7 @@ use Rattle.lists.specs.Lists.{first, placesFrom, without}
 use Rattle.plane.specs.declared.Point.{Point}
 use Rattle.plane.specs.Point.{samePoint}
 use Rattle.plane.specs.Triangle.{Triangle, proper, strictlyInside}
-use Rattle.chart_spec.specs.Table.{Table, numbered, tableOf, maxTriangles, numbersPerTriangle, tableLength}
+use Rattle.chart_spec.specs.Table.{Table, numbered, tableOf, maxTriangles, numbersPerTriangle, tableLength, sixteenBit}
 use Rattle.chart_spec.specs.Cells.{entriesOf, maxEntries}
 use Rattle.chart_spec.specs.Refusals.{Refusal, badLength, faultyTriangle, noSuchTriangle, notInside, notThreeAround, noFlip, tableFull, tooManyEntries, Outcome, refused, done, refuseIf, andThen, doneOr}
 
@@ -143,6 +143,14 @@ pub data Event : Type 0 where
   split : ℕ → Point → Event
   takeOut : Point → Event
   flip : ℕ → ℕ → Event
+
+-- the numbers of a load are 16-bit. Of the other events no number needs a range: a point at which a triangle is split lies
+-- inside it, and the rest only names triangles and corners
+unfoldable pub sixteenBitEvent : Event → Bool
+sixteenBitEvent (load ns) = sixteenBit ns
+sixteenBitEvent (split t p) = true
+sixteenBitEvent (takeOut p) = true
+sixteenBitEvent (flip i j) = true
 
 -- the table that an event would make of the plain table, before its entries are counted
 unfoldable pub proposed : Event → Table → Outcome Table

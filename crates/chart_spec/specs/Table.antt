@@ -1,11 +1,13 @@
 -- Document 01, "Grid, points, triangles": tables of triangles, and the numbers that stand for them.
 -- Assumes nothing.
+use mathlib.Core.Bool.{Bool}
 use mathlib.Core.List.{List, [], _∷_, map, flatMap}
-use Prim.Native.Nat.{ℕ, _+_, _*_}
-use lib.ListN.{getD}
-use Rattle.lists.specs.Lists.{upTo, sumOf}
+use Prim.Native.Nat.{ℕ, _+_, _*_, _≤_}
+use lib.Dec.{T, ltb}
+use lib.ListN.{length, getD}
+use Rattle.lists.specs.Lists.{all, upTo}
 use Rattle.plane.specs.declared.Point.{Point}
-use Rattle.plane.specs.Triangle.{Triangle, Side, sides}
+use Rattle.plane.specs.Triangle.{Triangle, Side, sides, proper}
 
 -- "A table is 0 to 512 triangles, numbered from 0"
 abbrev pub Table : Type 0
@@ -22,6 +24,10 @@ numbersPerTriangle = 6
 -- the numbers of a full table
 abbrev pub tableLength : ℕ
 tableLength = 3072
+
+-- "16-bit numbers": each number of the list is below 2^16. Code says it by its types; of lists of naturals it is said here
+unfoldable pub sixteenBit : List ℕ → Bool
+sixteenBit ns = all (λ n. ltb n 65536) ns
 
 -- the point at places k and k + 1 of a list of numbers
 unfoldable pub pointAt : List ℕ → ℕ → Point
@@ -46,6 +52,12 @@ triangleNumbers t = t .a .x ∷ t .a .y ∷ t .b .x ∷ t .b .y ∷ t .c .x ∷ 
 -- the numbers of a table, six for each triangle
 unfoldable pub tableNumbers : Table → List ℕ
 tableNumbers table = flatMap (λ t. triangleNumbers t) table
+
+-- a table of document 01: "0 to 512 triangles", each with "D(a,b,c) > 0" and of "16-bit numbers"
+pub record IsTable (table : Table) : Type 0 where
+  pub few : length table ≤ maxTriangles
+  pub oriented : T (all (λ t. proper t) table)
+  pub words : T (sixteenBit (tableNumbers table))
 
 -- a triangle that no table number has: what a look-up past the end gives
 unfoldable pub noTriangle : Triangle
