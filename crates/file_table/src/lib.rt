@@ -1,4 +1,5 @@
-// Filing a table, for any numbers and lists: the function that the benchmark's C program and `file_tables` call.
+// Filing a table, for any numbers and lists: an export for the benchmark's C program and the test program `file_tables` alone.
+// It is no call of document 01, and 16385 and 16386 are none of its numbers.
 
 ghost use mathlib.Core.Path.{_≡_};
 ghost use mathlib.Core.Bool.{true, false};
