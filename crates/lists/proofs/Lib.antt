@@ -5,6 +5,9 @@ pub mod FilterLaws
 pub mod FlatMapLaws
 pub mod Pointwise
 pub mod Order
+pub mod MemberLaws
+pub mod OrderLaws
+pub mod SumLaws
 pub mod Runs
 pub mod IndexLaws
 pub mod Examples

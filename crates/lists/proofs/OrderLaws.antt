@@ -1,0 +1,63 @@
+-- Ordered lists that are built from others, and that no element stands twice in a list that is ordered strictly.
+-- Each law is an induction along the order.
+-- Assumes nothing.
+use mathlib.Core.Path.{_≡_, refl, subst}
+use mathlib.Core.Bool.{Bool, true, false}
+use mathlib.Core.List.{List, [], _∷_, _++_, map, flatMap}
+use Prim.Native.Nat.{ℕ, zero, suc, _+_, _<_}
+use native.Mathlib.Nat.{le-refl, zero-add}
+use native.Mathlib.Omega.{arith}
+use lib.ListN.{length, getD}
+use Rattle.lists.specs.Lists.{filter, countFrom, upTo}
+use Rattle.lists.proofs.ListsLaws.{Every, every-uncons}
+use Rattle.lists.proofs.EveryLaws.{every-map, every-append, every-flatMap}
+use Rattle.lists.proofs.MemberLaws.{filter-to}
+use Rattle.lists.proofs.Order.{Ordered, ordered-none, ordered-more, ordered-at, Rising, rising-none, rising-more, rising-ordered}
+
+-- two ordered lists joined, where each element of the first stands in the relation to each of the second
+pub ordered-append : {A : Type 0} {R : A → A → Type 0} {xs ys : List A} → Ordered R xs → Ordered R ys
+    → Every (λ x. Every (λ y. R x y) ys) xs → Ordered R (xs ++ ys)
+ordered-append ordered-none p h = p
+ordered-append (ordered-more {x = x} {xs = xs} r o) p h =
+    let g = every-uncons h in
+    ordered-more (every-append xs r (g .0)) (ordered-append o p (g .1))
+
+-- a list of images
+pub ordered-map : {A B : Type 0} {R : B → B → Type 0} (f : A → B) {l : List A} → Ordered (λ x y. R (f x) (f y)) l → Ordered R (map f l)
+ordered-map f ordered-none = ordered-none
+ordered-map {R = R} f (ordered-more {x = x} {xs = xs} r o) = ordered-more (every-map (λ b. R (f x) b) f xs r) (ordered-map f o)
+
+-- the elements that pass a test
+pub ordered-filter : {A : Type 0} {R : A → A → Type 0} (f : A → Bool) {l : List A} → Ordered R l → Ordered R (filter f l)
+unfolding filter
+ordered-filter f ordered-none = ordered-none
+ordered-filter {R = R} f (ordered-more {x = x} {xs = xs} r o) = go (f x) (ordered-filter f o)
+  where
+    go : (b : Bool) → Ordered R (filter f xs) → Ordered R (elim b [ true ↦ x ∷ filter f xs | false ↦ filter f xs ])
+    go true p = ordered-more (λ y m. r y (filter-to f xs m .0)) p
+    go false p = p
+
+-- many ordered lists joined, where each element of an earlier one stands in the relation to each of a later one
+pub ordered-flatMap : {A B : Type 0} {R : A → A → Type 0} {S : B → B → Type 0} (f : A → List B) {l : List A}
+    → ((x y : A) → R x y → Every (λ u. Every (λ v. S u v) (f y)) (f x)) → ((x : A) → Ordered S (f x)) → Ordered R l
+    → Ordered S (flatMap f l)
+unfolding flatMap
+ordered-flatMap f across within ordered-none = ordered-none
+ordered-flatMap f across within (ordered-more {x = x} {xs = xs} r o) =
+    ordered-append (within x) (ordered-flatMap f across within o)
+    (λ u m. every-flatMap f xs (λ y n. across x y (r y n) u m))
+
+countFrom-rising : (k n b : ℕ) → k + n ≡ b → Rising k b (countFrom k n)
+unfolding countFrom
+countFrom-rising k zero b e = rising-none
+countFrom-rising k (suc n) b e = let h : k < b = omega arith in rising-more (le-refl k) h (countFrom-rising (suc k) n b (omega arith))
+
+-- 0, 1, .., n - 1 ascend
+pub upTo-ordered : (n : ℕ) → Ordered (λ i j. i < j) (upTo n)
+unfolding upTo
+upTo-ordered n = rising-ordered (countFrom-rising 0 n n (zero-add n))
+
+-- where no element stands in the relation to itself, none stands twice
+pub ordered-once : {A : Type 0} {R : A → A → Type 0} {l : List A} → ((x : A) → R x x → ⊥) → Ordered R l
+    → (m n : ℕ) (d : A) → m < n → n < length l → getD l m d ≡ getD l n d → ⊥
+ordered-once {R = R} {l = l} irr o m n d h k e = irr (getD l n d) (subst (λ x. R x (getD l n d)) e (ordered-at m n d o h k))
