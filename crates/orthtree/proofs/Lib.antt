@@ -10,6 +10,7 @@ pub mod ChainCellLaws
 pub mod ChainOrderLaws
 pub mod ChainBlockLaws
 pub mod ChainHeadsLaws
+pub mod TogetherLaws
 pub mod MortonLaws
 pub mod MortonRangeLaws
 pub mod MortonChildLaws
