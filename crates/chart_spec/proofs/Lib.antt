@@ -2,6 +2,7 @@ pub mod Evaluate
 pub mod TableLaws
 pub mod CellsLaws
 pub mod ReadingLaws
+pub mod OverlayLaws
 pub mod FilingLaws
 pub mod ChainOfTable
 pub mod LocateOfTable
