@@ -16,11 +16,13 @@ use Rattle.orthtree.proofs.EntriesLaws.{span-positive}
 use Rattle.orthtree.proofs.TilingLaws.{Tiles, done, next}
 use Rattle.orthtree.proofs.ChainLaws.{SameCell, sameCell-reflects, same-end, ChainAfter, last, link, ChainFrom, end, start, chain-reflects}
 
-heads-same : (e f : Entry) (es : List Entry) → SameCell e f → cellHeadsAfter e (f ∷ es) ≡ cellHeadsAfter f es
+-- an entry of the same cell is passed over
+pub heads-same : (e f : Entry) (es : List Entry) → SameCell e f → cellHeadsAfter e (f ∷ es) ≡ cellHeadsAfter f es
 unfolding cellHeadsAfter
 heads-same e f es s = rw (cellHeadsAfter, test-true {b = sameCell e f} (sameCell-reflects e f .from s))
 
-heads-next : (e f : Entry) (es : List Entry) → (SameCell e f → ⊥) → cellHeadsAfter e (f ∷ es) ≡ f ∷ cellHeadsAfter f es
+-- one of another cell is its first entry
+pub heads-next : (e f : Entry) (es : List Entry) → (SameCell e f → ⊥) → cellHeadsAfter e (f ∷ es) ≡ f ∷ cellHeadsAfter f es
 unfolding cellHeadsAfter
 heads-next e f es n = rw (cellHeadsAfter, test-false {b = sameCell e f} (λ t. n (sameCell-reflects e f .to t)))
 

@@ -11,6 +11,8 @@ pub mod ChainOrderLaws
 pub mod ChainBlockLaws
 pub mod ChainHeadsLaws
 pub mod TogetherLaws
+pub mod MeetingsLaws
+pub mod MeetingsBound
 pub mod MortonLaws
 pub mod MortonRangeLaws
 pub mod MortonChildLaws
