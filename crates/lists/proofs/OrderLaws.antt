@@ -1,9 +1,11 @@
--- Ordered lists that are built from others, and that no element stands twice in a list that is ordered strictly.
+-- Ordered lists that are built from others, and that in a list that is ordered strictly no element stands twice, and its elements
+-- determine it.
 -- Each law is an induction along the order.
 -- Assumes nothing.
-use mathlib.Core.Path.{_≡_, refl, subst}
+use mathlib.Core.Path.{_≡_, refl, sym, ap₂, subst}
 use mathlib.Core.Bool.{Bool, true, false}
-use mathlib.Core.List.{List, [], _∷_, _++_, map, flatMap}
+use mathlib.Core.List.{List, _∷_, _++_, map, flatMap, List·Memᴰ, List·Memᴰ·head, List·Memᴰ·tail, List·Memᴰ·not-nil, List·Memᴰ·cases-cons}
+use mathlib.Core.Logic.{_⊎_, inl, inr}
 use Prim.Native.Nat.{ℕ, zero, suc, _+_, _<_}
 use native.Mathlib.Nat.{le-refl, zero-add}
 use native.Mathlib.Omega.{arith}
@@ -61,3 +63,24 @@ upTo-ordered n = rising-ordered (countFrom-rising 0 n n (zero-add n))
 pub ordered-once : {A : Type 0} {R : A → A → Type 0} {l : List A} → ((x : A) → R x x → ⊥) → Ordered R l
     → (m n : ℕ) (d : A) → m < n → n < length l → getD l m d ≡ getD l n d → ⊥
 ordered-once {R = R} {l = l} irr o m n d h k e = irr (getD l n d) (subst (λ x. R x (getD l n d)) e (ordered-at m n d o h k))
+
+-- where no two elements stand in the relation both ways, two ordered lists with the same elements are equal
+pub ordered-unique : {A : Type 0} {R : A → A → Type 0} {xs ys : List A} → ((x y : A) → R x y → R y x → ⊥) → Ordered R xs → Ordered R ys
+    → Every (λ x. List·Memᴰ x ys) xs → Every (λ y. List·Memᴰ y xs) ys → xs ≡ ys
+ordered-unique asym ordered-none ordered-none to from = refl
+ordered-unique asym ordered-none (ordered-more {x = y} r o) to from = absurd (List·Memᴰ·not-nil (from y (List·Memᴰ·head refl)))
+ordered-unique asym (ordered-more {x = x} r o) ordered-none to from = absurd (List·Memᴰ·not-nil (to x (List·Memᴰ·head refl)))
+ordered-unique {A} {R = R} asym (ordered-more {x = x} {xs = xs} r o) (ordered-more {x = y} {xs = ys} q p) to from =
+    let e = same (List·Memᴰ·cases-cons (to x (List·Memᴰ·head refl))) (List·Memᴰ·cases-cons (from y (List·Memᴰ·head refl))) in
+    ap₂ _∷_ e (ordered-unique asym o p
+    (λ z m. later z y (subst (λ w. R w z) e (r z m)) (List·Memᴰ·cases-cons (to z (List·Memᴰ·tail m))))
+    (λ z m. later z x (subst (λ w. R w z) (sym e) (q z m)) (List·Memᴰ·cases-cons (from z (List·Memᴰ·tail m)))))
+  where
+    same : (x ≡ y) ⊎ List·Memᴰ x ys → (y ≡ x) ⊎ List·Memᴰ y xs → x ≡ y
+    same (inl e) b = e
+    same (inr m) (inl e) = sym e
+    same (inr m) (inr n) = absurd (asym x y (r y n) (q x m))
+
+    later : {zs : List A} (z w : A) → R w z → (z ≡ w) ⊎ List·Memᴰ z zs → List·Memᴰ z zs
+    later z w h (inl e) = let l = subst (λ v. R v z) (sym e) h in absurd (asym z z l l)
+    later z w h (inr m) = m
