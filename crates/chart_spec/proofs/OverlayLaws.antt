@@ -10,14 +10,14 @@ use native.Mathlib.Omega.{arith}
 use lib.Dec.{T}
 use lib.ListN.{length, getD}
 use Rattle.lists.specs.Lists.{filter, upTo}
-use Rattle.lists.proofs.Reflects.{Reflects, reflects-and, reflects-iff}
+use Rattle.lists.proofs.Reflects.{Reflects, reflects-and}
 use Rattle.lists.proofs.ListsLaws.{Every, upTo-to, upTo-from}
 use Rattle.lists.proofs.EveryLaws.{every-map}
 use Rattle.lists.proofs.MemberLaws.{filter-to, filter-from, flatMap-to, flatMap-from}
 use Rattle.lists.proofs.Order.{Ordered, ordered-imp}
-use Rattle.lists.proofs.OrderLaws.{ordered-map, ordered-filter, ordered-flatMap, upTo-ordered, ordered-once}
+use Rattle.lists.proofs.OrderLaws.{ordered-map, ordered-filter, ordered-flatMap, upTo-ordered, ordered-once, ordered-unique}
 use Rattle.orthtree.specs.Entries.{Entry}
-use Rattle.orthtree.proofs.TogetherLaws.{ListedTogether, listedTogether-reflects}
+use Rattle.orthtree.proofs.TogetherLaws.{ListedTogether, listedTogether-reflects, together-swap}
 use Rattle.plane.specs.Triangle.{proper}
 use Rattle.plane.specs.Interior.{CommonInterior, interiorsMeet}
 use Rattle.separation.proofs.Separation.{interiors-meet-iff}
@@ -34,6 +34,15 @@ pub record Shared (s : Table) (es : List Entry) (t : Table) (fs : List Entry) (i
   pub listed : ListedTogether arity depth es fs i j
   pub common : CommonInterior (numbered s i) (numbered t j)
 
+-- it does not depend on which chart is the first
+pub shared-swap : {s t : Table} {es fs : List Entry} {i j : ℕ} → Shared s es t fs i j → Shared t fs s es j i
+shared-swap h = record {
+  first = h .second;
+  second = h .first;
+  listed = together-swap (h .listed);
+  common = record { point = h .common .point; above = h .common .above; first = h .common .second; second = h .common .first };
+}
+
 -- the pair of two numbers
 abbrev pub pair : ℕ → ℕ → Pair
 pair i j = record { i = i; j = j }
@@ -42,10 +51,12 @@ pair i j = record { i = i; j = j }
 abbrev pub Earlier : Pair → Pair → Type 0
 Earlier p q = (p .i < q .i) ⊎ ((p .i ≡ q .i) × (p .j < q .j))
 
--- no pair stands before itself
-pub not-earlier : (p : Pair) → Earlier p p → ⊥
-not-earlier p (inl h) = omega arith
-not-earlier p (inr h) = omega arith
+-- of two pairs not both are the earlier one
+earlier-asym : (p q : Pair) → Earlier p q → Earlier q p → ⊥
+earlier-asym p q (inl h) (inl g) = omega arith
+earlier-asym p q (inl h) (inr g) = omega arith
+earlier-asym p q (inr h) (inl g) = omega arith
+earlier-asym p q (inr h) (inr g) = omega arith
 
 module _ (s : Table) (es : List Entry) (t : Table) (fs : List Entry) where
   -- the numbers j listed with i, and their pairs
@@ -90,7 +101,7 @@ module _ (s : Table) (es : List Entry) (t : Table) (fs : List Entry) where
   -- "none twice": different places of the list hold different pairs
   pub pairs-once : (m n : ℕ) (d : Pair) → m < n → n < length (pairsListed s es t fs)
       → getD (pairsListed s es t fs) m d ≡ getD (pairsListed s es t fs) n d → ⊥
-  pairs-once = ordered-once not-earlier pairs-ascend
+  pairs-once = ordered-once (λ p h. earlier-asym p p h h) pairs-ascend
 
   module _ (good : Every (λ r. T (proper r)) s) (fine : Every (λ r. T (proper r)) t) where
     -- the test on two triangle numbers decides that the two share ground and are listed in overlapping cells
@@ -114,3 +125,10 @@ module _ (s : Table) (es : List Entry) (t : Table) (fs : List Entry) where
           record { first = h .0; second = h .1 .0; listed = c .1; common = c .0 },
       λ h. pairs-from (h .first) (h .second) (pairListed-reflects i j (h .first) (h .second) .from (h .common, h .listed)),
     )
+
+    -- the pairs that share ground and their order determine the list
+    pub pairs-unique : (ps : List Pair) → Ordered (λ p q. Earlier p q) ps → ((i j : ℕ) → List·Memᴰ (pair i j) ps ↔ Shared s es t fs i j)
+        → ps ≡ pairsListed s es t fs
+    pairs-unique ps o e =
+        ordered-unique earlier-asym o pairs-ascend (λ p m. pairs-listed-iff (p .i) (p .j) .1 (e (p .i) (p .j) .0 m))
+        (λ p m. e (p .i) (p .j) .1 (pairs-listed-iff (p .i) (p .j) .0 m))
