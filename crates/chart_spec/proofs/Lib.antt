@@ -5,6 +5,7 @@ pub mod ReadingLaws
 pub mod OverlayLaws
 pub mod FilingLaws
 pub mod ChainOfTable
+pub mod MeetingsOfTable
 pub mod LocateOfTable
 pub mod MarkedCases
 pub mod Examples
