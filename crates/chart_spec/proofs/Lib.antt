@@ -6,6 +6,7 @@ pub mod OverlayLaws
 pub mod FilingLaws
 pub mod ChainOfTable
 pub mod MeetingsOfTable
+pub mod SharedGround
 pub mod LocateOfTable
 pub mod MarkedCases
 pub mod Examples

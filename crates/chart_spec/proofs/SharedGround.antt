@@ -1,0 +1,163 @@
+-- The overlay of the entries of two tables lists exactly the pairs of triangles that share ground.
+-- The idea: a point strictly inside both triangles lies, with the grid point above and left of it, in one cell of each table. Both cells
+-- list their triangle, as it meets the cell, and both have the key of that grid point.
+-- Assumes nothing.
+use mathlib.Core.Path.{_≡_, refl, subst}
+use mathlib.Core.List.{List, [], _∷_, List·Memᴰ, List·Memᴰ·not-nil, Memᴰ·map}
+use mathlib.Core.Logic.{_↔_}
+use Prim.Native.Nat.{ℕ, _/_, _<_}
+use native.Mathlib.Nat.{le-div-iff-mul-le, div-lt-iff-lt-mul}
+use native.Mathlib.Omega.{arith}
+use lib.Dec.{T, ltb}
+use lib.ListN.{length}
+use Rattle.lists.specs.Lists.{upTo}
+use Rattle.lists.proofs.Reflects.{reflects-ltb, reflects-test}
+use Rattle.lists.proofs.ListsLaws.{Every, Some, every-uncons, all-reflects, getD-member, upTo-from}
+use Rattle.lists.proofs.MemberLaws.{filter-from, flatMap-from}
+use Rattle.orthtree.specs.Entries.{rangeEnd}
+use Rattle.orthtree.proofs.EntriesLaws.{InRange}
+use Rattle.orthtree.proofs.TogetherLaws.{ListedTogether}
+use Rattle.plane.specs.declared.Point.{Point}
+use Rattle.plane.specs.Point.{FracPoint}
+use Rattle.plane.specs.Triangle.{Triangle, proper, holdsAt}
+use Rattle.plane.specs.Box.{triangleMeets}
+use Rattle.plane.specs.Interior.{CommonInterior}
+use Rattle.separation.proofs.Radon.{Triple}
+use Rattle.separation.proofs.Cone.{_•_}
+use Rattle.separation.proofs.Sides.{fraction}
+use Rattle.separation.proofs.Weights.{Average, weights, inside-held}
+use Rattle.separation.proofs.Averages.{at-average}
+use Rattle.separation.proofs.Boxes.{InBox, inBox-iff, toRight, toBottom}
+use Rattle.separation.proofs.Meets.{holdsAt-meets}
+use Rattle.squares.specs.declared.Square.{Square}
+use Rattle.squares.specs.Square.{arity, depth, zOrder, squareBox}
+use Rattle.squares.proofs.ZOrderLaws.{InGrid, InSquare, point-in-square}
+use Rattle.squares.proofs.SquareLeavesLaws.{leaf-of-point}
+use Rattle.chart_spec.specs.Table.{Table, numbered, noTriangle, triangleNumbers, tableNumbers, sixteenBit, IsTable}
+use Rattle.chart_spec.specs.Cells.{stopped, cellsIn, cells, trianglesMeeting, orMark, entryOf, cellEntries, entriesOf}
+use Rattle.chart_spec.specs.Overlay.{pairsListed}
+use Rattle.chart_spec.proofs.TableLaws.{proper-at}
+use Rattle.chart_spec.proofs.FilingLaws.{meeting-filter}
+use Rattle.chart_spec.proofs.ChainOfTable.{cells-aligned}
+use Rattle.chart_spec.proofs.OverlayLaws.{pair, pairs-listed-iff}
+
+-- the corners of the triangle are points of the grid
+pub record Corners (t : Triangle) : Type 0 where
+  pub a : InGrid (t .a)
+  pub b : InGrid (t .b)
+  pub c : InGrid (t .c)
+
+-- so they are where the table is one of document 01
+pub corners-at : (table : Table) → IsTable table → (i : ℕ) → i < length table → Corners (numbered table i)
+unfolding numbered sixteenBit tableNumbers triangleNumbers
+corners-at table ok i h =
+    let small = all-reflects (λ n. ltb n 65536) (λ n. reflects-ltb n 65536) (tableNumbers table) .to (ok .words) in
+    let at : Every (λ n. n < 65536) (triangleNumbers (numbered table i)) =
+    λ n m. small n (flatMap-from (λ t. triangleNumbers t) table (getD-member table i noTriangle h) m)
+    in
+    let g = every-uncons at in
+    let k = every-uncons (g .1) in
+    let l = every-uncons (k .1) in
+    let m = every-uncons (l .1) in
+    let n = every-uncons (m .1) in
+    record {
+      a = record { across = g .0; down = k .0 };
+      b = record { across = l .0; down = m .0 };
+      c = record { across = n .0; down = every-uncons (n .1) .0 };
+    }
+
+-- all triangles have D > 0
+pub proper-of : (table : Table) → IsTable table → Every (λ t. T (proper t)) table
+proper-of table ok = all-reflects (λ t. proper t) (λ t. reflects-test (proper t)) table .to (ok .oriented)
+
+-- the grid point above and left of a fractional point
+abbrev floorOf : Triple → Point
+floorOf z = record { x = z .x / z .w; y = z .y / z .w }
+
+floor-grid : (t : Triangle) → Corners t → {p : FracPoint} (v : Average t p) → InGrid (floorOf (v .point))
+unfolding _•_
+floor-grid t g v =
+    let a = g .a in
+    let b = g .b in
+    let c = g .c in
+    let r = at-average (toRight 65535) v (omega arith) (omega arith) (omega arith) in
+    let d = at-average (toBottom 65535) v (omega arith) (omega arith) (omega arith) in
+    let w = v .above in
+    record { across = div-lt-iff-lt-mul w .1 (omega arith); down = div-lt-iff-lt-mul w .1 (omega arith) }
+
+-- a square that has it has the fractional point, the border included
+floor-box : (z : Triple) → 0 < z .w → (q : Square) → InSquare q (floorOf z) → InBox (squareBox q) (fraction z)
+unfolding _•_ squareBox
+floor-box z w q h =
+    let a = le-div-iff-mul-le {x = q .x} {y = z .x} w .0 (h .across .starts) in
+    let b = div-lt-iff-lt-mul {x = z .x} w .0 (h .across .ends) in
+    let c = le-div-iff-mul-le {x = q .y} {y = z .y} w .0 (h .down .starts) in
+    let d = div-lt-iff-lt-mul {x = z .y} w .0 (h .down .ends) in
+    inBox-iff (squareBox q) z .1 (omega arith)
+
+-- an item of a cell is listed in it
+mark-member : {i : ℕ} (is : List ℕ) → List·Memᴰ i is → List·Memᴰ i (orMark is)
+unfolding orMark
+mark-member [] m = absurd (List·Memᴰ·not-nil m)
+mark-member (j ∷ is) m = m
+
+module _ (table : Table) (i : ℕ) (h : i < length table) where
+  -- a cell that the triangle meets lists it
+  cell-entry : (q : Square) → List·Memᴰ q (cells table) → T (triangleMeets (numbered table i) (squareBox q)) → List·Memᴰ (entryOf q i) (entriesOf table)
+  unfolding entriesOf cellEntries
+  cell-entry q m t =
+      let n = filter-from (λ k. triangleMeets (numbered table k) (squareBox q)) (upTo (length table)) (upTo-from h) t in
+      flatMap-from (λ s. cellEntries table s) (cells table) m
+      (Memᴰ·map (entryOf q) (mark-member (trianglesMeeting table q) (subst (λ is. List·Memᴰ i is) (meeting-filter table q) n)))
+
+  -- an entry of the triangle whose cell has the key of the grid point above and left of a point that the triangle holds
+  held-listed : T (proper (numbered table i)) → (z : Triple) → 0 < z .w → InGrid (floorOf z) → T (holdsAt (numbered table i) (fraction z))
+      → Some (λ e. (e .item ≡ i) × InRange arity depth (zOrder (floorOf z)) e) (entriesOf table)
+  unfolding cells cellsIn entryOf rangeEnd
+  held-listed good z w g t =
+      let c = leaf-of-point (λ q. stopped table q) (floorOf z) g in
+      let q = c .value in
+      let k = point-in-square q (cells-aligned table q (c .member)) (floorOf z) g .0 (c .has) in
+      record {
+        value = entryOf q i;
+        member = cell-entry q (c .member) (holdsAt-meets (numbered table i) (squareBox q) (fraction z) good w t (floor-box z w q (c .has)));
+        has = (refl, record { starts = k .starts; ends = k .ends });
+      }
+
+-- "Pair i, j shares ground when some point lies strictly inside triangle i of the first plain table and triangle j of the second"
+pub record SharesGround (s t : Table) (i j : ℕ) : Type 0 where
+  pub first : i < length s
+  pub second : j < length t
+  pub common : CommonInterior (numbered s i) (numbered t j)
+
+module _ (s t : Table) (sok : IsTable s) (tok : IsTable t) where
+  -- triangles that share ground are listed in overlapping cells
+  pub ground-listed : {i j : ℕ} → SharesGround s t i j → ListedTogether arity depth (entriesOf s) (entriesOf t) i j
+  ground-listed {i} {j} h =
+      let p = h .common .point in
+      let good = proper-at s (proper-of s sok) i (h .first) in
+      let fine = proper-at t (proper-of t tok) j (h .second) in
+      let held = inside-held (numbered s i) p (h .common .first) in
+      let v = weights (numbered s i) p good (h .common .above) held in
+      let z = v .point in
+      let g = floor-grid (numbered s i) (corners-at s sok i (h .first)) v in
+      let e = held-listed s i (h .first) good z (v .above) g (subst (λ q. T (holdsAt (numbered s i) q)) (v .is) held) in
+      let f = held-listed t j (h .second) fine z (v .above) g
+      (subst (λ q. T (holdsAt (numbered t j) q)) (v .is) (inside-held (numbered t j) p (h .common .second))) in
+      record {
+        first = e .value;
+        second = f .value;
+        firstListed = e .member;
+        secondListed = f .member;
+        firstItem = e .has .0;
+        secondItem = f .has .0;
+        common = record { key = zOrder (floorOf z); first = e .has .1; second = f .has .1 };
+      }
+
+  -- the overlay of two tables with their entries lists a pair exactly when it shares ground
+  pub pairs-of-tables : (i j : ℕ) → List·Memᴰ (pair i j) (pairsListed s (entriesOf s) t (entriesOf t)) ↔ SharesGround s t i j
+  pairs-of-tables i j =
+      let e = pairs-listed-iff s (entriesOf s) t (entriesOf t) (proper-of s sok) (proper-of t tok) i j in (
+        λ m. let h = e .0 m in record { first = h .first; second = h .second; common = h .common },
+        λ h. e .1 (record { first = h .first; second = h .second; listed = ground-listed h; common = h .common }),
+      )
