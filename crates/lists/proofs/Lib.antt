@@ -13,3 +13,4 @@ pub mod IndexLaws
 pub mod Examples
 pub mod PartLaws
 pub mod LentLaws
+pub mod EditedLists
