@@ -1,14 +1,16 @@
--- A list after an element is replaced, taken out or appended: its length, its elements, and the sum over them.
+-- A list after an element is replaced, taken out or appended: its length, its elements, and the sum over them; and what
+-- searches find.
 -- Assumes nothing.
 use mathlib.Core.Path.{_≡_, refl, sym, _∙_, ap, subst}
 use mathlib.Core.Bool.{Bool, true, false}
-use mathlib.Core.List.{List, [], _∷_, _++_, flatMap, List·Memᴰ, Memᴰ·append-left, Memᴰ·append-right}
+use mathlib.Core.List.{List, [], _∷_, _++_, flatMap, List·Memᴰ, List·Memᴰ·head, List·Memᴰ·tail, Memᴰ·append-left, Memᴰ·append-right}
+use mathlib.Core.Option.{some}
 use Prim.Native.Nat.{ℕ, zero, suc, _+_, _<_}
 use native.Mathlib.Nat.{add-zero, zero-add, add-suc, suc-add}
 use native.Mathlib.Omega.{arith}
 use lib.Dec.{T}
 use lib.ListN.{length, getD, set}
-use Rattle.lists.specs.Lists.{placesFrom, without, sumOf}
+use Rattle.lists.specs.Lists.{first, placesFrom, without, sumOf}
 use Rattle.lists.proofs.ListsLaws.{Every, every-cons, every-uncons}
 use Rattle.lists.proofs.EveryLaws.{every-nil}
 
@@ -70,7 +72,7 @@ module _ {A : Type 0} where
     every-without (x ∷ l) zero h = every-uncons h .1
     every-without (x ∷ l) (suc i) h = let g = every-uncons h in every-cons (g .0, every-without l i (g .1))
 
-  -- ---- places
+  -- ---- searches
 
   module _ (f : A → Bool) (d : A) (P : ℕ → Type 0) where
     places-induct : (k : ℕ) (l : List A) → ((i : ℕ) → i < length l → T (f (getD l i d)) → P (k + i)) → Every P (placesFrom f k l)
@@ -89,6 +91,18 @@ module _ {A : Type 0} where
   pub places-pass : (f : A → Bool) (d : A) (l : List A) → Every (λ i. T (f (getD l i d))) (placesFrom f 0 l)
   places-pass f d l =
       places-induct f d (λ i. T (f (getD l i d))) 0 l (λ i h t. subst (λ j. T (f (getD l j d))) (sym (zero-add i)) t)
+
+  first-choice : (f : A → Bool) (y : A) (l : List A) (b : Bool) {x : A} → f y ≡ b
+      → (first f l ≡ some x → List·Memᴰ x l × T (f x))
+      → elim b [ true ↦ some y | false ↦ first f l ] ≡ some x → List·Memᴰ x (y ∷ l) × T (f x)
+  first-choice f y l true {x} p r q = let s : x ≡ y = cc in (List·Memᴰ·head s, rw (s, p) tt)
+  first-choice f y l false p r q = let m = r q in (List·Memᴰ·tail (m .0), m .1)
+
+  -- the first element that passes a test is an element, and passes it
+  pub first-found : (f : A → Bool) (l : List A) {x : A} → first f l ≡ some x → List·Memᴰ x l × T (f x)
+  unfolding first
+  first-found f [] e = let z : _≡_ {A = ℕ} 0 1 = cc in absurd (omega arith)
+  first-found f (y ∷ l) e = first-choice f y l (f y) refl (λ q. first-found f l q) e
 
 -- what every element of many lists joined has, every element of each of them has
 pub flatMap-every : {A B : Type 0} {P : B → Type 0} (f : A → List B) (l : List A) → Every P (flatMap f l)
