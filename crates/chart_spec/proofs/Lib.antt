@@ -1,5 +1,9 @@
 pub mod Evaluate
 pub mod TableLaws
+pub mod TriangleLaws
+pub mod OutcomeLaws
+pub mod EditLaws
+pub mod FlipLaws
 pub mod CellsLaws
 pub mod ReadingLaws
 pub mod OverlayLaws
