@@ -3,7 +3,7 @@
 -- Assumes nothing.
 use mathlib.Core.Path.{_≡_, refl, sym, _∙_, ap, subst}
 use mathlib.Core.Bool.{Bool, true, false}
-use mathlib.Core.List.{List, [], _∷_, _++_, flatMap, List·Memᴰ, List·Memᴰ·head, List·Memᴰ·tail, Memᴰ·append-left, Memᴰ·append-right}
+use mathlib.Core.List.{List, [], _∷_, _++_, flatMap, cons≢nil, List·Memᴰ, List·Memᴰ·head, List·Memᴰ·tail, Memᴰ·append-left, Memᴰ·append-right}
 use mathlib.Core.Option.{some}
 use Prim.Native.Nat.{ℕ, zero, suc, _+_, _<_}
 use native.Mathlib.Nat.{add-zero, zero-add, add-suc, suc-add}
@@ -91,6 +91,18 @@ module _ {A : Type 0} where
   pub places-pass : (f : A → Bool) (d : A) (l : List A) → Every (λ i. T (f (getD l i d))) (placesFrom f 0 l)
   places-pass f d l =
       places-induct f d (λ i. T (f (getD l i d))) 0 l (λ i h t. subst (λ j. T (f (getD l j d))) (sym (zero-add i)) t)
+
+  none-choice : (f : A → Bool) (k : ℕ) (x : A) (l : List A) (b : Bool) → f x ≡ b
+      → (placesFrom f (suc k) l ≡ [] → Every (λ y. f y ≡ false) l)
+      → _≡_ {A = List ℕ} (elim b [ true ↦ k ∷ placesFrom f (suc k) l | false ↦ placesFrom f (suc k) l ]) [] → Every (λ y. f y ≡ false) (x ∷ l)
+  none-choice f k x l true p r e = absurd (cons≢nil e)
+  none-choice f k x l false p r e = every-cons (p, r e)
+
+  -- where there is no such place, no element passes
+  pub places-none : (f : A → Bool) (k : ℕ) (l : List A) → placesFrom f k l ≡ [] → Every (λ x. f x ≡ false) l
+  unfolding placesFrom
+  places-none f k [] e = every-nil (λ x. f x ≡ false)
+  places-none f k (x ∷ l) e = none-choice f k x l (f x) refl (places-none f (suc k) l) e
 
   first-choice : (f : A → Bool) (y : A) (l : List A) (b : Bool) {x : A} → f y ≡ b
       → (first f l ≡ some x → List·Memᴰ x l × T (f x))
