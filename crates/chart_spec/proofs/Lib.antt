@@ -2,6 +2,7 @@ pub mod Evaluate
 pub mod TableLaws
 pub mod TriangleLaws
 pub mod OutcomeLaws
+pub mod RotationLaws
 pub mod EditLaws
 pub mod FlipLaws
 pub mod CellsLaws

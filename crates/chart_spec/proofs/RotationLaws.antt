@@ -1,0 +1,48 @@
+-- The rotations of a triangle: what they share, and the one that ends in a given corner.
+-- Assumes nothing.
+use mathlib.Core.Path.{_≡_, refl, sym, _∙_}
+use mathlib.Core.Bool.{Bool, true, false, _||_}
+use mathlib.Core.List.{List·Memᴰ, List·Memᴰ·head, List·Memᴰ·tail}
+use lib.Dec.{T}
+use Rattle.lists.proofs.Reflects.{Reflects}
+use Rattle.lists.proofs.ListsLaws.{Every, every-cons}
+use Rattle.lists.proofs.EveryLaws.{every-nil}
+use Rattle.plane.specs.declared.Point.{Point}
+use Rattle.plane.specs.Point.{samePoint}
+use Rattle.plane.specs.Triangle.{Triangle, proper, doubledArea}
+use Rattle.plane.proofs.PointLaws.{samePoint-reflects}
+use Rattle.chart_spec.specs.Edits.{triangle, rotations, hasCorner, endingIn}
+use Rattle.chart_spec.proofs.TriangleLaws.{area-rotate, proper-rotate}
+
+-- what one turn keeps, every rotation has
+pub rotations-every : (P : Triangle → Type 0) → ((p q r : Point) → P (triangle p q r) → P (triangle q r p))
+    → (t : Triangle) → P t → Every P (rotations t)
+unfolding rotations triangle
+rotations-every P turn t h =
+    let g = turn (t .a) (t .b) (t .c) h in
+    every-cons (h, every-cons (g, every-cons (turn (t .b) (t .c) (t .a) g, every-nil P)))
+
+-- rotations have the same area
+pub rotations-area : (t : Triangle) → Every (λ s. doubledArea s ≡ doubledArea t) (rotations t)
+rotations-area t = rotations-every (λ s. doubledArea s ≡ doubledArea t) (λ p q r h. area-rotate p q r ∙ h) t refl
+
+-- and the same sign of D
+pub rotations-proper : (t : Triangle) → T (proper t) → Every (λ s. T (proper s)) (rotations t)
+rotations-proper t h = rotations-every (λ s. T (proper s)) (λ p q r h. rw (proper-rotate p q r) h) t h
+
+ending : (p : Point) (t : Triangle) (x y z : Bool) → (T x → p ≡ t .a) → (T y → p ≡ t .b) → (T z → p ≡ t .c) → T (x || y || z)
+    → let s : Triangle =
+    elim z [ true ↦ t | false ↦ elim y [ true ↦ triangle (t .c) (t .a) (t .b) | false ↦ triangle (t .b) (t .c) (t .a) ] ] in
+    List·Memᴰ s (rotations t) × (s .c ≡ p)
+unfolding rotations triangle
+ending p t x y true a b c h = (List·Memᴰ·head refl, sym (c tt))
+ending p t x true false a b c h = (List·Memᴰ·tail (List·Memᴰ·tail (List·Memᴰ·head refl)), sym (b tt))
+ending p t true false false a b c h = (List·Memᴰ·tail (List·Memᴰ·head refl), sym (a tt))
+ending p t false false false a b c h = absurd h
+
+-- a triangle rotated to end in a corner is a rotation, and ends in it
+pub endingIn-rotation : (p : Point) (t : Triangle) → T (hasCorner p t) → List·Memᴰ (endingIn p t) (rotations t) × (endingIn p t .c ≡ p)
+unfolding hasCorner endingIn
+endingIn-rotation p t h =
+    ending p t (samePoint p (t .a)) (samePoint p (t .b)) (samePoint p (t .c))
+    (samePoint-reflects p (t .a) .to) (samePoint-reflects p (t .b) .to) (samePoint-reflects p (t .c) .to) h
