@@ -3,6 +3,7 @@ pub mod TableLaws
 pub mod TriangleLaws
 pub mod OutcomeLaws
 pub mod RotationLaws
+pub mod GridLaws
 pub mod EditLaws
 pub mod FlipLaws
 pub mod CellsLaws
