@@ -61,6 +61,10 @@ closes t u v h =
     let g = reflects-and₃ (samePoint-reflects (u .a) (t .b)) (samePoint-reflects (v .b) (t .a)) (samePoint-reflects (u .b) (v .a)) .to h in
     record { ub = g .0; va = g .1 .0; uc = refl; vc = sym (g .1 .1) }
 
+-- (a,b,c), where (a,b,p) is a rotation of t
+abbrev pub mergedTriangle : Point → Triangle → Point → Triangle
+mergedTriangle p t c = triangle (endingIn p t .a) (endingIn p t .b) c
+
 -- p taken out, from the triangles i, j and k
 pub record TakenOut (p : Point) (table next : Table) : Type 0 where
   pub i : ℕ
@@ -76,7 +80,7 @@ pub record TakenOut (p : Point) (table next : Table) : Type 0 where
   pub closed :
       Closes (endingIn p (numbered table i)) (endingIn p (numbered table j)) (endingIn p (numbered table k)) c
       ⊎ Closes (endingIn p (numbered table i)) (endingIn p (numbered table k)) (endingIn p (numbered table j)) c
-  pub is : next ≡ mergeAround table i j k (triangle (endingIn p (numbered table i) .a) (endingIn p (numbered table i) .b) c)
+  pub is : next ≡ mergeAround table i j k (mergedTriangle p (numbered table i) c)
 
 -- the third corner of what the three make
 record Merged (table next : Table) (i j k : ℕ) (t u v : Triangle) : Type 0 where

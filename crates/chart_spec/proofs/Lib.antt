@@ -6,6 +6,9 @@ pub mod RotationLaws
 pub mod GridLaws
 pub mod EditLaws
 pub mod FlipLaws
+pub mod LoadTable
+pub mod MergeLaws
+pub mod EventTable
 pub mod CellsLaws
 pub mod ReadingLaws
 pub mod OverlayLaws
