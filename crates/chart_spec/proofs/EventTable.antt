@@ -13,7 +13,7 @@ use lib.ListN.{length, set, length-append, length-set}
 use Rattle.lists.specs.Lists.{all}
 use Rattle.lists.proofs.Reflects.{reflects-test}
 use Rattle.lists.proofs.ListsLaws.{Every, every-cons, every-uncons, all-reflects, getD-member}
-use Rattle.lists.proofs.EveryLaws.{every-nil, every-imp, every-append}
+use Rattle.lists.proofs.EveryLaws.{every-nil, every-append}
 use Rattle.lists.proofs.EditedLists.{every-set}
 use Rattle.plane.specs.declared.Point.{Point}
 use Rattle.plane.specs.Triangle.{Triangle, proper}
@@ -26,7 +26,7 @@ use Rattle.chart_spec.proofs.TriangleLaws.{proper-rotate, inside-parts}
 use Rattle.chart_spec.proofs.RotationLaws.{rotations-every, endingIn-rotation}
 use Rattle.chart_spec.proofs.LoadTable.{load-table}
 use Rattle.chart_spec.proofs.MergeLaws.{taken-sum, merge-length, merge-every}
-use Rattle.chart_spec.proofs.GridLaws.{IsTriangle, table-triangles, triangles-table, inside-grid}
+use Rattle.chart_spec.proofs.GridLaws.{IsTriangle, table-proper, table-triangles, triangles-table, inside-grid}
 use Rattle.chart_spec.proofs.OutcomeLaws.{refused-done, refuseIf-done}
 use Rattle.chart_spec.proofs.EditLaws.{Split, split-done, mergedTriangle, TakenOut, takeOut-done}
 use Rattle.chart_spec.proofs.FlipLaws.{Flipped, flip-done}
@@ -76,7 +76,7 @@ module _ {table : Table} (h : IsTable table) where
       let u = ends p (s .j) (omega arith) (s .cornerJ) in
       let v = ends p (s .k) below (s .cornerK) in
       let c : OnGrid (s .c) = elim (s .closed) [ inl e ↦ subst OnGrid (e .uc) (u .b) | inr e ↦ subst OnGrid (e .uc) (v .b) ] in
-      let m = made _ _ (s .c) (taken-sum s (every-imp (λ t g. g .oriented) good) .oriented) (t .a) (t .b) c in
+      let m = made _ _ (s .c) (taken-sum s (table-proper h) .oriented) (t .a) (t .b) c in
       let few = h .few in
       let n = merge-length table (s .i) (s .j) (s .k) (mergedTriangle p (numbered table (s .i)) (s .c)) ij jk below in
       rw (s .is) (triangles-table (omega arith) (merge-every table (s .i) (s .j) (s .k) _ ij jk below good m))

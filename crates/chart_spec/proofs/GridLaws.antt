@@ -75,11 +75,15 @@ grid-numbers t h =
       ),
     )
 
+-- each triangle of a table has D > 0
+pub table-proper : {table : Table} → IsTable table → Every (λ t. T (proper t)) table
+table-proper {table} h = proper-reflects table .to (h .oriented)
+
 -- each triangle of a table is one
 pub table-triangles : {table : Table} → IsTable table → Every IsTriangle table
 unfolding tableNumbers
 table-triangles {table} h t m =
-    numbers-grid t (proper-reflects table .to (h .oriented) t m)
+    numbers-grid t (table-proper h t m)
     (flatMap-every (λ t. triangleNumbers t) table (sixteenBit-reflects (tableNumbers table) .to (h .words)) t m)
 
 -- and few such triangles are a table

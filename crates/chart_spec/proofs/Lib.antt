@@ -9,6 +9,7 @@ pub mod FlipLaws
 pub mod LoadTable
 pub mod MergeLaws
 pub mod EventTable
+pub mod EventArea
 pub mod CellsLaws
 pub mod ReadingLaws
 pub mod OverlayLaws

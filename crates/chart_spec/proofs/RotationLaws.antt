@@ -2,7 +2,7 @@
 -- Assumes nothing.
 use mathlib.Core.Path.{_≡_, refl, sym, _∙_}
 use mathlib.Core.Bool.{Bool, true, false, _||_}
-use mathlib.Core.List.{List·Memᴰ, List·Memᴰ·head, List·Memᴰ·tail}
+use mathlib.Core.List.{[], _∷_, List·Memᴰ, List·Memᴰ·head, List·Memᴰ·tail}
 use lib.Dec.{T}
 use Rattle.lists.proofs.ListsLaws.{Every, every-cons}
 use Rattle.lists.proofs.EveryLaws.{every-nil}
@@ -11,7 +11,11 @@ use Rattle.plane.specs.Point.{samePoint}
 use Rattle.plane.specs.Triangle.{Triangle, proper, doubledArea}
 use Rattle.plane.proofs.PointLaws.{samePoint-reflects}
 use Rattle.chart_spec.specs.Edits.{triangle, rotations, hasCorner, endingIn}
-use Rattle.chart_spec.proofs.TriangleLaws.{area-rotate, proper-rotate}
+use Rattle.chart_spec.proofs.TriangleLaws.{area-rotate, proper-rotate, corners-differ}
+
+-- of a list of three
+three : (P : Triangle → Type 0) {t u v : Triangle} → P t → P u → P v → Every P (t ∷ u ∷ v ∷ [])
+three P h g k = every-cons (h, every-cons (g, every-cons (k, every-nil P)))
 
 -- what one turn keeps, every rotation has
 pub rotations-every : (P : Triangle → Type 0) → ((p q r : Point) → P (triangle p q r) → P (triangle q r p))
@@ -19,7 +23,7 @@ pub rotations-every : (P : Triangle → Type 0) → ((p q r : Point) → P (tria
 unfolding rotations triangle
 rotations-every P turn t h =
     let g = turn (t .a) (t .b) (t .c) h in
-    every-cons (h, every-cons (g, every-cons (turn (t .b) (t .c) (t .a) g, every-nil P)))
+    three P h g (turn (t .b) (t .c) (t .a) g)
 
 -- rotations have the same area
 pub rotations-area : (t : Triangle) → Every (λ s. doubledArea s ≡ doubledArea t) (rotations t)
@@ -45,3 +49,19 @@ unfolding hasCorner endingIn
 endingIn-rotation p t h =
     ending p t (samePoint p (t .a)) (samePoint p (t .b)) (samePoint p (t .c))
     (samePoint-reflects p (t .a) .to) (samePoint-reflects p (t .b) .to) (samePoint-reflects p (t .c) .to) h
+
+-- s does not have the side ab of u in the other direction
+abbrev Unshared : Triangle → Triangle → Type 0
+Unshared s u = s .a ≡ u .b → s .b ≡ u .a → ⊥
+
+-- no rotation of a triangle with D > 0 shares a side, in the other direction, with another or itself
+pub rotations-apart : (t : Triangle) → T (proper t) → Every (λ s. Every (λ u. s .a ≡ u .b → s .b ≡ u .a → ⊥) (rotations t)) (rotations t)
+unfolding rotations triangle
+rotations-apart t h =
+    let ab = corners-differ (t .a) (t .b) (t .c) h in
+    let bc = corners-differ (t .b) (t .c) (t .a) (rw (proper-rotate (t .a) (t .b) (t .c)) h) in
+    let ca = corners-differ (t .c) (t .a) (t .b) (rw (← proper-rotate (t .c) (t .a) (t .b)) h) in
+    three (λ s. Every (λ u. Unshared s u) (rotations t))
+    (three (λ u. Unshared t u) (λ d e. ab d) (λ d e. ca (sym d)) (λ d e. bc e))
+    (three (λ u. Unshared (triangle (t .b) (t .c) (t .a)) u) (λ d e. ca e) (λ d e. bc d) (λ d e. ab (sym d)))
+    (three (λ u. Unshared (triangle (t .c) (t .a) (t .b)) u) (λ d e. bc (sym d)) (λ d e. ab e) (λ d e. ca d))
