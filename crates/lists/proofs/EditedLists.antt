@@ -4,7 +4,7 @@
 use mathlib.Core.Path.{_≡_, refl, sym, _∙_, ap, subst}
 use mathlib.Core.Bool.{Bool, true, false}
 use mathlib.Core.List.{List, [], _∷_, _++_, flatMap, cons≢nil, List·Memᴰ, List·Memᴰ·head, List·Memᴰ·tail, Memᴰ·append-left, Memᴰ·append-right}
-use mathlib.Core.Option.{some}
+use mathlib.Core.Option.{Option, none, some}
 use Prim.Native.Nat.{ℕ, zero, suc, _+_, _<_}
 use native.Mathlib.Nat.{add-zero, zero-add, add-suc, suc-add}
 use native.Mathlib.Omega.{arith}
@@ -115,6 +115,23 @@ module _ {A : Type 0} where
   unfolding first
   first-found f [] e = let z : _≡_ {A = ℕ} 0 1 = cc in absurd (omega arith)
   first-found f (y ∷ l) e = first-choice f y l (f y) refl (λ q. first-found f l q) e
+
+  missed-choice : (f : A → Bool) (y : A) (l : List A) (b : Bool) → f y ≡ b → (first f l ≡ none → Every (λ x. f x ≡ false) l)
+      → _≡_ {A = Option A} (elim b [ true ↦ some y | false ↦ first f l ]) none → Every (λ x. f x ≡ false) (y ∷ l)
+  missed-choice f y l true p r q = let z : _≡_ {A = ℕ} 0 1 = cc in absurd (omega arith)
+  missed-choice f y l false p r q = every-cons (p, r q)
+
+  -- where the search for a first element finds none, no element passes
+  pub first-none : (f : A → Bool) (l : List A) → first f l ≡ none → Every (λ x. f x ≡ false) l
+  unfolding first
+  first-none f [] e = every-nil (λ x. f x ≡ false)
+  first-none f (y ∷ l) e = missed-choice f y l (f y) refl (first-none f l) e
+
+  -- and the other way round
+  pub first-missed : (f : A → Bool) (l : List A) → Every (λ x. f x ≡ false) l → first f l ≡ none
+  unfolding first
+  first-missed f [] h = refl
+  first-missed f (x ∷ l) h = let g = every-uncons h in rw (g .0, first) (first-missed f l (g .1))
 
 -- what every element of many lists joined has, every element of each of them has
 pub flatMap-every : {A B : Type 0} {P : B → Type 0} (f : A → List B) (l : List A) → Every P (flatMap f l)
