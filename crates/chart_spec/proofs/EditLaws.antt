@@ -55,7 +55,7 @@ pub record Closes (t u v : Triangle) (c : Point) : Type 0 where
   pub uc : u .b ≡ c
   pub vc : v .a ≡ c
 
-closes : (t u v : Triangle) → T (closesRound t u v) → Closes t u v (u .b)
+pub closes : (t u v : Triangle) → T (closesRound t u v) → Closes t u v (u .b)
 unfolding closesRound
 closes t u v h =
     let g = reflects-and₃ (samePoint-reflects (u .a) (t .b)) (samePoint-reflects (v .b) (t .a)) (samePoint-reflects (u .b) (v .a)) .to h in

@@ -10,6 +10,8 @@ pub mod LoadTable
 pub mod MergeLaws
 pub mod EventTable
 pub mod EventArea
+pub mod FlipUnique
+pub mod TakeOutUnique
 pub mod CellsLaws
 pub mod ReadingLaws
 pub mod OverlayLaws

@@ -2,7 +2,7 @@
 -- Assumes nothing.
 use mathlib.Core.Path.{_≡_, refl, sym, _∙_}
 use mathlib.Core.Bool.{Bool, true, false, _||_}
-use mathlib.Core.List.{[], _∷_, List·Memᴰ, List·Memᴰ·head, List·Memᴰ·tail}
+use mathlib.Core.List.{[], _∷_, List·Memᴰ, List·Memᴰ·head, List·Memᴰ·tail, List·Memᴰ·not-nil}
 use lib.Dec.{T}
 use Rattle.lists.proofs.ListsLaws.{Every, every-cons}
 use Rattle.lists.proofs.EveryLaws.{every-nil}
@@ -14,7 +14,7 @@ use Rattle.chart_spec.specs.Edits.{triangle, rotations, hasCorner, endin
 use Rattle.chart_spec.proofs.TriangleLaws.{area-rotate, proper-rotate, corners-differ}
 
 -- of a list of three
-three : (P : Triangle → Type 0) {t u v : Triangle} → P t → P u → P v → Every P (t ∷ u ∷ v ∷ [])
+pub three : (P : Triangle → Type 0) {t u v : Triangle} → P t → P u → P v → Every P (t ∷ u ∷ v ∷ [])
 three P h g k = every-cons (h, every-cons (g, every-cons (k, every-nil P)))
 
 -- what one turn keeps, every rotation has
@@ -65,3 +65,15 @@ rotations-apart t h =
     (three (λ u. Unshared t u) (λ d e. ab d) (λ d e. ca (sym d)) (λ d e. bc e))
     (three (λ u. Unshared (triangle (t .b) (t .c) (t .a)) u) (λ d e. ca e) (λ d e. bc d) (λ d e. ab (sym d)))
     (three (λ u. Unshared (triangle (t .c) (t .a) (t .b)) u) (λ d e. bc (sym d)) (λ d e. ab e) (λ d e. ca d))
+
+turned : (p q r : Point) {s : Triangle} → List·Memᴰ s (rotations (triangle p q r)) → List·Memᴰ s (rotations (triangle q r p))
+unfolding rotations triangle
+turned p q r (List·Memᴰ·head e) = List·Memᴰ·tail (List·Memᴰ·tail (List·Memᴰ·head e))
+turned p q r (List·Memᴰ·tail (List·Memᴰ·head e)) = List·Memᴰ·head e
+turned p q r (List·Memᴰ·tail (List·Memᴰ·tail (List·Memᴰ·head e))) = List·Memᴰ·tail (List·Memᴰ·head e)
+turned p q r (List·Memᴰ·tail (List·Memᴰ·tail (List·Memᴰ·tail m))) = absurd (List·Memᴰ·not-nil m)
+
+-- two rotations of a triangle are rotations of one another
+pub rotations-same : (t : Triangle) → Every (λ s. Every (λ r. List·Memᴰ r (rotations s)) (rotations t)) (rotations t)
+rotations-same t =
+    rotations-every (λ s. Every (λ r. List·Memᴰ r (rotations s)) (rotations t)) (λ p q r h x m. turned p q r (h x m)) t (λ x m. m)

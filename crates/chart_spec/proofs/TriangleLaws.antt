@@ -111,3 +111,7 @@ flat p r h = omega (arith, doubled p p r h, area-positive p p r h)
 -- the corners of a triangle with D > 0 differ
 pub corners-differ : (p q r : Point) → T (proper (triangle p q r)) → p ≡ q → ⊥
 corners-differ p q r h e = flat p r (subst (λ s. T (proper (triangle p s r))) (sym e) h)
+
+-- a triangle with D > 0 has not in the other direction
+pub reversed-proper : (p q r : Point) → T (proper (triangle p q r)) → T (proper (triangle q p r)) → ⊥
+reversed-proper p q r h g = omega (arith, order p q r .to h, order q p r .to g)
