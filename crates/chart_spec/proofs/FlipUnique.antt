@@ -20,8 +20,8 @@ use Rattle.chart_spec.specs.Table.{Table, numbered}
 use Rattle.chart_spec.specs.Refusals.{refused, refuseIf, noFlip}
 use Rattle.chart_spec.specs.Edits.{triangle, rotations, sharesSide, flipAs, flipWith, flipAmong, flipTable}
 use Rattle.chart_spec.proofs.TableLaws.{proper-at}
-use Rattle.chart_spec.proofs.TriangleLaws.{proper-rotate, corners-differ, reversed-proper}
-use Rattle.chart_spec.proofs.RotationLaws.{three, rotations-same, rotations-proper}
+use Rattle.chart_spec.proofs.TriangleLaws.{reversed-proper}
+use Rattle.chart_spec.proofs.RotationLaws.{three, corners-apart, rotations-same, rotations-proper}
 use Rattle.chart_spec.proofs.MergeLaws.{named}
 
 -- u has the side ab of t in the other direction
@@ -31,19 +31,6 @@ Facing t u = (t .a ≡ u .b) × (t .b ≡ u .a)
 facing : (t u : Triangle) → T (sharesSide t u) → Facing t u
 unfolding sharesSide
 facing t u h = reflects-and (samePoint-reflects (t .a) (u .b)) (samePoint-reflects (t .b) (u .a)) .to h
-
-record Corners (t : Triangle) : Type 0 where
-  ab : t .a ≡ t .b → ⊥
-  bc : t .b ≡ t .c → ⊥
-  ca : t .c ≡ t .a → ⊥
-
-differ : (t : Triangle) → T (proper t) → Corners t
-unfolding triangle
-differ t h = record {
-  ab = corners-differ (t .a) (t .b) (t .c) h;
-  bc = corners-differ (t .b) (t .c) (t .a) (rw (proper-rotate (t .a) (t .b) (t .c)) h);
-  ca = corners-differ (t .c) (t .a) (t .b) (rw (← proper-rotate (t .c) (t .a) (t .b)) h);
-}
 
 -- of (a,b,c) and (b,a,d) no other rotations do
 module _ (t u : Triangle) (ht : T (proper t)) (hu : T (proper u)) (f : Facing t u) where
@@ -56,8 +43,7 @@ module _ (t u : Triangle) (ht : T (proper t)) (hu : T (proper u)) (f : Facing t 
   side-once : Every (λ s. Every (λ r. Facing s r → (t ≡ s) × (u ≡ r)) (rotations u)) (rotations t)
   unfolding rotations triangle
   side-once =
-      let d = differ t ht in
-      let e = differ u hu in
+      let d = corners-apart t ht in
       let s₁ = triangle (t .b) (t .c) (t .a) in
       let s₂ = triangle (t .c) (t .a) (t .b) in
       three (λ s. Every (λ r. Facing s r → (t ≡ s) × (u ≡ r)) (rotations u))

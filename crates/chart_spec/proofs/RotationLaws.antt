@@ -50,6 +50,21 @@ endingIn-rotation p t h =
     ending p t (samePoint p (t .a)) (samePoint p (t .b)) (samePoint p (t .c))
     (samePoint-reflects p (t .a) .to) (samePoint-reflects p (t .b) .to) (samePoint-reflects p (t .c) .to) h
 
+-- the corners of a triangle differ
+pub record Corners (t : Triangle) : Type 0 where
+  pub ab : t .a ≡ t .b → ⊥
+  pub bc : t .b ≡ t .c → ⊥
+  pub ca : t .c ≡ t .a → ⊥
+
+-- they do where D > 0
+pub corners-apart : (t : Triangle) → T (proper t) → Corners t
+unfolding triangle
+corners-apart t h = record {
+  ab = corners-differ (t .a) (t .b) (t .c) h;
+  bc = corners-differ (t .b) (t .c) (t .a) (rw (proper-rotate (t .a) (t .b) (t .c)) h);
+  ca = corners-differ (t .c) (t .a) (t .b) (rw (← proper-rotate (t .c) (t .a) (t .b)) h);
+}
+
 -- s does not have the side ab of u in the other direction
 abbrev Unshared : Triangle → Triangle → Type 0
 Unshared s u = s .a ≡ u .b → s .b ≡ u .a → ⊥
@@ -58,13 +73,11 @@ Unshared s u = s .a ≡ u .b → s .b ≡ u .a → ⊥
 pub rotations-apart : (t : Triangle) → T (proper t) → Every (λ s. Every (λ u. s .a ≡ u .b → s .b ≡ u .a → ⊥) (rotations t)) (rotations t)
 unfolding rotations triangle
 rotations-apart t h =
-    let ab = corners-differ (t .a) (t .b) (t .c) h in
-    let bc = corners-differ (t .b) (t .c) (t .a) (rw (proper-rotate (t .a) (t .b) (t .c)) h) in
-    let ca = corners-differ (t .c) (t .a) (t .b) (rw (← proper-rotate (t .c) (t .a) (t .b)) h) in
+    let d = corners-apart t h in
     three (λ s. Every (λ u. Unshared s u) (rotations t))
-    (three (λ u. Unshared t u) (λ d e. ab d) (λ d e. ca (sym d)) (λ d e. bc e))
-    (three (λ u. Unshared (triangle (t .b) (t .c) (t .a)) u) (λ d e. ca e) (λ d e. bc d) (λ d e. ab (sym d)))
-    (three (λ u. Unshared (triangle (t .c) (t .a) (t .b)) u) (λ d e. bc (sym d)) (λ d e. ab e) (λ d e. ca d))
+    (three (λ u. Unshared t u) (λ x y. d .ab x) (λ x y. d .ca (sym x)) (λ x y. d .bc y))
+    (three (λ u. Unshared (triangle (t .b) (t .c) (t .a)) u) (λ x y. d .ca y) (λ x y. d .bc x) (λ x y. d .ab (sym x)))
+    (three (λ u. Unshared (triangle (t .c) (t .a) (t .b)) u) (λ x y. d .bc (sym x)) (λ x y. d .ab y) (λ x y. d .ca x))
 
 turned : (p q r : Point) {s : Triangle} → List·Memᴰ s (rotations (triangle p q r)) → List·Memᴰ s (rotations (triangle q r p))
 unfolding rotations triangle

@@ -9,16 +9,15 @@ use Rattle.plane.specs.Triangle.{Triangle, proper}
 use Rattle.chart_spec.specs.Table.{Table}
 use Rattle.chart_spec.specs.Refusals.{Outcome, refused, done, notThreeAround}
 use Rattle.chart_spec.specs.Edits.{triangle, closesRound, mergeAround, mergeThree}
-use Rattle.chart_spec.proofs.TriangleLaws.{corners-differ}
+use Rattle.chart_spec.proofs.RotationLaws.{corners-apart}
 use Rattle.chart_spec.proofs.EditLaws.{closes}
 
 -- three triangles close round in one order only
 pub closes-once : (t u v : Triangle) → T (proper u) → T (closesRound t u v) → T (closesRound t v u) → ⊥
-unfolding triangle
 closes-once t u v hu h g =
     let c = closes t u v h in
     let d = closes t v u g in
-    corners-differ (u .a) (u .b) (u .c) hu (c .ub ∙ sym (d .ub) ∙ c .vc)
+    corners-apart u hu .ab (c .ub ∙ sym (d .ub) ∙ c .vc)
 
 -- so it does not matter which of the other two comes first
 pub merge-either : (table : Table) (i j k : ℕ) (t u v : Triangle) → T (proper u) → mergeThree table i j k t u v ≡ mergeThree table i j k t v u
