@@ -31,6 +31,7 @@ pub record Split (t : ℕ) (p : Point) (table next : Table) : Type 0 where
   pub room : length table + 2 ≤ maxTriangles
   pub is : next ≡ splitAt table t (numbered table t) p
 
+-- an accepted split is one
 pub split-done : (t : ℕ) (p : Point) (table next : Table) → splitTable t p table ≡ done next → Split t p table next
 unfolding splitTable
 split-done t p table next e =
@@ -55,6 +56,7 @@ pub record Closes (t u v : Triangle) (c : Point) : Type 0 where
   pub uc : u .b ≡ c
   pub vc : v .a ≡ c
 
+-- the test `closesRound` says so
 pub closes : (t u v : Triangle) → T (closesRound t u v) → Closes t u v (u .b)
 unfolding closesRound
 closes t u v h =
@@ -131,6 +133,7 @@ three-done p table next (i ∷ j ∷ k ∷ []) (rising-more a b (rising-more ij 
     }
 three-done p table next (i ∷ j ∷ k ∷ l ∷ is) r h e = absurd (refused-done e)
 
+-- an accepted take-out is one
 pub takeOut-done : (p : Point) (table next : Table) → takeOutTable p table ≡ done next → TakenOut p table next
 unfolding takeOutTable numbered
 takeOut-done p table next e =

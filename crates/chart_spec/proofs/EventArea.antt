@@ -19,15 +19,15 @@ use Rattle.chart_spec.specs.Reading.{totalArea}
 use Rattle.chart_spec.specs.Refusals.{done}
 use Rattle.chart_spec.specs.Edits.{Event, load, split, takeOut, flip, triangle, rotations, splitAt, splitTable, takeOutTable, flipTable, proposed, eventOn}
 use Rattle.chart_spec.proofs.TableLaws.{proper-at}
-use Rattle.chart_spec.proofs.TriangleLaws.{inside-parts, area-around, area-across}
+use Rattle.chart_spec.proofs.TriangleLaws.{named, inside-parts, area-around, area-across}
 use Rattle.chart_spec.proofs.RotationLaws.{rotations-area, rotations-proper, rotations-apart}
 use Rattle.chart_spec.proofs.GridLaws.{table-proper}
 use Rattle.chart_spec.proofs.EditLaws.{split-done, mergedTriangle, takeOut-done}
 use Rattle.chart_spec.proofs.FlipLaws.{Flipped, flip-done}
-use Rattle.chart_spec.proofs.MergeLaws.{named, taken-sum, merge-sum}
+use Rattle.chart_spec.proofs.MergeLaws.{taken-sum, merge-sum}
 use Rattle.chart_spec.proofs.EventTable.{event-proposed}
 
--- a split keeps it
+-- a split keeps the sum of the doubled areas
 pub split-area : (t : ℕ) (p : Point) (table next : Table) → splitTable t p table ≡ done next → totalArea next ≡ totalArea table
 unfolding totalArea numbered splitAt triangle sumOf
 split-area t p table next e =
@@ -46,7 +46,7 @@ split-area t p table next e =
       area-around (u .a) (u .b) (u .c) p (d .0) (d .1 .0) (d .1 .1),
     ))
 
--- a take-out keeps it
+-- a take-out keeps the sum of the doubled areas
 pub takeOut-area : (p : Point) (table next : Table) → Every (λ t. T (proper t)) table → takeOutTable p table ≡ done next
     → totalArea next ≡ totalArea table
 unfolding totalArea
@@ -57,7 +57,7 @@ takeOut-area p table next good e =
     (omega
     (arith, merge-sum table (s .i) (s .j) (s .k) m (s .ij) (s .jk) (s .below) (λ t. doubledArea t), taken-sum s good .area))
 
--- two places of a table get other triangles
+-- the sum over a table, two places of which get other triangles
 two-sum : (f : Triangle → ℕ) (table : Table) (i j : ℕ) (x y : Triangle) → (j ≡ i → ⊥) → i < length table → j < length table
     → sumOf f (set (set table i x) j y) + (f (numbered table i) + f (numbered table j)) ≡ sumOf f table + (f x + f y)
 unfolding numbered
@@ -93,7 +93,7 @@ module _ {i j : ℕ} {table next : Table} (s : Flipped i j table next) (good : E
       area-across (t .a) (t .b) (t .c) (u .c) (subst (λ s. T (proper s)) e p) (subst (λ s. T (proper s)) f q) (s .properI) (s .properJ) in
       omega (arith, across, a, b, ap (λ s. doubledArea s) e, ap (λ s. doubledArea s) f)
 
--- a flip keeps it
+-- a flip keeps the sum of the doubled areas
 pub flip-area : (i j : ℕ) (table next : Table) → Every (λ t. T (proper t)) table → flipTable i j table ≡ done next
     → totalArea next ≡ totalArea table
 unfolding totalArea
@@ -104,7 +104,7 @@ flip-area i j table next good e =
     rw (s .is)
     (omega (arith, two-sum (λ t. doubledArea t) table i j x y (flip-differ s good) (s .belowI) (s .belowJ), flip-both s good))
 
--- each event but a load keeps it
+-- so does each event that is no load, in the table that it proposes
 pub edit-area : (e : Event) (table next : Table) → ((ns : List ℕ) → e ≡ load ns → ⊥) → IsTable table → proposed e table ≡ done next
     → totalArea next ≡ totalArea table
 unfolding proposed
@@ -113,7 +113,7 @@ edit-area (split t p) table next n h d = split-area t p table next d
 edit-area (takeOut p) table next n h d = takeOut-area p table next (table-proper h) d
 edit-area (flip i j) table next n h d = flip-area i j table next (table-proper h) d
 
--- also with its entries counted
+-- and in the table that it leaves, where it is accepted
 pub event-area : (e : Event) (table next : Table) → ((ns : List ℕ) → e ≡ load ns → ⊥) → IsTable table → eventOn e table ≡ done next
     → totalArea next ≡ totalArea table
 event-area e table next n h d = edit-area e table next n h (event-proposed e table next d)

@@ -37,7 +37,7 @@ turn : (p q r : Point) → IsTriangle (triangle p q r) → IsTriangle (triangle 
 unfolding triangle
 turn p q r h = record { oriented = rw (proper-rotate p q r) (h .oriented); a = h .b; b = h .c; c = h .a }
 
--- each rotation of a triangle of a table could be one too
+-- a rotation of a triangle with D > 0 on the grid is one too
 rotation : (t : Triangle) → IsTriangle t → Every IsTriangle (rotations t)
 rotation t h = rotations-every IsTriangle turn t h
 
@@ -92,7 +92,7 @@ module _ {table : Table} (h : IsTable table) where
 
 -- ---- events
 
--- the table that an event proposes is one
+-- the table that an event makes, before its entries are counted, is a table
 pub proposed-table : (e : Event) (table next : Table) → T (sixteenBitEvent e) → IsTable table → proposed e table ≡ done next → IsTable next
 unfolding sixteenBitEvent proposed
 proposed-table (load ns) table next w h e = load-table ns next w e
@@ -113,7 +113,7 @@ event-proposed e table next h = go (proposed e table) h
 pub event-table : (e : Event) (table next : Table) → T (sixteenBitEvent e) → IsTable table → eventOn e table ≡ done next → IsTable next
 event-table e table next w h d = proposed-table e table next w h (event-proposed e table next d)
 
--- so does any event
+-- a refused event changes nothing, so any event leaves a table
 pub after-event-table : (e : Event) (table : Table) → T (sixteenBitEvent e) → IsTable table → IsTable (afterEvent e table)
 unfolding afterEvent doneOr
 after-event-table e table w h = go (eventOn e table) (λ next d. event-table e table next w h d)
@@ -122,7 +122,7 @@ after-event-table e table w h = go (eventOn e table) (λ next d. event-table e t
     go (refused r) f = h
     go (done next) f = f next refl
 
--- and any list of events
+-- so does any list of events
 pub after-events-table : (es : List Event) (table : Table) → T (all (λ e. sixteenBitEvent e) es) → IsTable table → IsTable (afterEvents es table)
 unfolding afterEvents
 after-events-table [] table w h = h
@@ -132,7 +132,7 @@ after-events-table (e ∷ es) table w h =
     (all-reflects (λ e. sixteenBitEvent e) (λ e. reflects-test (sixteenBitEvent e)) es .from (g .1))
     (after-event-table e table (g .0) h)
 
--- the plain table is a table
+-- the plain table, which starts empty, is a table after any events
 pub plain-table : (es : List Event) → T (all (λ e. sixteenBitEvent e) es) → IsTable (plainTable es)
 unfolding plainTable
 plain-table es w = after-events-table es [] w (triangles-table (omega arith) (every-nil IsTriangle))

@@ -58,6 +58,7 @@ among-done table next i j us (t ∷ ts) e = go (first (λ u. sharesSide t u) us)
         let s = first-found (λ u. sharesSide t u) us f in
         record { t = t; u = u; inT = List·Memᴰ·head refl; inU = s .0; shares = s .1; flips = e }
 
+-- an accepted flip is one
 pub flip-done : (i j : ℕ) (table next : Table) → flipTable i j table ≡ done next → Flipped i j table next
 unfolding flipTable flipAs sharesSide
 flip-done i j table next e =

@@ -20,9 +20,8 @@ use Rattle.chart_spec.specs.Table.{Table, numbered}
 use Rattle.chart_spec.specs.Refusals.{refused, refuseIf, noFlip}
 use Rattle.chart_spec.specs.Edits.{triangle, rotations, sharesSide, flipAs, flipWith, flipAmong, flipTable}
 use Rattle.chart_spec.proofs.TableLaws.{proper-at}
-use Rattle.chart_spec.proofs.TriangleLaws.{reversed-proper}
+use Rattle.chart_spec.proofs.TriangleLaws.{named, reversed-proper}
 use Rattle.chart_spec.proofs.RotationLaws.{three, corners-apart, rotations-same, rotations-proper}
-use Rattle.chart_spec.proofs.MergeLaws.{named}
 
 -- u has the side ab of t in the other direction
 abbrev Facing : Triangle → Triangle → Type 0

@@ -15,14 +15,9 @@ use Rattle.plane.specs.Triangle.{Triangle, proper, doubledArea}
 use Rattle.chart_spec.specs.Table.{Table, numbered, noTriangle}
 use Rattle.chart_spec.specs.Edits.{triangle, endingIn, hasCorner, mergeAround}
 use Rattle.chart_spec.proofs.TableLaws.{proper-at}
-use Rattle.chart_spec.proofs.TriangleLaws.{area-around, proper-around}
+use Rattle.chart_spec.proofs.TriangleLaws.{named, area-around, proper-around}
 use Rattle.chart_spec.proofs.RotationLaws.{rotations-area, rotations-proper, endingIn-rotation}
 use Rattle.chart_spec.proofs.EditLaws.{Closes, mergedTriangle, TakenOut}
-
--- a triangle by its corners
-pub named : (t : Triangle) {a b c : Point} → t .a ≡ a → t .b ≡ b → t .c ≡ c → t ≡ triangle a b c
-unfolding triangle
-named t x y z i = record { a = x i; b = y i; c = z i }
 
 -- what three triangles around a point make
 pub record Sum (t u v s : Triangle) : Type 0 where

@@ -16,6 +16,11 @@ use Rattle.plane.proofs.OrientLaws.{orientLow, orientHigh, orient-difference, o
 use Rattle.lists.proofs.Reflects.{Reflects, reflects-le, reflects-test, reflects-and₃}
 use Rattle.chart_spec.specs.Edits.{triangle}
 
+-- a triangle by its corners
+pub named : (t : Triangle) {a b c : Point} → t .a ≡ a → t .b ≡ b → t .c ≡ c → t ≡ triangle a b c
+unfolding triangle
+named t x y z i = record { a = x i; b = y i; c = z i }
+
 -- D(p,q,r) is n
 abbrev Doubled : Point → Point → Point → ℕ → Type 0
 Doubled p q r n = orientHigh p q r ≡ orientLow p q r + n
@@ -25,11 +30,12 @@ order : (p q r : Point) → Reflects (proper (triangle p q r)) (orientLow p q r 
 unfolding triangle proper
 order p q r = reflects-le (orient-positive p q r)
 
--- where D > 0 it is the doubled area, which is above zero
+-- where D > 0 it is the doubled area
 doubled : (p q r : Point) → T (proper (triangle p q r)) → Doubled p q r (doubledArea (triangle p q r))
 unfolding triangle doubledArea
 doubled p q r h = omega (arith, order p q r .to h, diff-natAbs (orient-difference p q r))
 
+-- which is above zero
 pub area-positive : (p q r : Point) → T (proper (triangle p q r)) → 0 < doubledArea (triangle p q r)
 area-positive p q r h = omega (arith, order p q r .to h, doubled p q r h)
 
@@ -67,10 +73,11 @@ module _ (a b c p : Point) (ab : T (proper (triangle a b p))) (bc : T (proper (t
   doubled-around =
       around (a .x) (a .y) (b .x) (b .y) (c .x) (c .y) (p .x) (p .y) _ _ _ (doubled a b p ab) (doubled b c p bc) (doubled c a p ca)
 
+  -- so the doubled areas add up
   pub area-around : doubledArea (triangle a b c) ≡ doubledArea (triangle a b p) + doubledArea (triangle b c p) + doubledArea (triangle c a p)
   area-around = doubled-area a b c _ doubled-around
 
-  -- so it is above zero where these are
+  -- and D(a,b,c) > 0 where these three are
   pub proper-around : T (proper (triangle a b c))
   proper-around = doubled-proper a b c _ doubled-around (omega (arith, area-positive a b p ab))
 
@@ -112,6 +119,6 @@ flat p r h = omega (arith, doubled p p r h, area-positive p p r h)
 pub corners-differ : (p q r : Point) → T (proper (triangle p q r)) → p ≡ q → ⊥
 corners-differ p q r h e = flat p r (subst (λ s. T (proper (triangle p s r))) (sym e) h)
 
--- a triangle with D > 0 has not in the other direction
+-- of a triangle and its reverse at most one has D > 0
 pub reversed-proper : (p q r : Point) → T (proper (triangle p q r)) → T (proper (triangle q p r)) → ⊥
 reversed-proper p q r h g = omega (arith, order p q r .to h, order q p r .to g)
