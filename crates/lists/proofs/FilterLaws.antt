@@ -1,11 +1,13 @@
--- `filter` of joined lists, and of lists whose elements all pass or all fail.
+-- `filter` of joined lists, and of lists whose elements all pass or all fail; what the elements that pass have.
 -- Each law is an induction on the list.
 -- Assumes nothing.
 use mathlib.Core.Path.{_≡_, refl, _∙_, ap}
 use mathlib.Core.Bool.{Bool, true, false}
 use mathlib.Core.List.{List, [], _∷_, _++_}
+use lib.Dec.{T}
 use Rattle.lists.specs.Lists.{filter}
-use Rattle.lists.proofs.ListsLaws.{Every, every-uncons}
+use Rattle.lists.proofs.ListsLaws.{Every, every-cons, every-uncons}
+use Rattle.lists.proofs.EveryLaws.{every-nil}
 
 module _ {A : Type 0} (f : A → Bool) where
   -- an element that passes is kept
@@ -40,3 +42,14 @@ module _ {A : Type 0} (f : A → Bool) where
   unfolding filter
   filter-none [] h = refl
   filter-none (x ∷ xs) h = let g = every-uncons h in filter-fail x xs (g .0) ∙ filter-none xs (g .1)
+
+-- elements that pass a test have what every element has, and pass it
+pub every-filter : {A : Type 0} {P : A → Type 0} (f : A → Bool) (l : List A) → Every P l → Every (λ x. P x × T (f x)) (filter f l)
+unfolding filter
+every-filter {P = P} f [] h = every-nil (λ x. P x × T (f x))
+every-filter {A} {P} f (y ∷ ys) h = let g = every-uncons h in go (f y) refl (g .0) (every-filter f ys (g .1))
+  where
+    go : (b : Bool) → f y ≡ b → P y → Every (λ x. P x × T (f x)) (filter f ys)
+        → Every (λ x. P x × T (f x)) (elim b [ true ↦ y ∷ filter f ys | false ↦ filter f ys ])
+    go true e p r = every-cons ((p, rw e tt), r)
+    go false e p r = r

@@ -8,6 +8,7 @@ pub mod Order
 pub mod MemberLaws
 pub mod OrderLaws
 pub mod SumLaws
+pub mod LowestLaws
 pub mod Runs
 pub mod IndexLaws
 pub mod Examples

@@ -1,16 +1,18 @@
 -- Lists in which each element stands in a relation to every later one, and strictly ascending lists of numbers.
 -- Assumes nothing.
-use mathlib.Core.Path.{_≡_, sym, _∙_}
+use mathlib.Core.Path.{_≡_, refl, sym, _∙_}
 use mathlib.Core.Bool.{Bool, true, false}
-use mathlib.Core.List.{List, [], _∷_, List·Memᴰ, List·Memᴰ·not-nil, List·Memᴰ·cases-cons}
+use mathlib.Core.List.{List, [], _∷_, map, List·Memᴰ, List·Memᴰ·not-nil, List·Memᴰ·cases-cons}
 use mathlib.Core.Logic.{_⊎_, inl, inr}
 use Prim.Native.Nat.{ℕ, zero, suc, _+_, _≤_, _<_}
 use native.Mathlib.Nat.{le-refl, le-trans, le-suc}
 use native.Mathlib.Omega.{arith}
+use lib.Dec.{T}
 use lib.ListN.{length, getD}
-use Rattle.lists.specs.Lists.{placesFrom}
-use Rattle.lists.proofs.ListsLaws.{Every, every-cons, getD-member}
-use Rattle.lists.proofs.EveryLaws.{every-nil, every-imp}
+use Rattle.lists.specs.Lists.{filter, placesFrom}
+use Rattle.lists.proofs.ListsLaws.{Every, every-cons, every-uncons, getD-member}
+use Rattle.lists.proofs.EveryLaws.{every-nil, every-imp, every-map}
+use Rattle.lists.proofs.FilterLaws.{every-filter}
 
 -- each element stands in the relation to every later one
 pub data Ordered {A : Type 0} (R : A → A → Type 0) : List A → Type 0 where
@@ -49,6 +51,23 @@ pub ordered-imp : {A : Type 0} {R S : A → A → Type 0} {l : List A} → ((x y
 ordered-imp f ordered-none = ordered-none
 ordered-imp f (ordered-more {x = x} r o) = ordered-more (every-imp (f x) r) (ordered-imp f o)
 
+-- of the images: what the elements stand in by their images
+pub ordered-map : {A B : Type 0} {R : B → B → Type 0} (g : A → B) {l : List A} → Ordered (λ x y. R (g x) (g y)) l → Ordered R (map g l)
+ordered-map g ordered-none = ordered-none
+ordered-map {R = R} g (ordered-more {x = x} {xs = xs} r o) = ordered-more (every-map (λ b. R (g x) b) g xs r) (ordered-map g o)
+
+-- of the elements that pass a test, which both pass it
+pub ordered-filter : {A : Type 0} {R : A → A → Type 0} (f : A → Bool) {l : List A} → Ordered R l
+    → Ordered (λ x y. R x y × (T (f x) × T (f y))) (filter f l)
+unfolding filter
+ordered-filter f ordered-none = ordered-none
+ordered-filter {A} {R} f (ordered-more {x = z} {xs = zs} r o) = go (f z) refl (ordered-filter f o)
+  where
+    go : (b : Bool) → f z ≡ b → Ordered (λ x y. R x y × (T (f x) × T (f y))) (filter f zs)
+        → Ordered (λ x y. R x y × (T (f x) × T (f y))) (elim b [ true ↦ z ∷ filter f zs | false ↦ filter f zs ])
+    go true e rest = ordered-more (every-imp (λ y h. (h .0, (rw e tt, h .1))) (every-filter f zs r)) rest
+    go false e rest = rest
+
 -- the numbers are from a on and below b, strictly ascending
 pub data Rising : ℕ → ℕ → List ℕ → Type 0 where
   rising-none : {a b : ℕ} → Rising a b []
@@ -68,6 +87,13 @@ rising-members (rising-more l u r) = every-cons ((l, u), λ j m. let h = rising-
 pub rising-ordered : {a b : ℕ} {is : List ℕ} → Rising a b is → Ordered (λ i j. i < j) is
 rising-ordered rising-none = ordered-none
 rising-ordered (rising-more {i = i} l u r) = ordered-more {x = i} (λ j m. let h = rising-members r j m in omega arith) (rising-ordered r)
+
+-- numbers that are each below every later one, from a on and below b
+pub ordered-rising : {a b : ℕ} {is : List ℕ} → Ordered (λ i j. i < j) is → Every (λ i. (a ≤ i) × (i < b)) is → Rising a b is
+ordered-rising ordered-none h = rising-none
+ordered-rising (ordered-more {x = i} r o) h =
+    let g = every-uncons h in
+    rising-more (g .0 .0) (g .0 .1) (ordered-rising o (λ j m. let k = r j m in let n = g .1 j m in omega arith))
 
 rising-choice : (t : Bool) {a b : ℕ} {is : List ℕ} → a < b → Rising (suc a) b is → Rising a b (elim t [ true ↦ a ∷ is | false ↦ is ])
 rising-choice true {a} h r = rising-more (le-refl a) h r

@@ -1,6 +1,6 @@
 -- What the chain rule gives: keys never fall, different cells have no key in common, and each key of the tree lies in a cell.
--- The idea: of two entries the later one is of the same cell or starts where the earlier one's cell ends or after it
--- (`chain-ordered`, by induction along the chain). The rest follows from this.
+-- The idea: of two entries the later one is a further item of the same cell or starts where the earlier one's cell ends or
+-- after it (`chain-ordered`, by induction along the chain). The rest follows from this.
 -- Assumes nothing.
 use mathlib.Core.Path.{_≡_, sym, _∙_, ap}
 use mathlib.Core.List.{List, _∷_, List·Memᴰ}
@@ -15,22 +15,27 @@ use Rattle.lists.proofs.EveryLaws.{every-nil, every-imp}
 use Rattle.lists.proofs.Order.{Ordered, ordered-none, ordered-more, ordered-at, ordered-pair}
 use Rattle.orthtree.specs.Entries.{Entry, span, rangeEnd, chain}
 use Rattle.orthtree.proofs.EntriesLaws.{InRange, CommonKey}
-use Rattle.orthtree.proofs.ChainLaws.{SameCell, same-end, Fits, Follows, ChainAfter, last, link, ChainFrom, end, start, chain-reflects}
+use Rattle.orthtree.proofs.ChainLaws.{SameCell, NextItem, same-end, Fits, Follows, ChainAfter, last, link, ChainFrom, end, start, chain-reflects}
 
 module _ (arity depth : ℕ) where
-  -- f may stand somewhere after e: it is of the same cell, or starts where e's cell ends or after that
+  -- f may stand somewhere after e: it is a further item of the same cell, or starts where e's cell ends or after that
   abbrev pub Before : Entry → Entry → Type 0
-  Before e f = SameCell e f ⊎ (rangeEnd arity depth e ≤ f .key)
+  Before e f = NextItem e f ⊎ (rangeEnd arity depth e ≤ f .key)
 
   before-step : {e f g : Entry} → Follows arity depth e f → Before f g → Before e g
   unfolding rangeEnd
-  before-step (inl n) (inl s) = inl (record { key = n .cell .key ∙ s .key; level = n .cell .level ∙ s .level })
+  before-step (inl n) (inl s) = inl (record {
+    cell = record { key = n .cell .key ∙ s .cell .key; level = n .cell .level ∙ s .cell .level };
+    higher = omega (arith, n .higher, s .higher);
+    firstItem = n .firstItem;
+    secondItem = s .secondItem;
+  })
   before-step (inl n) (inr h) = inr (rw (same-end arity depth (n .cell)) h)
-  before-step (inr h) (inl s) = inr (omega (arith, s .key))
+  before-step (inr h) (inl s) = inr (omega (arith, s .cell .key))
   before-step (inr h) (inr g) = inr (omega arith)
 
   follows-before : {e f : Entry} → Follows arity depth e f → Before e f
-  follows-before (inl n) = inl (n .cell)
+  follows-before (inl n) = inl n
   follows-before (inr h) = inr (omega arith)
 
   after-before : {count : ℕ} {e : Entry} {es : List Entry} → ChainAfter arity depth count e es → Every (λ f. Before e f) es
@@ -56,17 +61,17 @@ module _ (arity depth : ℕ) where
   -- an entry's cell starts no later than that of an entry after it
   pub before-key : {e f : Entry} → Before e f → e .key ≤ f .key
   unfolding rangeEnd
-  before-key (inl s) = omega (arith, s .key)
+  before-key (inl s) = omega (arith, s .cell .key)
   before-key (inr h) = omega arith
 
   -- and ends no later
   pub before-end : {e f : Entry} → Before e f → rangeEnd arity depth e ≤ rangeEnd arity depth f
   unfolding rangeEnd
-  before-end (inl s) = omega (arith, same-end arity depth s)
+  before-end (inl s) = omega (arith, same-end arity depth (s .cell))
   before-end (inr h) = omega arith
 
-  -- cells with a key in common are the same
-  before-common : {e f : Entry} (k : ℕ) → Before e f → InRange arity depth k e → InRange arity depth k f → SameCell e f
+  -- where the two cells have a key in common, it is a further item of the same cell
+  pub before-common : {e f : Entry} (k : ℕ) → Before e f → InRange arity depth k e → InRange arity depth k f → NextItem e f
   before-common k (inl s) p q = s
   before-common k (inr h) p q = absurd (omega (arith, p .ends, q .starts))
 
@@ -91,7 +96,7 @@ module _ (arity depth : ℕ) where
     from : ChainFrom arity depth count 0 es
     from = chain-reflects arity depth pos count es .to rule
 
-    -- a later entry is of the same cell, or of one that starts where this one ends or after that
+    -- a later entry is a further item of the same cell, or of a cell that starts where this one ends or after that
     pub chain-ordered : Ordered (λ e f. Before e f) es
     chain-ordered = from-ordered from
 
@@ -109,8 +114,8 @@ module _ (arity depth : ℕ) where
       where
         go : (e ≡ f) ⊎ (Before e f ⊎ Before f e) → SameCell e f
         go (inl q) = record { key = ap (λ g. g .key) q; level = ap (λ g. g .level) q }
-        go (inr (inl b)) = before-common (c .key) b (c .first) (c .second)
-        go (inr (inr b)) = let s = before-common (c .key) b (c .second) (c .first) in record { key = sym (s .key); level = sym (s .level) }
+        go (inr (inl b)) = before-common (c .key) b (c .first) (c .second) .cell
+        go (inr (inr b)) = let s = before-common (c .key) b (c .second) (c .first) .cell in record { key = sym (s .key); level = sym (s .level) }
 
     -- each key of the tree lies in a cell
     pub chain-cover : (k : ℕ) → k < span arity depth 0 → Some (λ e. InRange arity depth k e) es

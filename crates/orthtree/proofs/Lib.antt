@@ -9,6 +9,7 @@ pub mod ChainTilingLaws
 pub mod ChainCellLaws
 pub mod ChainOrderLaws
 pub mod ChainBlockLaws
+pub mod ChainItemsLaws
 pub mod ChainHeadsLaws
 pub mod TogetherLaws
 pub mod MeetingsLaws

@@ -37,7 +37,7 @@ reach keys n m r l q = elim (decLe r m) [
 
 module _ (arity depth count : ℕ) (pos : 0 < arity) (es : List Entry) (rule : T (chain arity depth count es)) (d : Entry)
     (keys : List ℕ) (n : ℕ) (len : length es ≡ n) (same : (i : ℕ) → i < n → getD es i d .key ≡ getD keys i 0) where
-  -- a later entry is of the same cell, or of one that starts where this one ends or after that
+  -- a later entry is a further item of the same cell, or of a cell that starts where this one ends or after that
   before-at : (i j : ℕ) → i < j → j < n → Before arity depth (getD es i d) (getD es j d)
   before-at i j h l = ordered-at i j d (chain-ordered arity depth count pos es rule) h (omega arith)
 
@@ -112,7 +112,7 @@ module _ (arity depth count : ℕ) (pos : 0 < arity) (es : List Entry) (rule : T
           where
             go : Before arity depth (getD es i d) (getD es (to - 1) d) → rangeEnd arity depth (getD es i d) ≤ k
             go (inl s) =
-                absurd (omega (arith, s .key, same i (omega (arith, from-below, last-in)), q .before i l, last-key))
+                absurd (omega (arith, s .cell .key, same i (omega (arith, from-below, last-in)), q .before i l, last-key))
             go (inr h) = omega (arith, last-key, last-started)
 
         -- the entry at place from is of the cell that has the key
@@ -121,7 +121,7 @@ module _ (arity depth count : ℕ) (pos : 0 < arity) (es : List Entry) (rule : T
         first-goes-on = go (decLe (to - 1) from)
           where
             next : Before arity depth (getD es from d) (getD es (to - 1) d) → k < rangeEnd arity depth (getD es from d)
-            next (inl s) = omega (arith, last-goes-on, same-end arity depth s)
+            next (inl s) = omega (arith, last-goes-on, same-end arity depth (s .cell))
             next (inr h) =
                 let e = block-key from (omega arith) from-below in
                 absurd (omega (arith, span-positive arity depth (getD es from d .level) pos, same from (omega (arith, from-below, last-in)), last-key))
