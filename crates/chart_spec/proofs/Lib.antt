@@ -19,6 +19,7 @@ pub mod FilingLaws
 pub mod ChainOfTable
 pub mod MeetingsOfTable
 pub mod SharedGround
+pub mod LocateOfChain
 pub mod LocateOfTable
 pub mod MarkedCases
 pub mod Examples

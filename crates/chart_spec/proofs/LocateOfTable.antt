@@ -1,9 +1,10 @@
--- Locating a point by the entries of a table finds the lowest numbered triangle of the whole table that holds it.
+-- Locating a point by the entries of a table: the first listed triangle that passes a test that only triangles pass that hold the
+-- point is the first of the whole table.
 -- The idea: the entries that cover the point's key are those of the cell that the point lies in, and a triangle that holds the
 -- point meets that cell.
 -- Assumes nothing.
 use mathlib.Core.Path.{_≡_, refl, sym, _∙_, ap}
-use mathlib.Core.Bool.{true, not}
+use mathlib.Core.Bool.{Bool, true, not}
 use mathlib.Core.List.{List, _∷_, map, map-map, map-id, List·Memᴰ}
 use Prim.Native.Nat.{ℕ, _≤_}
 use native.Mathlib.Omega.{arith}
@@ -65,13 +66,20 @@ module _ (table : Table) (few : length table ≤ 512) (p : Point) (g : InGrid p)
       let b = u .down in
       holds-meets (numbered table i) (squareBox s) p k h (omega arith) (omega arith) (omega arith) (omega arith)
 
-  -- on a filed chart a point is located in the lowest numbered triangle of the whole table that holds it
-  pub locate-listing : Every (λ t. T (proper t)) table
-      → located table (entriesOf table) p ≡ first (λ i. holds (numbered table i) p) (upTo (length table))
-  unfolding located cells cellsIn
-  locate-listing good =
-      let c = leaf-of-point (λ q. stopped table q) p g in
-      let s = c .value in
-      ap (first (λ i. holds (numbered table i) p)) (listing-cell (c .member) (c .has) ∙ sym (meeting-filter table s))
-      ∙ first-narrow (λ i. holds (numbered table i) p) (λ i. triangleMeets (numbered table i) (squareBox s)) (upTo (length table))
-      (λ i m h. square-meets i s (proper-at table good i (upTo-to m)) (c .has) h)
+  module _ (good : Every (λ t. T (proper t)) table) where
+    -- of the listed triangles, the first that passes a test that only triangles pass that hold the point is the first of the whole
+    -- table
+    pub first-of-table : (f : ℕ → Bool) → ((i : ℕ) → T (f i) → T (holds (numbered table i) p))
+        → first f (listing (entriesOf table) p) ≡ first f (upTo (length table))
+    unfolding cells cellsIn
+    first-of-table f only =
+        let c = leaf-of-point (λ q. stopped table q) p g in
+        let s = c .value in
+        ap (first f) (listing-cell (c .member) (c .has) ∙ sym (meeting-filter table s))
+        ∙ first-narrow f (λ i. triangleMeets (numbered table i) (squareBox s)) (upTo (length table))
+        (λ i m h. square-meets i s (proper-at table good i (upTo-to m)) (c .has) (only i h))
+
+    -- on a filed chart a point is located in the lowest numbered triangle of the whole table that holds it
+    pub locate-listing : located table (entriesOf table) p ≡ first (λ i. holds (numbered table i) p) (upTo (length table))
+    unfolding located
+    locate-listing = first-of-table (λ i. holds (numbered table i) p) (λ i h. h)
