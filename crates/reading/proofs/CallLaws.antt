@@ -18,6 +18,7 @@ use Rattle.chart_spec.specs.Table.{triangleAt, numbered}
 use Rattle.chart_spec.specs.Refusals.{shortBuffer, brokenChain, done, refuseIf, outcomeNumber, doneOr}
 use Rattle.chart_spec.specs.Reading.{listing, located}
 use Rattle.chart_spec.proofs.TableLaws.{numbered-at}
+use Rattle.chart_spec.proofs.LocateOfChain.{listed-below}
 use Rattle.call_spec.specs.Buffers.{Chart, tooShort, zipEntries, chainRule, chartTable, chartEntries}
 use Rattle.call_spec.specs.Calls as Calls
 use Rattle.call_spec.specs.Calls.{reading, locateCall, listingCall}
@@ -27,7 +28,6 @@ use Rattle.answers.specs.declared.Located.the-variants as locations
 use Rattle.answers.specs.Outcomes.{locatedOf}
 use Rattle.reading.specs.Holding.{readable, foundOf}
 use Rattle.reading.proofs.FirstLaws.{first-agree}
-use Rattle.reading.proofs.ListedLaws.{listed-below}
 
 -- then the lists may be searched
 pub searchable : (c : Chart) → tooShort c ≡ false → chainRule c ≡ true

@@ -1,4 +1,3 @@
 pub mod FirstLaws
-pub mod ListedLaws
 pub mod CallLaws
 pub mod LocateLaws

@@ -1,16 +1,22 @@
--- On a filed chart locate finds the lowest numbered triangle of the whole table that holds the point.
+-- Locate finds the lowest numbered of the triangles listed in the point's cell that hold the point, on every chart that passes
+-- checks 1 and 2; on a filed chart that is the lowest numbered of the whole table.
+-- The laws before the last of each kind speak of any test, not only of whether a triangle holds the point.
 -- Assumes nothing.
 use mathlib.Core.Path.{_≡_, sym, _∙_, ap}
-use mathlib.Core.Bool.{true, false}
+use mathlib.Core.Bool.{Bool, true, false}
+use Prim.Native.Nat.{ℕ}
+use lib.Dec.{T}
 use lib.ListN.{length}
 use Rattle.lists.specs.Lists.{first, upTo}
+use Rattle.lists.proofs.LowestLaws.{Lowest}
 use Rattle.plane.specs.declared.Point.{Point}
 use Rattle.plane.specs.Triangle.{holds}
 use Rattle.squares.proofs.ZOrderLaws.{InGrid}
 use Rattle.chart_spec.specs.Table.{numbered}
 use Rattle.chart_spec.specs.Cells.{entriesOf}
-use Rattle.chart_spec.specs.Reading.{located}
-use Rattle.chart_spec.proofs.LocateOfTable.{locate-listing}
+use Rattle.chart_spec.specs.Reading.{listing, located}
+use Rattle.chart_spec.proofs.LocateOfChain.{first-listed}
+use Rattle.chart_spec.proofs.LocateOfTable.{first-of-table}
 use Rattle.chart_spec.proofs.TableLaws.{tableOf-length}
 use Rattle.call_spec.specs.Buffers.{Chart, tooShort, chainRule, filed, chartTable, chartEntries}
 use Rattle.call_spec.specs.Calls.{locateCall}
@@ -28,11 +34,29 @@ entries-filed : (c : Chart) → filed c ≡ true → chartEntries c ≡ entriesO
 unfolding filed
 entries-filed c f = sameEntries-reflects (chartEntries c) (entriesOf (chartTable c)) .to (rw f tt)
 
--- the triangle found is the lowest numbered of the whole table that holds the point
-pub locate-lowest : (c : Chart) (p : Point) → InGrid p → tooShort c ≡ false → chainRule c ≡ true → filed c ≡ true
-    → locateCall c p .found ≡ first (λ i. holds (numbered (chartTable c) i) p) (upTo (length (chartTable c)))
-locate-lowest c p g s r f =
-    let rule = ruled c r in
-    sym (ap (λ a. a .found) (located-done c p s r))
-    ∙ ap (λ es. located (chartTable c) es p) (entries-filed c f)
-    ∙ locate-listing (chartTable c) (rw table-length (rule .triangles)) p g (rule .good)
+module _ (c : Chart) (p : Point) (r : chainRule c ≡ true) where
+  -- of the triangles listed in the point's cell, the first that passes a test is the lowest numbered that passes it
+  pub lowest-listed : (f : ℕ → Bool) → Lowest f (listing (chartEntries c) p) (first f (listing (chartEntries c) p))
+  lowest-listed f = first-listed (c .triangleCount) (chartEntries c) (ruled c r .chained) p f
+
+  -- on a filed chart, for a test that only triangles pass that hold the point, that is the first of the whole table
+  pub first-filed : InGrid p → filed c ≡ true → (f : ℕ → Bool) → ((i : ℕ) → T (f i) → T (holds (numbered (chartTable c) i) p))
+      → first f (listing (chartEntries c) p) ≡ first f (upTo (length (chartTable c)))
+  first-filed g e f only =
+      let rule = ruled c r in
+      ap (λ es. first f (listing es p)) (entries-filed c e)
+      ∙ first-of-table (chartTable c) (rw table-length (rule .triangles)) p g (rule .good) f only
+
+  module _ (s : tooShort c ≡ false) where
+    found-first : locateCall c p .found ≡ first (λ i. holds (numbered (chartTable c) i) p) (listing (chartEntries c) p)
+    unfolding located
+    found-first = sym (ap (λ a. a .found) (located-done c p s r))
+
+    -- the triangle found is the lowest numbered of those listed that hold the point; nowhere is answered only if none of them holds it
+    pub locate-lowest-listed : Lowest (λ i. holds (numbered (chartTable c) i) p) (listing (chartEntries c) p) (locateCall c p .found)
+    locate-lowest-listed = rw found-first (lowest-listed (λ i. holds (numbered (chartTable c) i) p))
+
+    -- on a filed chart it is the lowest numbered of the whole table that holds the point
+    pub locate-lowest : InGrid p → filed c ≡ true
+        → locateCall c p .found ≡ first (λ i. holds (numbered (chartTable c) i) p) (upTo (length (chartTable c)))
+    locate-lowest g e = found-first ∙ first-filed g e (λ i. holds (numbered (chartTable c) i) p) (λ i h. h)
