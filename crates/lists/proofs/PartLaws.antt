@@ -1,11 +1,14 @@
 -- A part of a list, by places.
 -- Assumes nothing.
-use mathlib.Core.Path.{_≡_, sym, _∙_, ap}
+use mathlib.Core.Path.{_≡_, refl, sym, _∙_, ap, ap₂}
+use mathlib.Core.Bool.{Bool, true, false}
 use mathlib.Core.List.{List, [], _∷_, map}
-use Prim.Native.Nat.{ℕ, suc, _+_, _-_, _≤_, _<_}
+use Prim.Native.Nat.{ℕ, zero, suc, _+_, _-_, _≤_, _<_}
 use native.Mathlib.Omega.{arith}
 use lib.ListN.{length, getD, take, drop, length-take, length-drop, length-map, List·getD-map}
 use lib.Seq.{getD-take, getD-drop, ext-getD}
+use Rattle.lists.specs.Lists.{placesFrom, countFrom}
+use Rattle.lists.proofs.Reflects.{Reflects, reflects-iff, test-true, test-false}
 use Rattle.lists.proofs.ListsLaws.{Every, every-cons}
 use Rattle.lists.proofs.EveryLaws.{every-nil}
 
@@ -41,3 +44,35 @@ part-map g l xs d f t h w v e =
     let j : i < t - f = rw a at c in
     getD-take (t - f) (drop f xs) i (g d) j ∙ getD-drop f xs i (g d) ∙ sym (e (f + i) (omega arith))
     ∙ ap g (sym (part-at l f t h w d i j)) ∙ sym (List·getD-map g p i d))
+
+module _ {A : Type 0} (f : A → Bool) (d : A) where
+  places-pass : (k : ℕ) (x : A) (xs : List A) → f x ≡ true → placesFrom f k (x ∷ xs) ≡ k ∷ placesFrom f (suc k) xs
+  unfolding placesFrom
+  places-pass k x xs e = rw (placesFrom, e)
+
+  places-fail : (k : ℕ) (x : A) (xs : List A) → f x ≡ false → placesFrom f k (x ∷ xs) ≡ placesFrom f (suc k) xs
+  unfolding placesFrom
+  places-fail k x xs e = rw (placesFrom, e)
+
+  places-induct : (k : ℕ) (l : List A) (a n : ℕ) → a + n ≤ length l
+      → ((i : ℕ) → i < length l → Reflects (f (getD l i d)) ((a ≤ i) × (i < a + n))) → placesFrom f k l ≡ countFrom (k + a) n
+  unfolding placesFrom countFrom
+  places-induct k [] a zero h r = refl
+  places-induct k [] a (suc n) h r = absurd (omega arith)
+  places-induct k (x ∷ xs) zero zero h r =
+      places-fail k x xs (test-false (λ t. absurd (let g = r 0 (omega arith) .to t in omega arith)))
+      ∙ places-induct (suc k) xs zero zero (omega arith) (λ i l. reflects-iff (λ g. (omega arith, omega arith)) (λ g. (omega arith, omega arith)) (r (suc i) (omega arith)))
+  places-induct k (x ∷ xs) zero (suc n) h r =
+      places-pass k x xs (test-true (r 0 (omega arith) .from (omega arith, omega arith)))
+      ∙ ap₂ (λ j l. j ∷ l) (omega arith) (
+      places-induct (suc k) xs zero n (omega arith) (λ i l. reflects-iff (λ g. (omega arith, omega arith)) (λ g. (omega arith, omega arith)) (r (suc i) (omega arith)))
+      ∙ ap (λ j. countFrom j n) (omega arith))
+  places-induct k (x ∷ xs) (suc a) n h r =
+      places-fail k x xs (test-false (λ t. absurd (let g = r 0 (omega arith) .to t in omega arith)))
+      ∙ places-induct (suc k) xs a n (omega arith) (λ i l. reflects-iff (λ g. (omega arith, omega arith)) (λ g. (omega arith, omega arith)) (r (suc i) (omega arith)))
+      ∙ ap (λ j. countFrom j n) (omega arith)
+
+  -- where a test passes at n places from place a on and at no other, those are the places of the elements that pass it
+  pub part-places : (l : List A) (a n : ℕ) → a + n ≤ length l
+      → ((i : ℕ) → i < length l → Reflects (f (getD l i d)) ((a ≤ i) × (i < a + n))) → placesFrom f 0 l ≡ countFrom a n
+  part-places l a n h r = places-induct 0 l a n h r ∙ ap (λ j. countFrom j n) (omega arith)

@@ -23,10 +23,12 @@ use Rattle.call_spec.specs.Buffers.{Chart, tooShort, zipEntries, chainRule, cha
 use Rattle.call_spec.specs.Calls as Calls
 use Rattle.call_spec.specs.Calls.{reading, locateCall, listingCall}
 use Rattle.chains.proofs.BufferLaws.{long-enough, ruled}
+use Rattle.search.specs.Place.{listedPlaces}
 use Rattle.answers.specs.declared.Located.{Located}
 use Rattle.answers.specs.declared.Located.the-variants as locations
 use Rattle.answers.specs.Outcomes.{locatedOf}
 use Rattle.reading.specs.Holding.{readable, foundOf}
+use Rattle.reading.specs.Places.{placesCall}
 use Rattle.reading.proofs.FirstLaws.{first-agree}
 
 -- then the lists may be searched
@@ -64,16 +66,25 @@ found-of none = refl
 found-of (some i) = refl
 
 module _ (c : Chart) (p : Point) where
-  -- cell listing at both refusals
-  pub listing-refused : readable c ≡ false → [] ≡ listingCall c p
-  unfolding readable listingCall reading refuseIf doneOr
-  listing-refused h = go (tooShort c) (chainRule c) h
+  -- a list that is read is empty at both refusals
+  read-refused : (l : List ℕ) → readable c ≡ false → [] ≡ doneOr [] (reading c l)
+  unfolding readable reading refuseIf doneOr
+  read-refused l h = go (tooShort c) (chainRule c) h
     where
-      go : (s r : Bool) → not s && r ≡ false
-          → [] ≡ doneOr [] (refuseIf s shortBuffer (refuseIf (not r) brokenChain (done (listing (chartEntries c) p))))
+      go : (s r : Bool) → not s && r ≡ false → [] ≡ doneOr [] (refuseIf s shortBuffer (refuseIf (not r) brokenChain (done l)))
       go true r h = refl
       go false true h = absurd (true≢false h)
       go false false h = refl
+
+  -- cell listing at both refusals
+  pub listing-refused : readable c ≡ false → [] ≡ listingCall c p
+  unfolding listingCall
+  listing-refused h = read-refused (listing (chartEntries c) p) h
+
+  -- and its places
+  pub places-refused : readable c ≡ false → [] ≡ placesCall c p
+  unfolding placesCall
+  places-refused h = read-refused (listedPlaces (chartEntries c) p) h
 
   -- locate at refusal 1
   pub locate-short : tooShort c ≡ true → _≡_ {A = Calls.Located} (locatedOf locations.ShortBuffer) (locateCall c p)
@@ -100,6 +111,11 @@ module _ (c : Chart) (p : Point) where
       pub listing-done : listing (chartEntries c) p ≡ listingCall c p
       unfolding listingCall reading refuseIf doneOr
       listing-done = rw (s, r)
+
+      -- from the places of the cell's entries
+      pub places-done : listedPlaces (chartEntries c) p ≡ placesCall c p
+      unfolding placesCall reading refuseIf doneOr
+      places-done = rw (s, r)
 
       -- the triangles tested are read from the table's numbers
       located-first : located (chartTable c) (chartEntries c) p ≡ first (λ i. holds (triangleAt (c .table) i) p) (listing (chartEntries c) p)

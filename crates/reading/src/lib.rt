@@ -11,8 +11,10 @@ ghost use Rattle.chart_spec.specs.Table.{triangleAt};
 ghost use Rattle.call_spec.specs.Buffers.{chartOf};
 ghost use Rattle.call_spec.specs.Calls.{locateCall, listingCall};
 ghost use Rattle.call_spec.specs.Calls.{Located as Calls·Located};
+ghost use Rattle.search.specs.Place.{OwnPart};
 ghost use Rattle.answers.specs.Outcomes.{locatedOf};
 ghost use Rattle.reading.specs.Holding.{foundOf, readable};
+ghost use Rattle.reading.specs.Places.{placesCall};
 
 // The first of the listed triangles that holds p.
 fn first_holding(table: &[u16], n: usize, list: &[u16], p: Point) -> Located
@@ -59,6 +61,7 @@ pub fn cell_listing<'a, 'b, 'c, 'd>(
     p: Point,
 ) -> &'a [u16]
     ensures { λ r. ⌜ now r ≡ listingCall (chartOf (now (table .entry)) (now (keys .entry)) (now (levels .entry)) (now (items .entry)) triangles entries) p ⌝ }
+    ensures { λ r. ⌜ OwnPart (items .entry) r (placesCall (chartOf (now (table .entry)) (now (keys .entry)) (now (levels .entry)) (now (items .entry)) triangles entries) p) ⌝ }
 {
     if !is_readable(table, keys, levels, items, triangles, entries) {
         return &items[0..0];

@@ -12,10 +12,11 @@ use borrow.Author.Tests.{le-leb, lt-leb}
 use lib.Dec.{T}
 use lib.ListN.{length, getD, take, drop}
 use Rattle.lists.specs.Lists.{filter}
+use Rattle.lists.proofs.Reflects.{Reflects, reflects-iff}
 use Rattle.lists.proofs.Runs.{run-unique}
 use Rattle.lists.proofs.Order.{ordered-at}
 use Rattle.orthtree.specs.Entries.{Entry, span, rangeEnd, covers, chain}
-use Rattle.orthtree.proofs.EntriesLaws.{span-positive}
+use Rattle.orthtree.proofs.EntriesLaws.{InRange, span-positive, covers-reflects}
 use Rattle.orthtree.proofs.ChainLaws.{same-end}
 use Rattle.orthtree.proofs.ChainOrderLaws.{Before, before-end, chain-ordered, chain-keys-rise}
 use Rattle.orthtree.proofs.ChainBlockLaws.{endedAt, startedAt, endedBy, startedBy, chain-block, chain-block-some}
@@ -27,6 +28,7 @@ pub record CellPart (arity depth k : ℕ) (es : List Entry) (d : Entry) (from to
   pub within : to ≤ length es
   pub key : (i : ℕ) → from ≤ i → i < to → getD es i d .key ≡ getD es from d .key
   pub entries : filter (λ e. covers arity depth k e) es ≡ take (to - from) (drop from es)
+  pub places : (i : ℕ) → i < length es → Reflects (covers arity depth k (getD es i d)) ((from ≤ i) × (i < to))
 
 -- the place from which on keys are not below the key at place m is not after m
 reach : (keys : List ℕ) (n m r : ℕ) → m < n → Passes keys n (getD keys m 0) r → r ≤ m
@@ -115,27 +117,43 @@ module _ (arity depth count : ℕ) (pos : 0 < arity) (es : List Entry) (rule : T
                 absurd (omega (arith, s .cell .key, same i (omega (arith, from-below, last-in)), q .before i l, last-key))
             go (inr h) = omega (arith, last-key, last-started)
 
-        -- the entry at place from is of the cell that has the key
-        first-goes-on : k < rangeEnd arity depth (getD es from d)
+        -- an entry between the two places is of the cell that has the key
+        goes-on : (i : ℕ) → from ≤ i → i < to → k < rangeEnd arity depth (getD es i d)
         unfolding rangeEnd
-        first-goes-on = go (decLe (to - 1) from)
+        goes-on i a l = go (decLe (to - 1) i)
           where
-            next : Before arity depth (getD es from d) (getD es (to - 1) d) → k < rangeEnd arity depth (getD es from d)
+            next : Before arity depth (getD es i d) (getD es (to - 1) d) → k < rangeEnd arity depth (getD es i d)
             next (inl s) = omega (arith, last-goes-on, same-end arity depth (s .cell))
             next (inr h) =
-                let e = block-key from (omega arith) from-below in
-                absurd (omega (arith, span-positive arity depth (getD es from d .level) pos, same from (omega (arith, from-below, last-in)), last-key))
+                let e = block-key i a l in
+                absurd (omega (arith, span-positive arity depth (getD es i d .level) pos, same i (omega (arith, last-in)), last-key))
 
-            go : Dec (to - 1 ≤ from) → k < rangeEnd arity depth (getD es from d)
-            go (yes g) = let e : from ≡ to - 1 = omega (arith, from-below) in rw e last-goes-on
-            go (no g) = next (before-at from (to - 1) (omega arith) last-in)
+            go : Dec (to - 1 ≤ i) → k < rangeEnd arity depth (getD es i d)
+            go (yes g) = let e : i ≡ to - 1 = omega arith in rw e last-goes-on
+            go (no g) = next (before-at i (to - 1) (omega arith) last-in)
 
         -- cells that end at or before the key are those of the entries before place from
         from-ended : from ≡ endedBy arity depth k es
         from-ended =
             run-unique (endedAt arity depth k) es from d (omega (arith, from-below, p .within))
             (λ i l. le-leb (rangeEnd arity depth (getD es i d)) k (early-ended i l))
-            (λ l. lt-leb (rangeEnd arity depth (getD es from d)) k first-goes-on)
+            (λ l. lt-leb (rangeEnd arity depth (getD es from d)) k (goes-on from (omega arith) from-below))
+
+        -- an entry is of the cell that has the key exactly if its place is between the two
+        in-place : (i : ℕ) → i < length es → Reflects (covers arity depth k (getD es i d)) ((from ≤ i) × (i < to))
+        in-place i l =
+            reflects-iff (λ h. (after h, before h))
+            (λ h. record { starts = omega (arith, same i (omega arith), p .before i (h .1)); ends = goes-on i (h .0) (h .1) })
+            (covers-reflects arity depth k (getD es i d))
+          where
+            after : InRange arity depth k (getD es i d) → from ≤ i
+            after h = elim (decLe from i) [ yes g ↦ g | no g ↦ absurd (omega (arith, h .ends, early-ended i (omega arith))) ]
+
+            before : InRange arity depth k (getD es i d) → i < to
+            before h = elim (decLe to i) [
+              | yes g ↦ absurd (omega (arith, h .starts, same i (omega arith), p .after i g (omega arith)))
+              | no g ↦ omega arith
+            ]
 
         -- the two places are where the entries of the cell that has the key k start and end
         pub cell-part : CellPart arity depth k es d from to
@@ -146,4 +164,5 @@ module _ (arity depth count : ℕ) (pos : 0 < arity) (es : List Entry) (rule : T
               ∙ sym (same from (omega (arith, from-below, p .within)) ∙ block-key from (omega arith) from-below);
           entries = chain-block arity depth k count pos es rule
               ∙ sym (ap₂ (λ t f. take (t - f) (drop f es)) to-started from-ended);
+          places = in-place;
         }

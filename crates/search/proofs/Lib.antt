@@ -3,3 +3,4 @@ pub mod BlockLaws
 pub mod MarkLaws
 pub mod ListingLaws
 pub mod PointLaws
+pub mod PlaceLaws

@@ -1,22 +1,24 @@
 -- The listing of the cell that has a key, as a part of the list of items: the two places are what two searches in the keys find.
 -- The idea: the cell's entries are the part of the entries between the two places, so its items are that part of the items,
--- unless its one entry is the mark.
+-- unless its one entry is the mark. The places of its items are those between the two.
 -- Assumes nothing.
 use mathlib.Core.Path.{_≡_, sym, _∙_, ap}
-use mathlib.Core.Bool.{not}
+use mathlib.Core.Bool.{Bool, not, _&&_}
 use mathlib.Core.List.{List, [], map}
 use Prim.Native.Nat.{ℕ, _+_, _-_, _≤_, _<_}
 use native.Mathlib.Omega.{arith}
 use lib.Dec.{T}
 use lib.ListN.{length, getD, take, drop}
-use Rattle.lists.specs.Lists.{filter}
-use Rattle.lists.proofs.PartLaws.{part-map}
+use Rattle.lists.specs.Lists.{filter, placesFrom, countFrom}
+use Rattle.lists.proofs.Reflects.{reflects-and, reflects-no, reflects-iff}
+use Rattle.lists.proofs.PartLaws.{part-map, part-places}
 use Rattle.orthtree.specs.Entries.{Entry, emptyMark, isMark, span, covers, chain}
+use Rattle.orthtree.proofs.ChainLaws.{isMark-reflects}
 use Rattle.call_spec.specs.Buffers.{zipEntries}
 use Rattle.call_spec.proofs.BuffersLaws.{first-count, first-at}
 use Rattle.search.specs.Passes.{Rises, Passes}
 use Rattle.search.proofs.BlockLaws.{CellPart, keys-rise, to-positive, cell-part}
-use Rattle.search.proofs.MarkLaws.{items-kept, mark-dropped}
+use Rattle.search.proofs.MarkLaws.{all-items, all-marks, items-kept, mark-dropped}
 
 -- three lists have n entries, which satisfy the chain rule
 pub record ChainLists (arity depth count : ℕ) (ks ls is : List ℕ) (n : ℕ) : Type 0 where
@@ -36,6 +38,10 @@ itemsOf es = map (λ e. e .item) es
 -- the entries that are no marks
 abbrev unmarked : List Entry → List Entry
 unmarked es = filter (λ e. not (isMark e)) es
+
+-- the entry is an item of the cell that has the key
+abbrev listedAt : ℕ → ℕ → ℕ → Entry → Bool
+listedAt arity depth k e = covers arity depth k e && not (isMark e)
 
 module _ {arity depth count : ℕ} {ks ls is : List ℕ} {n : ℕ} (pos : 0 < arity) (r : ChainLists arity depth count ks ls is n) where
   -- the entries
@@ -90,3 +96,24 @@ module _ {arity depth count : ℕ} {ks ls is : List ℕ} {n : ℕ} (pos : 0 < ar
       none-listed m =
           sym (ap (λ l. itemsOf (unmarked l)) (part .entries)
           ∙ ap itemsOf (mark-dropped arity depth count nowhere pos es (r .rule) from to (part .some) (part .within) (part .key) (first-item ∙ m)))
+
+      -- an entry is an item of the cell exactly if its place is between the two
+      pub items-places : (getD is from 0 ≡ emptyMark → ⊥) → placesFrom (listedAt arity depth k) 0 es ≡ countFrom from (to - from)
+      items-places m =
+          let h = part .some in
+          part-places (listedAt arity depth k) nowhere es from (to - from) (omega (arith, part .within)) (λ i l.
+          reflects-iff (λ g. (g .0 .0, omega (arith, g .0 .1)))
+          (λ g. (
+            (g .0, omega (arith, g .1)),
+            all-items arity depth count nowhere pos es (r .rule) from to h (part .within) (part .key) (λ e. m (sym first-item ∙ e)) i (g .0) (omega (arith, g .1)),
+          ))
+          (reflects-and (part .places i l) (reflects-no (isMark-reflects (getD es i nowhere)))))
+
+      -- none is where the first entry is the mark
+      pub none-places : getD is from 0 ≡ emptyMark → placesFrom (listedAt arity depth k) 0 es ≡ countFrom 0 0
+      none-places m =
+          part-places (listedAt arity depth k) nowhere es 0 0 (omega arith) (λ i l.
+          reflects-iff
+          (λ g. absurd (g .1 (all-marks arity depth count nowhere pos es (r .rule) from to (part .some) (part .within) (part .key) (first-item ∙ m) i (g .0 .0) (g .0 .1))))
+          (λ g. absurd (omega (arith, g .1)))
+          (reflects-and (part .places i l) (reflects-no (isMark-reflects (getD es i nowhere)))))

@@ -5,6 +5,7 @@ use mathlib.Core.List.{List, []}
 use Prim.Native.Nat.{ℕ, _+_, _-_, _<_}
 use native.Mathlib.Omega.{arith}
 use lib.ListN.{getD, take, drop}
+use Rattle.lists.specs.Lists.{countFrom}
 use Rattle.orthtree.specs.Entries.{emptyMark, span}
 use Rattle.plane.specs.declared.Point.{Point}
 use Rattle.squares.specs.Square.{arity, depth, zOrder}
@@ -12,7 +13,8 @@ use Rattle.squares.proofs.ZOrderLaws.{zOrder-bound}
 use Rattle.chart_spec.specs.Reading.{cellOf, listing}
 use Rattle.call_spec.specs.Buffers.{zipEntries}
 use Rattle.search.specs.Passes.{Rises, Passes}
-use Rattle.search.proofs.ListingLaws.{ChainLists, rises, some-before, some-entry, items-listed, none-listed}
+use Rattle.search.specs.Place.{listedPlaces}
+use Rattle.search.proofs.ListingLaws.{ChainLists, rises, some-before, some-entry, items-listed, none-listed, items-places, none-places}
 
 -- Z(p) is a key of the tree
 zOrder-low : (p : Point) → zOrder p < span arity depth 0
@@ -49,3 +51,12 @@ module _ {count : ℕ} {ks ls is : List ℕ} {n : ℕ} (r : ChainLists arity dep
       pub point-none : getD is from 0 ≡ 65535 → [] ≡ listing (take n (zipEntries ks ls is)) p
       unfolding listing cellOf emptyMark
       point-none m = none-listed four r past (zOrder-low p) q m
+
+      -- and where they are
+      pub point-places : (getD is from 0 ≡ 65535 → ⊥) → listedPlaces (take n (zipEntries ks ls is)) p ≡ countFrom from (to - from)
+      unfolding listedPlaces emptyMark
+      point-places m = items-places four r past (zOrder-low p) q m
+
+      pub point-nowhere : getD is from 0 ≡ 65535 → listedPlaces (take n (zipEntries ks ls is)) p ≡ countFrom 0 0
+      unfolding listedPlaces emptyMark
+      point-nowhere m = none-places four r past (zOrder-low p) q m

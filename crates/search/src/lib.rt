@@ -11,6 +11,7 @@ ghost use Rattle.squares.specs.Square.{arity, depth};
 ghost use Rattle.chart_spec.specs.Reading.{listing as Reading·listing};
 ghost use Rattle.call_spec.specs.Buffers.{zipEntries};
 ghost use Rattle.search.specs.Passes.{Rises, Passes};
+ghost use Rattle.search.specs.Place.{listedPlaces, OwnPart};
 
 // How many of the first n keys are below the bound b.
 fn below(keys: &[u32], n: usize, b: u64) -> usize
@@ -42,6 +43,7 @@ pub fn listing<'a, 'b, 'c>(
     requires { ⌜ (n ≤ length (now keys)) × ((n ≤ length (now levels)) × (n ≤ length (now items))) ⌝ }
     requires { ⌜ chain arity depth count (take n (zipEntries (now keys) (now levels) (now items))) ≡ true ⌝ }
     ensures { λ r. ⌜ now r ≡ Reading·listing (take n (zipEntries (now (keys .entry)) (now (levels .entry)) (now (items .entry)))) p ⌝ }
+    ensures { λ r. ⌜ OwnPart (items .entry) r (listedPlaces (take n (zipEntries (now (keys .entry)) (now (levels .entry)) (now (items .entry)))) p) ⌝ }
 {
     let to = below(keys, n, squares::z_order(p) as u64 + 1);
     let from = below(keys, n, keys[to - 1] as u64);

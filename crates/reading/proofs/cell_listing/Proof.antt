@@ -1,9 +1,13 @@
-use mathlib.Core.Path.{_≡_, sym, _∙_}
+use mathlib.Core.Path.{_≡_, refl, sym, _∙_, subst}
 use mathlib.Core.Bool.{true, false}
+use native.Mathlib.Omega.{arith}
 use borrow.Author.Needs.{needs}
 use borrow.Author.Tests.{not-true, not-false}
 use Rattle.call_spec.specs.Buffers.{Chart, chartOf, chartEntries, tooShort, chainRule}
-use Rattle.reading.proofs.CallLaws.{readable-both, listing-refused, listing-done, searchable}
+use Rattle.lists.specs.Lists.{countFrom}
+use Rattle.search.specs.Place.{OwnPart}
+use Rattle.search.proofs.PlaceLaws.{own-part}
+use Rattle.reading.proofs.CallLaws.{readable-both, listing-refused, listing-done, places-refused, places-done, searchable}
 use Rattle.reading.proofs.cell_listing.Statement.{statement}
 use Rattle.reading.proofs.cell_listing.Tie as tie
 
@@ -25,10 +29,14 @@ part-result-end : tie.Need-part-result-end
 part-result-end c = search needs
 
 returns : tie.Need-returns
+unfolding countFrom
 returns c =
     let r = c .before .before in
     let top = r .before .before .before .before .before in
-    listing-refused (chart top) (top .args .p) (sym (r .is-readable .ensures) ∙ not-true (r .is-readable .result) (c .before .if1 .taken))
+    let no = sym (r .is-readable .ensures) ∙ not-true (r .is-readable .result) (c .before .if1 .taken) in (
+      listing-refused (chart top) (top .args .p) no,
+      own-part 0 0 (omega arith) (omega arith) refl refl refl (sym (places-refused (chart top) (top .args .p) no)),
+    )
 
 -- neither refusal is met
 checked : (c : tie.Else1) → let chart = chart (c .before .before .before .before .before .before) in (tooShort chart ≡ false) × (chainRule chart ≡ true)
@@ -45,7 +53,11 @@ returns-2 : tie.Need-returns-2
 unfolding chartEntries
 returns-2 c =
     let top = c .before .before .before .before .before .before .before in
-    c .listing .ensures ∙ listing-done (chart top) (top .args .p) (checked (c .before) .0) (checked (c .before) .1)
+    let s = checked (c .before) .0 in
+    let r = checked (c .before) .1 in (
+      c .listing .ensures .0 ∙ listing-done (chart top) (top .args .p) s r,
+      subst (OwnPart (top .args .items) (c .listing .result)) (places-done (chart top) (top .args .p) s r) (c .listing .ensures .1),
+    )
 
 pub cell-listing-spec : {M : Type 1} → statement M
 cell-listing-spec =

@@ -50,7 +50,7 @@ unfolding chartEntries
 first-holding-requires c κs =
     let b = c .before in
     let top = b .before .before .before .before .before .before .before .before in
-    table-holds (chart top) (top .args .p) (long (b .before .before)) (rule b) (c .listing .ensures)
+    table-holds (chart top) (top .args .p) (long (b .before .before)) (rule b) (c .listing .ensures .0)
 
 returns-3 : tie.Need-returns-3
 unfolding chartEntries
@@ -58,7 +58,7 @@ returns-3 c =
     let l = c .before in
     let b = l .before in
     let top = b .before .before .before .before .before .before .before .before in
-    locate-done (chart top) (top .args .p) (long (b .before .before)) (rule b) (l .listing .ensures) (c .first-holding .ensures)
+    locate-done (chart top) (top .args .p) (long (b .before .before)) (rule b) (l .listing .ensures .0) (c .first-holding .ensures)
 
 pub locate-spec : {M : Type 1} → statement M
 locate-spec =

@@ -1,9 +1,11 @@
+use mathlib.Core.Path.{refl}
 use Prim.Native.Nat.{_-_, _<_}
 use native.Mathlib.Omega.{arith}
 use borrow.Author.Needs.{needs}
 use Rattle.squares.specs.Square.{arity, depth}
 use Rattle.search.proofs.ListingLaws.{ChainLists}
-use Rattle.search.proofs.PointLaws.{keys-rise, point-before, point-entry, point-listed, point-none}
+use Rattle.search.proofs.PointLaws.{keys-rise, point-before, point-entry, point-listed, point-none, point-places, point-nowhere}
+use Rattle.search.proofs.PlaceLaws.{own-part}
 use Rattle.search.proofs.listing.Statement.{statement}
 use Rattle.search.proofs.listing.Tie as tie
 
@@ -69,7 +71,11 @@ returns : tie.Need-returns
 returns c =
     let f = c .before .before .before in
     let top = f .before .before .before .before .before .before .before in
-    point-none (chained top) (top .args .p) (f .before .before .before .z-order .ensures) (f .before .before .below .ensures) (f .below2 .ensures) (c .before .if1 .taken)
+    let z = f .before .before .before .z-order .ensures in
+    let to = f .before .before .below .ensures in (
+      point-none (chained top) (top .args .p) z to (f .below2 .ensures) (c .before .if1 .taken),
+      own-part 0 0 (omega arith) (omega arith) refl refl refl (point-nowhere (chained top) (top .args .p) z to (f .below2 .ensures) (c .before .if1 .taken)),
+    )
 
 mul-result : tie.Need-mul-result
 mul-result c = search needs
@@ -87,7 +93,12 @@ returns-2 : tie.Need-returns-2
 returns-2 c =
     let f = c .before .before .before in
     let top = f .before .before .before .before .before .before .before in
-    point-listed (chained top) (top .args .p) (f .before .before .before .z-order .ensures) (f .before .before .below .ensures) (f .below2 .ensures) (c .before .if1 .left)
+    let z = f .before .before .before .z-order .ensures in
+    let to = f .before .before .below in (
+      point-listed (chained top) (top .args .p) z (to .ensures) (f .below2 .ensures) (c .before .if1 .left),
+      own-part (f .below2 .result) (to .result) (omega (arith, from-below f)) (omega (arith, to .ensures .within, top .pre .0 .1 .1)) refl refl refl
+          (point-places (chained top) (top .args .p) z (to .ensures) (f .below2 .ensures) (c .before .if1 .left)),
+    )
 
 pub listing-spec : {M : Type 1} → statement M
 listing-spec =
