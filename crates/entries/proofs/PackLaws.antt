@@ -11,8 +11,8 @@ use Rattle.lists.proofs.EveryLaws.{every-imp}
 use Rattle.orthtree.specs.Entries.{Entry, emptyMark}
 use Rattle.chart_spec.specs.Table.{tableOf}
 use Rattle.chart_spec.specs.Cells.{entriesOf}
-use Rattle.chart_spec.proofs.ChainOfTable.{entries-bounds}
-use Rattle.chart_spec.proofs.TableLaws.{tableOf-length}
+use Rattle.chart_laws.proofs.ChainOfTable.{entries-bounds}
+use Rattle.chart_laws.proofs.TableLaws.{tableOf-length}
 use Rattle.filing.specs.Filing.{packed}
 use Rattle.entries.specs.Lists.{keyOf, levelOf, itemOf}
 

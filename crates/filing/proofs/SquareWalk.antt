@@ -23,8 +23,8 @@ use Rattle.squares.proofs.SquareLaws.{quarters-aligned, quarters-level, quarter
 use Rattle.squares.proofs.ZOrderLaws.{zOrder-bound}
 use Rattle.chart_spec.specs.Table.{tableOf, numbered}
 use Rattle.chart_spec.specs.Cells.{commonEnd, sidesMeeting, stopped, trianglesMeeting, orMark, entryOf, cellEntries, entriesIn}
-use Rattle.chart_spec.proofs.FilingLaws.{entriesIn-stopped, entriesIn-split, meeting-narrow, quarter-within}
-use Rattle.chart_spec.proofs.TableLaws.{tableOf-length}
+use Rattle.chart_laws.proofs.FilingLaws.{entriesIn-stopped, entriesIn-split, meeting-narrow, quarter-within}
+use Rattle.chart_laws.proofs.TableLaws.{tableOf-length}
 use Rattle.shapes.specs.Shape.{triangleMeetsAt}
 use Rattle.shapes.proofs.ShapeLaws.{triangle-meets-at}
 use Rattle.filing.specs.Filing.{part, packed, Ready, Prepared, Candidates, Filed}

@@ -23,9 +23,9 @@ use Rattle.chart_spec.specs.Table.{Table, pointAt, triangleAt, tableOf, numbere
 use Rattle.squares.specs.declared.Square.{Square}
 use Rattle.squares.specs.Square.{squareBox, Aligned}
 use Rattle.chart_spec.specs.Cells.{sidesMeeting, commonEnd, stopped, trianglesMeeting}
-use Rattle.chart_spec.proofs.FilingLaws.{sides-narrow}
-use Rattle.chart_spec.proofs.ChainOfTable.{meeting-rising}
-use Rattle.chart_spec.proofs.TableLaws.{numbered-at, tableOf-length}
+use Rattle.chart_laws.proofs.FilingLaws.{sides-narrow}
+use Rattle.chart_laws.proofs.ChainOfTable.{meeting-rising}
+use Rattle.chart_laws.proofs.TableLaws.{numbered-at, tableOf-length}
 use Rattle.shapes.proofs.ShapeLaws.{OnTriangle, first-meets, second-meets, third-meets}
 use Rattle.filing.specs.Filing.{maskOf, masked, sidesMet, sidesAt, Prepared}
 use Rattle.filing.proofs.MaskLaws.{masked-filter}

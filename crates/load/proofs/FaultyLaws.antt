@@ -14,7 +14,7 @@ use Rattle.plane.specs.Triangle.{proper}
 use Rattle.chart_spec.specs.Table.{Table, tableOf, triangleAt, numbered, noTriangle}
 use Rattle.chart_spec.specs.Refusals.{refused, done, faultyTriangle}
 use Rattle.chart_spec.specs.Edits.{faulty, refuseFaulty}
-use Rattle.chart_spec.proofs.TableLaws.{numbered-at, tableOf-length}
+use Rattle.chart_laws.proofs.TableLaws.{numbered-at, tableOf-length}
 use Rattle.load.specs.Faulty.{firstFaulty}
 
 -- how many triangles with D > 0 there are before it

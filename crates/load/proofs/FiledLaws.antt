@@ -17,9 +17,9 @@ use Rattle.plane.specs.Triangle.{Triangle, proper}
 use Rattle.squares.specs.Square.{arity, depth, wholeSquare}
 use Rattle.chart_spec.specs.Table.{Table, pointAt, triangleAt, tableOf, triangleNumbers, tableNumbers, numbered, noTriangle, tableLength, maxTriangles}
 use Rattle.chart_spec.specs.Cells.{entriesOf, maxEntries}
-use Rattle.chart_spec.proofs.FilingLaws.{entriesIn-whole}
-use Rattle.chart_spec.proofs.ChainOfTable.{entriesIn-positive, entries-chain}
-use Rattle.chart_spec.proofs.TableLaws.{numbered-at, tableOf-length}
+use Rattle.chart_laws.proofs.FilingLaws.{entriesIn-whole}
+use Rattle.chart_laws.proofs.ChainOfTable.{entriesIn-positive, entries-chain}
+use Rattle.chart_laws.proofs.TableLaws.{numbered-at, tableOf-length}
 use Rattle.call_spec.specs.Buffers.{Chart, tooShort, padded, zipEntries, chartTable, chartEntries, chainRule, filed, chartWith, filedChart}
 use Rattle.call_spec.proofs.BuffersLaws.{sameEntries-reflects}
 use Rattle.chains.proofs.TestLaws.{reflects-true}

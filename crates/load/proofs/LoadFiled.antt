@@ -10,7 +10,7 @@ use native.Mathlib.Omega.{arith}
 use lib.ListN.{length}
 use Rattle.chart_spec.specs.Cells.{entriesOf, maxEntries}
 use Rattle.chart_spec.specs.Refusals.{Refusal, refused, numberOf}
-use Rattle.chart_spec.proofs.TableLaws.{tableOf-length}
+use Rattle.chart_laws.proofs.TableLaws.{tableOf-length}
 use Rattle.call_spec.specs.Buffers.{Chart, tooShort}
 use Rattle.call_spec.specs.Calls.{changedBy, loadCall}
 use Rattle.load.specs.Faulty.{firstFaulty}

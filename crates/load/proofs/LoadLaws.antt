@@ -17,7 +17,7 @@ use Rattle.chart_spec.specs.Table.{Table, tableOf, tableLength}
 use Rattle.chart_spec.specs.Cells.{entriesOf, maxEntries}
 use Rattle.chart_spec.specs.Refusals.{shortBuffer, badLength, faultyTriangle, tooManyEntries, refused, done, refuseIf, andThen}
 use Rattle.chart_spec.specs.Edits.{eventOn, proposed, loadTable, givenTable, withinLimit, limited}
-use Rattle.chart_spec.proofs.TableLaws.{tableNumbers-take, tableOf-length}
+use Rattle.chart_laws.proofs.TableLaws.{tableNumbers-take, tableOf-length}
 use Rattle.call_spec.specs.Buffers.{Chart, chartOf, tooShort, padded, chartWith, filedChart}
 use Rattle.call_spec.specs.Calls.{Changed, changedBy, loadCall}
 use Rattle.entries.specs.Lists.{Listed}

@@ -14,7 +14,7 @@ use Rattle.plane.specs.Triangle.{Triangle, proper, doubledArea}
 use Rattle.plane.proofs.Difference.{Diff, diff, diff-above, diff-natAbs}
 use Rattle.chart_spec.specs.Table.{triangleAt, tableOf}
 use Rattle.chart_spec.specs.Reading.{totalArea}
-use Rattle.chart_spec.proofs.TableLaws.{tableOf-suc}
+use Rattle.chart_laws.proofs.TableLaws.{tableOf-suc}
 
 -- the higher sum less the lower one
 pub doubledArea-value : (t : Triangle) (h l : ℕ) → pos h -ℤ pos l ≡ orient (t .a) (t .b) (t .c) → proper t ≡ true

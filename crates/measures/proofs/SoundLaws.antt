@@ -15,7 +15,7 @@ use Rattle.plane.specs.Triangle.{Triangle}
 use Rattle.plane.specs.Interior.{noSideSeparates, interiorsMeet}
 use Rattle.chart_spec.specs.Table.{triangleAt, tableOf, numbered}
 use Rattle.chart_spec.specs.Reading.{sound}
-use Rattle.chart_spec.proofs.TableLaws.{numbered-at, tableOf-length}
+use Rattle.chart_laws.proofs.TableLaws.{numbered-at, tableOf-length}
 use Rattle.chains.proofs.TestLaws.{reflects-false}
 
 -- sharing ground does not depend on the order

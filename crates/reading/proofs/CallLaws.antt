@@ -17,8 +17,8 @@ use Rattle.squares.specs.Square.{arity, depth}
 use Rattle.chart_spec.specs.Table.{triangleAt, numbered}
 use Rattle.chart_spec.specs.Refusals.{shortBuffer, brokenChain, done, refuseIf, outcomeNumber, doneOr}
 use Rattle.chart_spec.specs.Reading.{listing, located}
-use Rattle.chart_spec.proofs.TableLaws.{numbered-at}
-use Rattle.chart_spec.proofs.LocateOfChain.{listed-below}
+use Rattle.chart_laws.proofs.TableLaws.{numbered-at}
+use Rattle.chart_laws.proofs.LocateOfChain.{listed-below}
 use Rattle.call_spec.specs.Buffers.{Chart, tooShort, zipEntries, chainRule, chartTable, chartEntries}
 use Rattle.call_spec.specs.Calls as Calls
 use Rattle.call_spec.specs.Calls.{reading, locateCall, listingCall}

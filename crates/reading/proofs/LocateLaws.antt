@@ -15,9 +15,9 @@ use Rattle.squares.proofs.ZOrderLaws.{InGrid}
 use Rattle.chart_spec.specs.Table.{numbered}
 use Rattle.chart_spec.specs.Cells.{entriesOf}
 use Rattle.chart_spec.specs.Reading.{listing, located}
-use Rattle.chart_spec.proofs.LocateOfChain.{first-listed}
-use Rattle.chart_spec.proofs.LocateOfTable.{first-of-table}
-use Rattle.chart_spec.proofs.TableLaws.{tableOf-length}
+use Rattle.chart_laws.proofs.LocateOfChain.{first-listed}
+use Rattle.chart_laws.proofs.LocateOfTable.{first-of-table}
+use Rattle.chart_laws.proofs.TableLaws.{tableOf-length}
 use Rattle.call_spec.specs.Buffers.{Chart, tooShort, chainRule, filed, chartTable, chartEntries}
 use Rattle.call_spec.specs.Calls.{locateCall}
 use Rattle.call_spec.proofs.BuffersLaws.{sameEntries-reflects}

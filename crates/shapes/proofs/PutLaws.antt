@@ -12,7 +12,7 @@ use Rattle.lists.proofs.ListsLaws.{sets-join}
 use Rattle.plane.specs.declared.Point.{Point}
 use Rattle.plane.specs.Triangle.{Triangle}
 use Rattle.chart_spec.specs.Table.{triangleAt, tableOf}
-use Rattle.chart_spec.proofs.TableLaws.{tableOf-length, tableOf-suc}
+use Rattle.chart_laws.proofs.TableLaws.{tableOf-length, tableOf-suc}
 use Rattle.shapes.specs.Shape.{sideShape, boxShape, shapeOf, sideOffset, offsetsOf}
 
 -- a triangle by its corners

@@ -5,7 +5,7 @@ use lib.ListN.{length}
 use Rattle.squares.specs.Square.{squareKey}
 use Rattle.chart_spec.specs.Table.{tableOf}
 use Rattle.chart_spec.specs.Cells.{entriesOf}
-use Rattle.chart_spec.proofs.FilingLaws.{entriesIn-whole}
+use Rattle.chart_laws.proofs.FilingLaws.{entriesIn-whole}
 use Rattle.filing.proofs.WholeWalk.{whole-start, whole-key, whole-room}
 use borrow.Author.Needs.{needs}
 use Rattle.filing.proofs.file.Statement.{statement}

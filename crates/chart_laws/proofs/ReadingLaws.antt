@@ -11,9 +11,9 @@ use Rattle.lists.proofs.ListsLaws.{Every, all-reflects, upTo-to, upTo-from}
 use Rattle.plane.specs.Triangle.{proper}
 use Rattle.plane.specs.Interior.{CommonInterior, interiorsMeet}
 use Rattle.separation.proofs.Separation.{interiors-meet-iff}
 use Rattle.chart_spec.specs.Table.{Table, numbered}
 use Rattle.chart_spec.specs.Reading.{sound}
-use Rattle.chart_spec.proofs.TableLaws.{proper-at}
+use Rattle.chart_laws.proofs.TableLaws.{proper-at}
 
 -- "no two different triangle numbers of the table have a point strictly inside both"
 abbrev pub Sound : Table → Type 0

@@ -10,8 +10,8 @@ use Rattle.plane.specs.declared.Point.{Point}
 use Rattle.plane.specs.Point.{samePoint}
 use Rattle.plane.specs.Triangle.{Triangle, proper, doubledArea}
 use Rattle.plane.proofs.PointLaws.{samePoint-reflects}
 use Rattle.chart_spec.specs.Edits.{triangle, rotations, hasCorner, endingIn}
-use Rattle.chart_spec.proofs.TriangleLaws.{area-rotate, proper-rotate, corners-differ}
+use Rattle.chart_laws.proofs.TriangleLaws.{area-rotate, proper-rotate, corners-differ}
 
 -- of a list of three
 pub three : (P : Triangle → Type 0) {t u v : Triangle} → P t → P u → P v → Every P (t ∷ u ∷ v ∷ [])

@@ -27,12 +27,12 @@ use Rattle.squares.specs.declared.Square.{Square}
 use Rattle.squares.specs.Square.{squareBox}
 use Rattle.squares.proofs.ZOrderLaws.{InGrid, InSquare}
 use Rattle.squares.proofs.SquareLeavesLaws.{leaf-of-point, cell-of-point}
 use Rattle.chart_spec.specs.Table.{Table, numbered}
 use Rattle.chart_spec.specs.Cells.{stopped, cellsIn, cells, trianglesMeeting, orMark, entryOf, cellEntries, entriesOf}
 use Rattle.chart_spec.specs.Reading.{cellOf, listing, located}
-use Rattle.chart_spec.proofs.TableLaws.{proper-at}
-use Rattle.chart_spec.proofs.FilingLaws.{meeting-filter}
-use Rattle.chart_spec.proofs.ChainOfTable.{meeting-rising}
+use Rattle.chart_laws.proofs.TableLaws.{proper-at}
+use Rattle.chart_laws.proofs.FilingLaws.{meeting-filter}
+use Rattle.chart_laws.proofs.ChainOfTable.{meeting-rising}
 
 -- the items of a cell's entries, without the mark
 unmarked : (s : Square) {n : ℕ} {is : List ℕ} → n ≤ 512 → Rising 0 n is

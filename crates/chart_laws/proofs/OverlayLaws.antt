@@ -22,9 +22,9 @@ use Rattle.plane.specs.Triangle.{proper}
 use Rattle.plane.specs.Interior.{CommonInterior, interiorsMeet}
 use Rattle.separation.proofs.Separation.{interiors-meet-iff}
 use Rattle.squares.specs.Square.{arity, depth}
 use Rattle.chart_spec.specs.Table.{Table, numbered}
 use Rattle.chart_spec.specs.Overlay.{Pair, pairListed, pairsListed}
-use Rattle.chart_spec.proofs.TableLaws.{proper-at}
+use Rattle.chart_laws.proofs.TableLaws.{proper-at}
 
 -- "a cell listing i and a cell listing j overlap so and some point is strictly inside both triangles", where i and j are numbers of
 -- the two tables

@@ -17,10 +17,10 @@ use Rattle.lists.proofs.EditedLists.{places-pass}
 use Rattle.plane.specs.declared.Point.{Point}
 use Rattle.plane.specs.Triangle.{Triangle, strictlyInside}
 use Rattle.plane.proofs.PointLaws.{samePoint-reflects}
 use Rattle.chart_spec.specs.Table.{Table, numbered, noTriangle, maxTriangles}
 use Rattle.chart_spec.specs.Refusals.{refused, done, noSuchTriangle, notInside, notThreeAround, tableFull}
 use Rattle.chart_spec.specs.Edits.{triangle, splitAt, splitTable, hasCorner, endingIn, closesRound, mergeAround, mergeThree, takeOutThree, takeOutTable}
-use Rattle.chart_spec.proofs.OutcomeLaws.{refused-done, done-same, refuseIf-done, passed}
+use Rattle.chart_laws.proofs.OutcomeLaws.{refused-done, done-same, refuseIf-done, passed}
 
 -- ---- split
 

@@ -16,12 +16,12 @@ use Rattle.lists.proofs.ListsLaws.{Every, every-uncons}
 use Rattle.lists.proofs.EditedLists.{first-found, first-none, first-missed}
 use Rattle.plane.specs.Triangle.{Triangle, proper}
 use Rattle.plane.proofs.PointLaws.{samePoint-reflects}
 use Rattle.chart_spec.specs.Table.{Table, numbered}
 use Rattle.chart_spec.specs.Refusals.{refused, refuseIf, noFlip}
 use Rattle.chart_spec.specs.Edits.{triangle, rotations, sharesSide, flipAs, flipWith, flipAmong, flipTable}
-use Rattle.chart_spec.proofs.TableLaws.{proper-at}
-use Rattle.chart_spec.proofs.TriangleLaws.{named, reversed-proper}
-use Rattle.chart_spec.proofs.RotationLaws.{three, corners-apart, rotations-same, rotations-proper}
+use Rattle.chart_laws.proofs.TableLaws.{proper-at}
+use Rattle.chart_laws.proofs.TriangleLaws.{named, reversed-proper}
+use Rattle.chart_laws.proofs.RotationLaws.{three, corners-apart, rotations-same, rotations-proper}
 
 -- u has the side ab of t in the other direction
 abbrev Facing : Triangle → Triangle → Type 0

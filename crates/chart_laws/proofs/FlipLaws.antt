@@ -15,10 +15,10 @@ use Rattle.lists.proofs.Reflects.{reflects-test, reflects-and, reflects-or, ref
 use Rattle.lists.proofs.EditedLists.{first-found}
 use Rattle.plane.specs.Triangle.{Triangle, proper}
 use Rattle.plane.proofs.PointLaws.{samePoint-reflects}
 use Rattle.chart_spec.specs.Table.{Table, numbered}
 use Rattle.chart_spec.specs.Refusals.{done, noSuchTriangle, noFlip}
 use Rattle.chart_spec.specs.Edits.{triangle, rotations, sharesSide, flipAs, flipWith, flipAmong, flipTable}
-use Rattle.chart_spec.proofs.OutcomeLaws.{refused-done, done-same, refuseIf-done, passed}
+use Rattle.chart_laws.proofs.OutcomeLaws.{refused-done, done-same, refuseIf-done, passed}
 
 -- i and j flipped, where t and u are their rotations that share a side
 pub record Flipped (i j : ℕ) (table next : Table) : Type 0 where

@@ -14,11 +14,11 @@ use Rattle.lists.proofs.ListsLaws.{all-reflects}
 use Rattle.lists.proofs.EveryLaws.{every-imp}
 use Rattle.lists.proofs.EditedLists.{places-none}
 use Rattle.plane.specs.Triangle.{proper}
 use Rattle.chart_spec.specs.Table.{Table, IsTable, tableLength, tableOf, tableNumbers, sixteenBit}
 use Rattle.chart_spec.specs.Refusals.{done, badLength}
 use Rattle.chart_spec.specs.Edits.{faulty, refuseFaulty, givenTable, loadTable}
-use Rattle.chart_spec.proofs.TableLaws.{tableOf-length, tableNumbers-take}
-use Rattle.chart_spec.proofs.OutcomeLaws.{refused-done, done-same, refuseIf-done}
+use Rattle.chart_laws.proofs.TableLaws.{tableOf-length, tableNumbers-take}
+use Rattle.chart_laws.proofs.OutcomeLaws.{refused-done, done-same, refuseIf-done}
 
 faulty-done : (is : List ℕ) (table next : Table) → refuseFaulty is table ≡ done next → (is ≡ []) × (table ≡ next)
 unfolding refuseFaulty

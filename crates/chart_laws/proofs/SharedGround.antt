@@ -33,13 +33,13 @@ use Rattle.squares.specs.declared.Square.{Square}
 use Rattle.squares.specs.Square.{arity, depth, zOrder, squareBox}
 use Rattle.squares.proofs.ZOrderLaws.{InGrid, InSquare, point-in-square}
 use Rattle.squares.proofs.SquareLeavesLaws.{leaf-of-point}
 use Rattle.chart_spec.specs.Table.{Table, numbered, noTriangle, triangleNumbers, tableNumbers, sixteenBit, IsTable}
 use Rattle.chart_spec.specs.Cells.{stopped, cellsIn, cells, trianglesMeeting, orMark, entryOf, cellEntries, entriesOf}
 use Rattle.chart_spec.specs.Overlay.{pairsListed}
-use Rattle.chart_spec.proofs.TableLaws.{proper-at}
-use Rattle.chart_spec.proofs.FilingLaws.{meeting-filter}
-use Rattle.chart_spec.proofs.ChainOfTable.{cells-aligned}
-use Rattle.chart_spec.proofs.OverlayLaws.{pair, pairs-listed-iff}
+use Rattle.chart_laws.proofs.TableLaws.{proper-at}
+use Rattle.chart_laws.proofs.FilingLaws.{meeting-filter}
+use Rattle.chart_laws.proofs.ChainOfTable.{cells-aligned}
+use Rattle.chart_laws.proofs.OverlayLaws.{pair, pairs-listed-iff}
 
 -- the corners of the triangle are points of the grid
 pub record Corners (t : Triangle) : Type 0 where

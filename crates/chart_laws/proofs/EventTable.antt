@@ -18,18 +18,18 @@ use Rattle.lists.proofs.EditedLists.{every-set}
 use Rattle.plane.specs.declared.Point.{Point}
 use Rattle.plane.specs.Triangle.{Triangle, proper}
 use Rattle.plane.proofs.ExtremeLaws.{OnGrid}
 use Rattle.chart_spec.specs.Table.{Table, IsTable, numbered, noTriangle}
 use Rattle.chart_spec.specs.Cells.{entriesOf, maxEntries}
 use Rattle.chart_spec.specs.Refusals.{Outcome, refused, done, andThen, doneOr, tooManyEntries}
 use Rattle.chart_spec.specs.Edits.{Event, load, split, takeOut, flip, triangle, rotations, hasCorner, splitAt, endingIn, sixteenBitEvent, proposed, limited, withinLimit, eventOn, afterEvent, afterEvents, plainTable}
-use Rattle.chart_spec.proofs.TriangleLaws.{proper-rotate, inside-parts}
-use Rattle.chart_spec.proofs.RotationLaws.{rotations-every, endingIn-rotation}
-use Rattle.chart_spec.proofs.LoadTable.{load-table}
-use Rattle.chart_spec.proofs.MergeLaws.{taken-sum, merge-length, merge-every}
-use Rattle.chart_spec.proofs.GridLaws.{IsTriangle, table-proper, table-triangles, triangles-table, inside-grid}
-use Rattle.chart_spec.proofs.OutcomeLaws.{refused-done, refuseIf-done}
-use Rattle.chart_spec.proofs.EditLaws.{Split, split-done, mergedTriangle, TakenOut, takeOut-done}
-use Rattle.chart_spec.proofs.FlipLaws.{Flipped, flip-done}
+use Rattle.chart_laws.proofs.TriangleLaws.{proper-rotate, inside-parts}
+use Rattle.chart_laws.proofs.RotationLaws.{rotations-every, endingIn-rotation}
+use Rattle.chart_laws.proofs.LoadTable.{load-table}
+use Rattle.chart_laws.proofs.MergeLaws.{taken-sum, merge-length, merge-every}
+use Rattle.chart_laws.proofs.GridLaws.{IsTriangle, table-proper, table-triangles, triangles-table, inside-grid}
+use Rattle.chart_laws.proofs.OutcomeLaws.{refused-done, refuseIf-done}
+use Rattle.chart_laws.proofs.EditLaws.{Split, split-done, mergedTriangle, TakenOut, takeOut-done}
+use Rattle.chart_laws.proofs.FlipLaws.{Flipped, flip-done}
 
 -- ---- triangles that edits make
 

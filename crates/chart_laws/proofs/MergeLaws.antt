@@ -12,12 +12,12 @@ use Rattle.lists.proofs.ListsLaws.{Every}
 use Rattle.lists.proofs.EditedLists.{sumOf-set, sumOf-without, length-without, getD-without, every-set, every-without}
 use Rattle.plane.specs.declared.Point.{Point}
 use Rattle.plane.specs.Triangle.{Triangle, proper, doubledArea}
 use Rattle.chart_spec.specs.Table.{Table, numbered, noTriangle}
 use Rattle.chart_spec.specs.Edits.{triangle, endingIn, hasCorner, mergeAround}
-use Rattle.chart_spec.proofs.TableLaws.{proper-at}
-use Rattle.chart_spec.proofs.TriangleLaws.{named, area-around, proper-around}
-use Rattle.chart_spec.proofs.RotationLaws.{rotations-area, rotations-proper, endingIn-rotation}
-use Rattle.chart_spec.proofs.EditLaws.{Closes, mergedTriangle, TakenOut}
+use Rattle.chart_laws.proofs.TableLaws.{proper-at}
+use Rattle.chart_laws.proofs.TriangleLaws.{named, area-around, proper-around}
+use Rattle.chart_laws.proofs.RotationLaws.{rotations-area, rotations-proper, endingIn-rotation}
+use Rattle.chart_laws.proofs.EditLaws.{Closes, mergedTriangle, TakenOut}
 
 -- what three triangles around a point make
 pub record Sum (t u v s : Triangle) : Type 0 where

@@ -6,11 +6,11 @@ use mathlib.Core.Bool.{Bool, true, false}
 use Prim.Native.Nat.{ℕ}
 use lib.Dec.{T}
 use Rattle.plane.specs.Triangle.{Triangle, proper}
 use Rattle.chart_spec.specs.Table.{Table}
 use Rattle.chart_spec.specs.Refusals.{Outcome, refused, done, notThreeAround}
 use Rattle.chart_spec.specs.Edits.{triangle, closesRound, mergeAround, mergeThree}
-use Rattle.chart_spec.proofs.RotationLaws.{corners-apart}
-use Rattle.chart_spec.proofs.EditLaws.{closes}
+use Rattle.chart_laws.proofs.RotationLaws.{corners-apart}
+use Rattle.chart_laws.proofs.EditLaws.{closes}
 
 -- three triangles close round in one order only
 pub closes-once : (t u v : Triangle) → T (proper u) → T (closesRound t u v) → T (closesRound t v u) → ⊥

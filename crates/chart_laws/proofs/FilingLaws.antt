@@ -25,9 +25,9 @@ use Rattle.separation.proofs.SideMeets.{side-triangle-meets}
 use Rattle.squares.specs.declared.Square.{Square}
 use Rattle.squares.specs.Square.{depth, wholeSquare, topLeft, topRight, bottomLeft, bottomRight, quarters, squareBox}
 use Rattle.squares.proofs.SquareLaws.{side-half, quarters-level}
 use Rattle.chart_spec.specs.Table.{Table, tableSides, numbered, noTriangle}
 use Rattle.chart_spec.specs.Cells.{sidesMeeting, stopped, cellsIn, cells, trianglesMeeting, cellEntries, entriesIn, entriesOf}
-use Rattle.chart_spec.proofs.TableLaws.{proper-at}
+use Rattle.chart_laws.proofs.TableLaws.{proper-at}
 
 -- a stopped square is its only cell
 pub cellsIn-stopped : (table : Table) (s : Square) → stopped table s ≡ true → cellsIn table s ≡ s ∷ []

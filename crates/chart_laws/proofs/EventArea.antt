@@ -14,18 +14,18 @@ use Rattle.lists.proofs.ListsLaws.{Every}
 use Rattle.lists.proofs.EditedLists.{sumOf-append, sumOf-set}
 use Rattle.plane.specs.declared.Point.{Point}
 use Rattle.plane.specs.Triangle.{Triangle, proper, doubledArea}
 use Rattle.chart_spec.specs.Table.{Table, IsTable, numbered, noTriangle}
 use Rattle.chart_spec.specs.Reading.{totalArea}
 use Rattle.chart_spec.specs.Refusals.{done}
 use Rattle.chart_spec.specs.Edits.{Event, load, split, takeOut, flip, triangle, rotations, splitAt, splitTable, takeOutTable, flipTable, proposed, eventOn}
-use Rattle.chart_spec.proofs.TableLaws.{proper-at}
-use Rattle.chart_spec.proofs.TriangleLaws.{named, inside-parts, area-around, area-across}
-use Rattle.chart_spec.proofs.RotationLaws.{rotations-area, rotations-proper, rotations-apart}
-use Rattle.chart_spec.proofs.GridLaws.{table-proper}
-use Rattle.chart_spec.proofs.EditLaws.{split-done, mergedTriangle, takeOut-done}
-use Rattle.chart_spec.proofs.FlipLaws.{Flipped, flip-done}
-use Rattle.chart_spec.proofs.MergeLaws.{taken-sum, merge-sum}
-use Rattle.chart_spec.proofs.EventTable.{event-proposed}
+use Rattle.chart_laws.proofs.TableLaws.{proper-at}
+use Rattle.chart_laws.proofs.TriangleLaws.{named, inside-parts, area-around, area-across}
+use Rattle.chart_laws.proofs.RotationLaws.{rotations-area, rotations-proper, rotations-apart}
+use Rattle.chart_laws.proofs.GridLaws.{table-proper}
+use Rattle.chart_laws.proofs.EditLaws.{split-done, mergedTriangle, takeOut-done}
+use Rattle.chart_laws.proofs.FlipLaws.{Flipped, flip-done}
+use Rattle.chart_laws.proofs.MergeLaws.{taken-sum, merge-sum}
+use Rattle.chart_laws.proofs.EventTable.{event-proposed}
 
 -- a split keeps the sum of the doubled areas
 pub split-area : (t : ℕ) (p : Point) (table next : Table) → splitTable t p table ≡ done next → totalArea next ≡ totalArea table

@@ -1,0 +1,1 @@
+// Laws of the definitions of chart_spec; no code.
