@@ -1,17 +1,33 @@
 #!/usr/bin/env python3
 """Runs a command program on the cases of tests/cases.txt and the streams of tests/vectors/ and compares what it prints.
 
+It fails as well when there are not as many cases and streams as it counts below, when a block of cases.txt is
+not a name, an input and an output (two blocks that run together are none), when a name repeats, when tests/vectors/ holds other
+files than its MANIFEST lists or a file with another SHA-256, and when the program ends with a status other than 0, says
+something on its standard error, or does not end within a minute.
+
 usage: log_cases.py PROGRAM [ARGUMENT ..]"""
 
-import glob
+import hashlib
 import os
 import re
 import subprocess
 import sys
 
 HERE = os.path.dirname(os.path.abspath(__file__))
+VECTORS = os.path.join(HERE, "vectors")
 PROGRAM = sys.argv[1:]
+# how many there are: a new case or stream is counted here
+CASES = 20
+STREAMS = 17
+SECONDS = 60
 NAMED = {"U": "0,0 65535,0 0,65535", "V": "65535,65535 0,65535 65535,0"}
+faults = []
+
+
+def read(path):
+    with open(path, "rb") as f:
+        return f.read()
 
 
 def command(text):
@@ -36,26 +52,65 @@ def parts(text):
 
 
 def cases():
-    for block in open(os.path.join(HERE, "cases.txt")).read().split("\n\n"):
-        fields = dict(re.findall(r"^(name|in|out): ?(.*)$", block, re.M))
-        if fields:
-            data = b"".join(command(t) for t in parts(fields["in"]))
-            want = "".join(t + "\n" for t in ["overlay log"] + parts(fields["out"])).encode()
-            yield fields["name"], data, want
-    for name in sorted(glob.glob(os.path.join(HERE, "vectors", "*.bin"))):
-        yield os.path.basename(name), open(name, "rb").read(), open(name[:-4] + ".log", "rb").read()
+    """The blocks of cases.txt."""
+    names = set()
+    for block in read(os.path.join(HERE, "cases.txt")).decode().split("\n\n"):
+        lines = [l for l in block.split("\n") if l and not l.startswith("#")]
+        if not lines:
+            continue
+        fields = [re.fullmatch(r"(name|in|out):(?: (.*))?", l) for l in lines]
+        if [f and f.group(1) for f in fields] != ["name", "in", "out"]:
+            faults.append(f"cases.txt: not a name, an input and an output: {lines[:4]}")
+            continue
+        name, given, wanted = (f.group(2) or "" for f in fields)
+        if not name or name in names:
+            faults.append(f"cases.txt: a name that repeats or is none: {name!r}")
+        names.add(name)
+        data = b"".join(command(t) for t in parts(given))
+        yield name, data, "".join(t + "\n" for t in ["overlay log"] + parts(wanted)).encode()
+
+
+def streams():
+    """The pairs of files of tests/vectors/, as its MANIFEST lists them."""
+    listed = dict(reversed(l.split("  ")) for l in read(os.path.join(VECTORS, "MANIFEST")).decode().splitlines())
+    there = set(os.listdir(VECTORS)) - {"MANIFEST"}
+    for name in sorted(there ^ set(listed)):
+        faults.append(f"tests/vectors: {name} is {'not listed' if name in there else 'missing'}")
+    for name in sorted(there & set(listed)):
+        if hashlib.sha256(read(os.path.join(VECTORS, name))).hexdigest() != listed[name]:
+            faults.append(f"tests/vectors: {name} is not what its MANIFEST lists")
+        if name.endswith(".bin"):
+            if name[:-4] + ".log" not in there:
+                faults.append(f"tests/vectors: {name} has no log")
+                continue
+            yield name, read(os.path.join(VECTORS, name)), read(os.path.join(VECTORS, name[:-4] + ".log"))
+
+
+def run(name, data, want):
+    """Whether the program does what it should."""
+    try:
+        done = subprocess.run(PROGRAM, input=data, stdout=subprocess.PIPE, stderr=subprocess.PIPE, timeout=SECONDS)
+    except subprocess.TimeoutExpired:
+        faults.append(f"{name}: no end within {SECONDS} seconds")
+        return
+    if done.returncode != 0:
+        faults.append(f"{name}: ended with status {done.returncode}")
+    if done.stderr:
+        faults.append(f"{name}: said {done.stderr[:300]}")
+    if done.stdout != want:
+        faults.append(f"differs: {name}\n  wanted {want[:300]}\n  got    {done.stdout[:300]}")
 
 
 def main():
-    total = wrong = 0
-    for name, data, want in cases():
-        total += 1
-        got = subprocess.run(PROGRAM, input=data, stdout=subprocess.PIPE).stdout
-        if got != want:
-            wrong += 1
-            print(f"differs: {name}\n  wanted {want[:300]}\n  got    {got[:300]}")
-    print(f"{total} cases, {wrong} differ")
-    sys.exit(1 if wrong or not total else 0)
+    blocks, pairs = list(cases()), list(streams())
+    if len(blocks) != CASES:
+        faults.append(f"cases.txt has {len(blocks)} cases, not {CASES}")
+    if len(pairs) != STREAMS:
+        faults.append(f"tests/vectors has {len(pairs)} streams, not {STREAMS}")
+    for name, data, want in blocks + pairs:
+        run(name, data, want)
+    print("\n".join(faults) if faults else f"{len(blocks)} cases and {len(pairs)} streams, all as stored")
+    sys.exit(1 if faults else 0)
 
 
 main()
