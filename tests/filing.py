@@ -5,7 +5,12 @@ usage: filing.py SEED COUNT
 
 COUNT tables of each kind: overlapping triangles, meshes, slivers, triangles on the borders of squares, repeated triangles,
 copies of one triangle up to 512, and tables of exactly 16,384 and 16,385 entries. A few tables come at the end that nothing is
-drawn for: the empty table, 512 copies, a triangle with D = 0, and two slivers with far too many entries."""
+drawn for: the empty table, one triangle, 512 copies, two triangles that cross, triangles with D = 0 and D < 0, two slivers with
+far too many entries, and 513 copies.
+
+It fails when the lists differ, when a table whose answer is known by its making has another, when something that is to be met
+was not met (see `WANTED`), and when either engine ends with a status other than 0, says something on its standard error or
+does not end."""
 
 import os
 import random
@@ -135,31 +140,58 @@ def reached(counts, total, most):
     return ways.get(total)
 
 
-KINDS = [soup, mesh, slivers, borders, repeated, copies, lambda rng: exactly(rng, LIMIT), lambda rng: exactly(rng, LIMIT + 1)]
+KINDS = {
+    "soup": soup,
+    "mesh": mesh,
+    "slivers": slivers,
+    "borders": borders,
+    "repeated": repeated,
+    "copies": copies,
+    "exactly full": lambda rng: exactly(rng, LIMIT),
+    "one too many": lambda rng: exactly(rng, LIMIT + 1),
+}
 
-PLAIN = [
-    [],
-    [(0, 0, 65535, 0, 0, 65535)] * 512,
-    [(0, 0, 65535, 0, 0, 65535), (0, 0, 5, 5, 9, 9)],
-    [(0, 0, 65535, 0, 65535, 1), (0, 0, 65535, 1, 0, 1)],
-]
+U = (0, 0, 65535, 0, 0, 65535)
+# what nothing is drawn for, and how its answer starts. The program ends after the last one
+PLAIN = {
+    "empty": ([], "1"),
+    "one": ([U], "7"),
+    "512 copies": ([U] * 512, "3073"),
+    "crossing": ([U, (30000, 20000, 60001, 40003, 20005, 60007)], "348"),
+    "D = 0": ([U, (0, 0, 5, 5, 9, 9)], "refused"),
+    "D < 0": ([U, (0, 0, 0, 5, 5, 0)], "refused"),
+    "D < 0 in a full table": ([U] * 511 + [(0, 0, 0, 65535, 65535, 0)], "refused"),
+    "far too many": ([(0, 0, 65535, 0, 65535, 1), (0, 0, 65535, 1, 0, 1)], "over"),
+    "513 copies": ([U] * 513, "refused"),
+}
+# how the answers to drawn tables start, where it is known
+STARTS = {"exactly full": str(LIMIT), "one too many": "over"}
 
 
 # ---- both engines
 
 
+def run(words, data, seconds=300):
+    """What a program prints; everything else that it could do is a fault."""
+    try:
+        done = subprocess.run(words, input=data, stdout=subprocess.PIPE, stderr=subprocess.PIPE, timeout=seconds)
+    except subprocess.TimeoutExpired:
+        sys.exit(f"{words}: no end within {seconds} seconds")
+    if done.returncode != 0 or done.stderr:
+        sys.exit(f"{words}: ended with status {done.returncode}, said {done.stderr[:300]}")
+    return done.stdout.decode()
+
+
 def by_model(table):
     text = "".join(" ".join(map(str, t)) + "\n" for t in table)
-    out = subprocess.run([MODEL, "entries"], input=text.encode(), stdout=subprocess.PIPE, check=True).stdout.decode()
-    lines = out.split("\n")[:-1]
+    lines = run([MODEL, "entries"], text.encode()).split("\n")[:-1]
     return ["refused"] if lines[0].startswith("refused") else lines
 
 
 def by_program(tables):
     """The lines of each table."""
     data = b"".join(struct.pack("<H", len(t)) + b"".join(struct.pack("<6H", *c) for c in t) for t in tables)
-    out = subprocess.run([PROGRAM], input=data, stdout=subprocess.PIPE, check=True).stdout.decode()
-    lines = out.split("\n")[:-1]
+    lines = run([PROGRAM], data).split("\n")[:-1]
     answers, k = [], 0
     while k < len(lines):
         end = k + 1 + (int(lines[k]) if lines[k].isdigit() else 0)
@@ -170,24 +202,65 @@ def by_program(tables):
     return answers
 
 
+# ---- what is met
+
+
+def met(name, table, answer):
+    """What a table and its answer show."""
+    yield name
+    yield f"{len(table)} triangles" if len(table) in (0, 1, 512) else "some triangles"
+    if answer[0] in ("over", "refused"):
+        yield answer[0]
+        return
+    if answer[0] == str(LIMIT):
+        yield f"{LIMIT} entries"
+    entries = [tuple(map(int, l.split())) for l in answer[1:]]
+    for key, level, item in entries:
+        yield f"level {level}"
+        if item == 65535:
+            yield "the mark"
+    cells = [(key, level) for key, level, _ in entries]
+    if len(set(cells)) < len(cells):
+        yield "several triangles in a cell"
+
+
+# each kind is to be met as often as asked, and each of these once
+WANTED_KINDS = ["soup", "mesh", "slivers", "borders", "repeated", "copies", "exactly full", "one too many"]
+WANTED = ["empty", "one", "512 copies", "crossing", "D = 0", "D < 0", "D < 0 in a full table", "far too many", "513 copies"]
+WANTED += ["over", "refused", f"{LIMIT} entries", "0 triangles", "1 triangles", "512 triangles", "some triangles"]
+WANTED += [f"level {k}" for k in range(17)] + ["the mark", "several triangles in a cell"]
+
+
+def missing(seen, count):
+    """What was to be met, and was not."""
+    wanted = dict.fromkeys(WANTED_KINDS, max(1, count)) | dict.fromkeys(WANTED, 1)
+    return [f"{what}: {seen.get(what, 0)} times" for what, least in wanted.items() if seen.get(what, 0) < least]
+
+
 def main():
     seed, count = int(sys.argv[1]), int(sys.argv[2])
     rng = random.Random(seed)
-    tables = [kind(rng) for _ in range(count) for kind in KINDS] + PLAIN
+    tables = [(name, kind(rng), STARTS.get(name)) for _ in range(count) for name, kind in KINDS.items()]
+    tables += [(name, table, start) for name, (table, start) in PLAIN.items()]
     print(f"filing {len(tables)} tables, seed {seed}")
-    answers = by_program(tables)
+    answers = by_program([table for _, table, _ in tables])
     if len(answers) != len(tables):
         print(f"{len(tables)} tables, {len(answers)} answers")
         return 1
-    seen = {"over": 0, "refused": 0}
-    for k, (table, answer) in enumerate(zip(tables, answers)):
+    seen = {}
+    for k, ((name, table, start), answer) in enumerate(zip(tables, answers)):
         expected = by_model(table)
-        if answer != expected:
-            print(f"table {k} of {len(table)} triangles: {table[:4]} ..")
+        if answer != expected or answer[0] != (start or answer[0]):
+            print(f"table {k}, {name}, of {len(table)} triangles: {table[:4]} .., to start with {start}")
             print(f"  program {answer[:5]} .. ({len(answer)} lines), model {expected[:5]} .. ({len(expected)} lines)")
             return 1
-        seen[expected[0]] = seen.get(expected[0], 0) + 1
-    print(f"all agree; {seen['over']} over, {seen['refused']} refused, {seen.get(str(LIMIT), 0)} of exactly {LIMIT:,} entries")
+        for what in set(met(name, table, answer)):
+            seen[what] = seen.get(what, 0) + 1
+    lacking = missing(seen, count)
+    if lacking:
+        print("not met: " + "; ".join(lacking))
+        return 1
+    print(f"all agree; {seen['over']} over, {seen['refused']} refused, {seen[f'{LIMIT} entries']} of exactly {LIMIT:,} entries")
     return 0
 
 
