@@ -282,6 +282,8 @@ def ladder(key, levels):
 CHAINS = {
     "sixteen cells": (grid(), 0),
     "cells of every level": ([(0, 16, MARK)] + ladder(1, range(16, 0, -1)), 0),
+    "a cell of one key with level 17": ([(0, 17, MARK)] + ladder(1, range(16, 0, -1)), 2),
+    "a cell of one key with level 255": ([(0, 255, MARK)] + ladder(1, range(16, 0, -1)), 2),
     "the first cell is missing": (grid(1), 2),
     "a cell is missing": (grid(0, 5) + grid(6), 2),
     "the last cell is missing": (grid(0, 15), 2),
@@ -362,7 +364,8 @@ a triangle number beside the mark; a triangle with D = 0; a triangle with D < 0;
 another listing; a triangle that does not meet its cell; another triangle; one cell for all; a triangle fewer; no triangle left;
 an entry fewer; an entry more; no entry; 513 triangles; 65538 triangles; 2^32 - 1 triangles; 16385 counted; 65546 counted;
 70000 counted; 2^32 - 1 counted; both counts at their most; unused places; a chain of 16384 entries and 512 triangles;
-sixteen cells; cells of every level; the first cell is missing; a cell is missing; the last cell is missing; a cell too many;
+sixteen cells; cells of every level; a cell of one key with level 17; a cell of one key with level 255; the first cell is missing;
+a cell is missing; the last cell is missing; a cell too many;
 a cell inside the one before; keys that are no multiples; a cell twice with the mark; a number at the count alone;
 a chain of 16384 entries and 513 triangles; a chain of 16385 entries and 512 triangles; a chain of 16385 entries and 513 triangles;
 drawn; drawn damage"""

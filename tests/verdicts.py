@@ -1,77 +1,239 @@
 #!/usr/bin/env python3
-"""Reads what rt ci printed and left behind, and fails where a verdict does not mean what it should:
+"""Reads what rt ci printed and left behind, and fails where a verdict does not mean what it should.
 
-- a crate's verdict carries axioms that its kind may not have (none for a library; two, read and write, for a program), or
-  a word `=trusted` other than the toolchain's own two;
-- a must-fail edit was refused for another reason than a fact that fails: a name that is not there, text that does not
-  parse, a proof file that no longer fits its code.
+usage: verdicts.py LOG
 
-usage: verdicts.py LOG"""
+Crates: each crate of crates.txt is proved in this run, once, and has one `logic=proved` line of its own before its verdict; the
+line has no word that is not known here; a library has no axioms, a program the two of libc, read and write, and it ran.
 
+Must-fail edits: each file below a must-fail/ folder is one that rt tries (crates/NAME/must-fail/LABEL.edit), each edit was
+refused in this run and has its log, and each log has its edit. An edit starts with a sentence, `# ..`, and goes on with `file:`,
+`old:` and `new:` lines alone, for src/ and specs/ (an edit of a proof shows nothing).
+
+What an edit shows: its first error is a fact that fails. The reasons are listed in FACTS, everything else fails: a name that is not
+there, text that does not parse, a field or a requirement that another shape of the code would have. A type that does not fit can
+also come from a proof that no longer fits its code, so beyond that
+
+- an edit of src/ keeps the operators, calls, keywords and types of the code, each as often as before, and changes operands
+  alone: constants, variables, fields, enum variants. A comparison may become strict or not strict (< and <=, > and >=). It may
+  become another comparison where `omega` refuses, which gives numbers at which the fact fails;
+- an edit of specs/ makes a computed example fail, there or further down in its log."""
+
+import collections
 import glob
 import os
 import re
 import sys
 
 ROOT = os.path.dirname(os.path.dirname(os.path.abspath(__file__)))
-# first errors that show nothing about a fact
-IDLE = [
-    r"has no `Need-",
-    r"is not in scope",
-    r"that can be named from here",
-    r"a declaration is a signature",
-    r"expected one of",
-    r"this tuple has \d+ components",
-    r"not a constructor of",
-    r"does not parse",
-]
+LEFT = os.path.join(ROOT, "target", "must-fail")
+# the words of a `logic=proved` line
+WORDS = r"functions=\d+|axioms=2|target=x86_64-unknown-linux-gnu|sum=[0-9a-f]+|native=nat,char,string|(logic|libraries)-built=trusted"
+AXIOMS = "axioms libc: libc::read, libc::write (2 of the "
+# why a fact fails, as the first error says after its name
+FACTS = {
+    "types": r"(as printed|computed as far as they go), the two (types|values) (first differ|differ only|are) |expected type `",
+    "omega": r"`omega`: .*does not follow from what it read",
+    "search": r"`search`: no proof of ",
+    "rw": r"give a proof of that as the last argument, `rw L t`|`rw`: no occurrence of the path's (left|right) endpoint in ",
+    "simp": r"give a proof of that as the last argument, `simp L t`|`simp`: no equation of the list (can be applied|has an instance)",
+    "cc": r"`cc`: the equations do not join ",
+}
+KEYWORDS = "as break const continue else enum fn for ghost if impl in let loop match mut pub return struct use while".split()
+TYPES = "bool u8 u16 u32 u64 usize i8 i16 i32 i64 isize".split()
 faults = []
 
 
-def programs():
-    return {os.path.basename(os.path.dirname(os.path.dirname(p))) for p in glob.glob(os.path.join(ROOT, "crates", "*", "src", "main.rt"))}
+def read(path):
+    with open(path, encoding="utf-8", errors="replace") as f:
+        return f.read()
 
 
-def crates(text):
-    verdict = None
+# ---- crates
+
+
+def listed():
+    """The crates of crates.txt, in their order."""
+    lines = [l for l in read(os.path.join(ROOT, "crates.txt")).split("\n") if l.strip() and not l.startswith("#")]
+    return [l.split(":")[0].strip() for l in lines]
+
+
+def is_program(name):
+    return os.path.isfile(os.path.join(ROOT, "crates", name, "src", "main.rt"))
+
+
+def judge_crate(name, lines):
+    """What was printed for a crate before its verdict."""
+    verdicts = [l for l in lines if l.startswith("logic=")]
+    if len(verdicts) != 1 or not verdicts[0].startswith("logic=proved "):
+        faults.append(f"{name}: not one line logic=proved before its verdict: {verdicts}")
+        return
+    words = verdicts[0].split()[1:]
+    for word in words:
+        if not re.fullmatch(WORDS, word):
+            faults.append(f"{name}: {word} in its verdict")
+    axioms = [l for l in lines if l.startswith("axioms")]
+    if is_program(name):
+        if "axioms=2" not in words or len(axioms) != 1 or not axioms[0].startswith(AXIOMS):
+            faults.append(f"{name}: other axioms than read and write: {axioms}: {verdicts[0]}")
+    elif "axioms=2" in words or axioms:
+        faults.append(f"{name}: axioms: {axioms}: {verdicts[0]}")
+
+
+def judge_crates(text):
+    names, lines, seen, ran = listed(), [], [], []
     for line in text.split("\n"):
-        if line.startswith("logic="):
-            verdict = line
-        done = re.match(r"rt: (\S+) proved \(", line)
+        done = re.fullmatch(r"rt: (\S+) proved \((.*)\)", line)
         if done:
-            yield done.group(1), verdict or ""
-            verdict = None
+            seen.append(done.group(1))
+            if not re.fullmatch(r"\d+ s", done.group(2)):
+                faults.append(f"{done.group(1)}: not proved in this run: {line}")
+            judge_crate(done.group(1), lines)
+            lines = []
+        else:
+            lines.append(line)
+        run = re.match(r"rt: (\S+) ran(?: as nobody)?, and wrote what its file 'stdout' has ", line)
+        if run:
+            ran.append(run.group(1))
+        if re.match(r"rt: .*(NOT PROVED|NOT REFUSED|BAD EDIT|FAILED)", line):
+            faults.append(line[:300])
+    if sorted(seen) != sorted(names):
+        faults.append(f"the crates proved are not those of crates.txt: {sorted(set(seen) ^ set(names)) or 'one of them twice'}")
+    if sorted(ran) != sorted(n for n in names if is_program(n)):
+        faults.append(f"the programs that ran are {ran}")
+    return len(names)
+
+
+# ---- must-fail edits
+
+
+def edits():
+    """The edits that rt tries, as NAME/LABEL, from all files below must-fail/ folders."""
+    names = listed()
+    for folder, folders, files in os.walk(ROOT):
+        folders[:] = sorted(f for f in folders if f not in (".git", "target"))
+        where = os.path.relpath(folder, ROOT).split(os.sep)
+        if "must-fail" not in where:
+            continue
+        tried = len(where) == 3 and where[0] == "crates" and where[1] in names
+        for name in sorted(files):
+            path = os.path.join(folder, name)
+            if tried and re.fullmatch(r"[^.].*\.edit", name) and not os.path.islink(path):
+                yield f"{where[1]}/{name[:-5]}"
+            else:
+                faults.append(f"{os.path.relpath(path, ROOT)}: rt does not try it")
+
+
+def replacements(label):
+    """The file, old and new text of each replacement of an edit."""
+    name, edit = label.split("/")
+    lines = read(os.path.join(ROOT, "crates", name, "must-fail", edit + ".edit")).rstrip("\n").split("\n")
+    if not re.match(r"# \S", lines[0]):
+        faults.append(f"must-fail {label}: its first line does not say what it breaks")
+    found, file, old = [], None, None
+    for line in lines[1:]:
+        if re.match(r"file: (src|specs)/", line):
+            file = line[len("file: ") :]
+        elif line.startswith("old: ") and file and old is None:
+            old = line[len("old: ") :]
+        elif re.match(r"new:( |$)", line) and old is not None:
+            found.append((file, old, line[len("new: ") :]))
+            old = None
+        elif not line.startswith("# "):
+            faults.append(f"must-fail {label}: a line that does not belong there: {line}")
+    if not found or old is not None:
+        faults.append(f"must-fail {label}: not pairs of old and new text of src/ or specs/")
+    return found
+
+
+def failing(label):
+    """The laws at which an edit was refused, each with the kind of its fact; none when the first is at no fact."""
+    path = os.path.join(LEFT, label, ".log")
+    if not os.path.isfile(path):
+        faults.append(f"must-fail {label}: no log")
+        return []
+    found = []
+    for line in read(path).split("\n"):
+        if not re.match(r"error|\S+:\d+:\d+: error", line):
+            continue
+        error = re.match(r"\S+:\d+:\d+: error: `([^`]+)`: (.*)", line)
+        kinds = [kind for kind, pattern in FACTS.items() if error and re.match(pattern, error.group(2))]
+        if kinds:
+            found.append((error.group(1), kinds[0]))
+        elif not found:
+            faults.append(f"must-fail {label}: refused, but not at a fact: {line[:400]}")
+            return []
+    if not found:
+        faults.append(f"must-fail {label}: no error in its log")
+    return found
+
+
+def code_shape(text, loose):
+    """The operators, calls, keywords and types of a piece of code, each with how often it stands there. Operands do not count:
+    names, fields, numbers, enum variants. Strict and not strict comparisons count as one, with `loose` all comparisons."""
+    shape = collections.Counter()
+    tokens = re.findall(r"[A-Za-z_]\w*(?:::[A-Za-z_]\w*)*|\d\w*|<<|>>|[<>=!]=|&&|\|\||[-+*/%&|^]=|[-=]>|\.\.=?|\S", text)
+    for token, after in zip(tokens, tokens[1:] + [""]):
+        if re.match(r"[A-Za-z_]", token):
+            variant = re.match(r"[A-Z]", token.split("::")[-1])
+            if token in KEYWORDS or token in TYPES:
+                shape[token] += 1
+            elif after == "(" and not variant or after == "{" and variant:
+                shape[token + after] += 1
+        elif token in ("<", "<=", ">", ">=", "==", "!="):
+            shape["comparison" if loose else token[0] if token[0] in "<>" else token] += 1
+        elif not re.match(r"\d", token) and token not in "(),;:.":
+            shape[token] += 1
+    return shape
+
+
+def changed(before, after):
+    return ", ".join(f"{sign}{token}" for sign, part in (("-", before - after), ("+", after - before)) for token in part.elements())
+
+
+def judge_edit(label):
+    pairs, laws = replacements(label), failing(label)
+    if all(old == new for _, old, new in pairs):
+        faults.append(f"must-fail {label}: it changes nothing")
+    if not laws:
+        return
+    law, kind = laws[0]
+    before, after = collections.Counter(), collections.Counter()
+    for file, old, new in pairs:
+        if file.startswith("src/"):
+            before += code_shape(old, kind == "omega")
+            after += code_shape(new, kind == "omega")
+    if before != after:
+        faults.append(f"must-fail {label}: other operators or calls: {changed(before, after)} (refused at {law}: {kind})")
+    examples = [law for law, kind in laws if kind == "types" and re.search("-example$|^marked-cases$", law)]
+    if any(file.startswith("specs/") for file, _, _ in pairs) and not examples:
+        faults.append(f"must-fail {label}: no computed example fails (refused at {law}: {kind})")
+
+
+def judge_edits(text):
+    labels = list(edits())
+    lines = re.findall(r"^rt: must-fail (\S+): (.*)$", text, re.M)
+    refused = [label for label, said in lines if said.startswith("refused, as it must be (")]
+    if sorted(refused) != sorted(labels):
+        faults.append(f"the edits refused are not those there: {sorted(set(refused) ^ set(labels)) or 'one of them twice'}")
+    logs = {os.path.relpath(os.path.dirname(path), LEFT) for path in glob.glob(os.path.join(LEFT, "*", "*", ".log"))}
+    for label in sorted(logs - set(labels)):
+        faults.append(f"must-fail {label}: a log without its edit")
+    for label in labels:
+        judge_edit(label)
+    return len(labels)
 
 
 def main():
-    text = open(sys.argv[1]).read()
-    seen = 0
-    runs = programs()
-    for name, verdict in crates(text):
-        seen += 1
-        axioms = re.search(r"axioms=(\d+)", verdict)
-        count = int(axioms.group(1)) if axioms else 0
-        if count != (2 if name in runs else 0):
-            faults.append(f"{name}: {count} axioms: {verdict}")
-        for word in re.findall(r"(\S+)=trusted", verdict):
-            if word not in ("logic-built", "libraries-built"):
-                faults.append(f"{name}: {word}=trusted")
-    edits = 0
-    for log in sorted(glob.glob(os.path.join(ROOT, "target", "must-fail", "*", "*", ".log"))):
-        edits += 1
-        label = "/".join(log.split(os.sep)[-3:-1])
-        errors = [l for l in open(log, errors="replace").read().split("\n") if "error" in l]
-        first = errors[0] if errors else ""
-        if not first:
-            faults.append(f"must-fail {label}: no error in its log")
-        for pattern in IDLE:
-            if re.search(pattern, first):
-                faults.append(f"must-fail {label}: refused, but not at a fact: {first[:300]}")
-    for edit in sorted(glob.glob(os.path.join(ROOT, "crates", "*", "must-fail", "*.edit"))):
-        if not open(edit).readline().startswith("# "):
-            faults.append(f"{os.path.relpath(edit, ROOT)}: its first line does not say what it breaks")
-    print("\n".join(faults) if faults else f"{seen} crates, {edits} must-fail edits, each refused at a fact")
-    sys.exit(1 if faults or not seen else 0)
+    text = read(sys.argv[1])
+    crates, tried = judge_crates(text), judge_edits(text)
+    if not crates or not tried:
+        faults.append(f"{crates} crates, {tried} must-fail edits")
+    wanted = [f"rt: ok, {crates} crates proved, {tried} must-fail edits refused", f"{crates + tried} passed, 0 failed"]
+    if text.rstrip("\n").split("\n")[-2:] != wanted:
+        faults.append(f"the log does not end with {wanted}")
+    print("\n".join(faults) if faults else f"{crates} crates, {tried} must-fail edits, each refused at a fact")
+    sys.exit(1 if faults else 0)
 
 
 main()
