@@ -1,3 +1,10 @@
 pub mod Evaluate
 pub mod MarkedCases
+pub mod TableExamples
+pub mod RefusalsExamples
+pub mod EditExamples
+pub mod EventExamples
+pub mod CellsExamples
+pub mod OverlayExamples
+pub mod ReadingExamples
 pub mod Examples

@@ -1,0 +1,82 @@
+-- Examples of Reading.antt: entries that list more than they should, so that each test decides alone.
+-- Assumes nothing.
+use mathlib.Core.Path.{_≡_, refl}
+use mathlib.Core.Bool.{Bool, true, false}
+use mathlib.Core.List.{List, [], _∷_, map}
+use mathlib.Core.Option.{Option, none, some}
+use Prim.Native.Nat.{ℕ}
+use Rattle.orthtree.specs.Entries.{Entry}
+use Rattle.plane.specs.declared.Point.{Point}
+use Rattle.plane.specs.Triangle.{Triangle}
+use Rattle.chart_spec.specs.Table.{Table}
+use Rattle.chart_spec.specs.Reading.{cellOf, listing, located, sound, totalArea}
+use Rattle.chart_spec.proofs.Evaluate.{evaluate}
+use Rattle.chart_spec.proofs.MarkedCases.{at}
+use Rattle.chart_spec.proofs.EditExamples.{pa, pb, pc, pd, pp, tri}
+use Rattle.chart_spec.proofs.OverlayExamples.{entry}
+
+-- four quarters: two triangles, one, the mark, and three
+abbrev es : List Entry
+es =
+    entry 0 1 1
+    ∷ entry 0 1 2
+    ∷ entry 1073741824 1 5
+    ∷ entry 2147483648 1 65535
+    ∷ entry 3221225472 1 0
+    ∷ entry 3221225472 1 4
+    ∷ entry 3221225472 1 6
+    ∷ []
+
+-- the last point of the first quarter, the first of the second, third and last
+cellOf-example : map (λ p. cellOf es p) (at 32767 32767 ∷ at 32768 0 ∷ at 0 32768 ∷ at 65535 65535 ∷ [])
+    ≡ (entry 0 1 1 ∷ entry 0 1 2 ∷ [])
+    ∷ (entry 1073741824 1 5 ∷ [])
+    ∷ (entry 2147483648 1 65535 ∷ [])
+    ∷ (entry 3221225472 1 0 ∷ entry 3221225472 1 4 ∷ entry 3221225472 1 6 ∷ [])
+    ∷ []
+unfolding evaluate
+cellOf-example = refl
+
+-- the mark is no triangle
+listing-cells-example : map (λ p. listing es p) (at 32767 32767 ∷ at 32768 0 ∷ at 0 32768 ∷ at 32768 32768 ∷ [])
+    ≡ (1 ∷ 2 ∷ []) ∷ (5 ∷ []) ∷ [] ∷ (0 ∷ 4 ∷ 6 ∷ []) ∷ []
+unfolding evaluate
+listing-cells-example = refl
+
+-- the point is strictly inside 0, on a side of 1, strictly inside 2, outside 3
+abbrev table : Table
+table = tri pa pb pc ∷ tri pp pc pa ∷ tri pa pb pc ∷ tri pb pa pd ∷ []
+
+-- the lowest of those listed that holds the point: 0 is not listed, 1 holds it by its border; 3 alone does not hold it
+located-listed-example :
+    located table (entry 0 0 1 ∷ entry 0 0 2 ∷ entry 0 0 3 ∷ []) pp
+    ∷ located table (entry 0 0 2 ∷ entry 0 0 3 ∷ []) pp
+    ∷ located table (entry 0 0 3 ∷ []) pp
+    ∷ located table (entry 0 0 65535 ∷ []) pp
+    ∷ located table (entry 0 1 3 ∷ entry 1073741824 1 0 ∷ []) pp
+    ∷ located table (entry 0 0 0 ∷ entry 0 0 1 ∷ []) pp
+    ∷ []
+    ≡ some 1 ∷ some 2 ∷ none ∷ none ∷ none ∷ some 0 ∷ []
+unfolding evaluate
+located-listed-example = refl
+
+-- no triangle, one, two that share a side, the same twice, and two of three that share ground, first and last
+sound-pairs-example :
+    map (λ t. sound t)
+    ([]
+    ∷ (tri pa pb pc ∷ [])
+    ∷ (tri pa pb pc ∷ tri pb pa pd ∷ [])
+    ∷ (tri pa pb pc ∷ tri pa pb pc ∷ [])
+    ∷ (tri pa pb pc ∷ tri pb pa pd ∷ tri pa pb pp ∷ [])
+    ∷ (tri pb pa pd ∷ tri pa pb pc ∷ tri pa pb pp ∷ [])
+    ∷ (tri pa pb pc ∷ tri pa pb pp ∷ tri pb pa pd ∷ [])
+    ∷ (tri pa pb pp ∷ tri pb pa pd ∷ tri pb pc pp ∷ tri pc pa pp ∷ [])
+    ∷ [])
+    ≡ true ∷ true ∷ true ∷ false ∷ false ∷ false ∷ false ∷ true ∷ []
+unfolding evaluate
+sound-pairs-example = refl
+
+-- D of each triangle, added
+totalArea-example : map (λ t. totalArea t) ([] ∷ (tri pa pb pc ∷ []) ∷ (tri pb pa pd ∷ []) ∷ (tri pa pb pc ∷ tri pb pa pd ∷ []) ∷ []) ≡ 0 ∷ 2189 ∷ 554 ∷ 2743 ∷ []
+unfolding evaluate
+totalArea-example = refl
