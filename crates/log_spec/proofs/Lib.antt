@@ -1,2 +1,4 @@
 pub mod Evaluate
+pub mod LineExamples
+pub mod CommandExamples
 pub mod Examples
