@@ -1,3 +1,5 @@
 pub mod Evaluate
 pub mod BuffersLaws
+pub mod BufferExamples
+pub mod CallExamples
 pub mod Examples

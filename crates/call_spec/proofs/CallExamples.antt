@@ -1,0 +1,248 @@
+-- Examples of Calls.antt and History.antt: every refusal, the order in which they are judged, accepted edits of each kind, and
+-- overlays of two different charts. What an example does not depend on is any list, chart, edit or event.
+-- Assumes nothing.
+use mathlib.Core.Path.{_≡_, refl}
+use mathlib.Core.Bool.{Bool, true, false}
+use mathlib.Core.List.{List, [], _∷_, _++_, map}
+use mathlib.Core.Option.{Option, none, some}
+use Prim.Native.Nat.{ℕ}
+use lib.ListN.{take, replicate}
+use Rattle.plane.specs.declared.Point.{Point}
+use Rattle.plane.specs.Triangle.{Triangle}
+use Rattle.chart_spec.specs.Table.{Table}
+use Rattle.chart_spec.specs.Refusals.{Refusal, shortBuffer, brokenChain, staleEntries, noFlip, Outcome, refused, done, numberOf, andThen}
+use Rattle.chart_spec.specs.Edits.{Event, load, split, takeOut, flip, eventOn, withinLimit}
+use Rattle.chart_spec.specs.Overlay.{Hatch}
+use Rattle.chart_spec.proofs.MarkedCases.{at}
+use Rattle.chart_spec.proofs.RefusalsExamples.{rows}
+use Rattle.chart_spec.proofs.EditExamples.{tri}
+use Rattle.call_spec.specs.Buffers.{Chart, chartOf, filedChart}
+use Rattle.call_spec.specs.Calls.{Changed, Overlaid, changedBy, loadCall, editCall, splitCall, takeOutCall, flipCall, reading, locateCall, listingCall, soundCall, areaCall, pairsRefused, overlaidBy, overlayCall}
+use Rattle.call_spec.specs.History.{eventCall, chartAfter}
+use Rattle.call_spec.proofs.Evaluate.{evaluate}
+
+-- Charts that the examples share
+
+-- these lists and zeros, in buffers that are longer than asked
+abbrev filled : List ℕ → List ℕ → List ℕ → List ℕ → ℕ → ℕ → Chart
+filled t ks ls is n e =
+    chartOf (t ++ replicate 3072 0) (ks ++ replicate 16384 0) (ls ++ replicate 16384 0) (is ++ replicate 16384 0) n e
+
+abbrev U : Triangle
+U = tri (at 0 0) (at 65535 0) (at 0 65535)
+
+abbrev numbersU : List ℕ
+numbersU = 0 ∷ 0 ∷ 65535 ∷ 0 ∷ 0 ∷ 65535 ∷ []
+
+abbrev numbersV : List ℕ
+numbersV = 65535 ∷ 65535 ∷ 0 ∷ 65535 ∷ 65535 ∷ 0 ∷ []
+
+abbrev Vt : Triangle
+Vt = tri (at 65535 65535) (at 0 65535) (at 65535 0)
+
+abbrev keysU : List ℕ
+keysU = 0 ∷ 268435456 ∷ 536870912 ∷ 805306368 ∷ 1073741824 ∷ 2147483648 ∷ 3221225472 ∷ []
+
+abbrev levelsU : List ℕ
+levelsU = 2 ∷ 2 ∷ 2 ∷ 2 ∷ 1 ∷ 1 ∷ 1 ∷ []
+
+-- U; V; U with V
+abbrev chartU : Chart
+chartU = filled numbersU keysU levelsU (0 ∷ 0 ∷ 0 ∷ 0 ∷ 0 ∷ 0 ∷ 65535 ∷ []) 1 7
+
+abbrev chartUV : Chart
+chartUV =
+    filled
+    (numbersU ++ numbersV)
+    (0 ∷ 268435456 ∷ 536870912 ∷ 805306368 ∷ 805306368 ∷ 1073741824 ∷ 1073741824 ∷ 2147483648 ∷ 2147483648 ∷ 3221225472 ∷ [])
+    (2 ∷ 2 ∷ 2 ∷ 2 ∷ 2 ∷ 1 ∷ 1 ∷ 1 ∷ 1 ∷ 1 ∷ [])
+    (0 ∷ 0 ∷ 0 ∷ 0 ∷ 1 ∷ 0 ∷ 1 ∷ 0 ∷ 1 ∷ 1 ∷ [])
+    2
+    10
+
+-- short; a broken chain and wrong entries; wrong entries alone
+abbrev short : Chart
+short = chartOf numbersU keysU levelsU [] 1 6
+
+abbrev broken : Chart
+broken = filled numbersV keysU levelsU (0 ∷ 0 ∷ 0 ∷ 0 ∷ 0 ∷ 0 ∷ 65535 ∷ []) 1 6
+
+abbrev stale : Chart
+stale = filled numbersV keysU levelsU (0 ∷ 0 ∷ 0 ∷ 0 ∷ 0 ∷ 0 ∷ 65535 ∷ []) 1 7
+
+-- Load and the edits
+
+-- a refusal gives its number and value and the chart as it was; else the table is filed
+changedBy-example : (c : Chart)
+    → map (λ r. changedBy c (refused r)) rows
+    ≡ record { number = 1; value = 0; chart = c }
+    ∷ record { number = 2; value = 0; chart = c }
+    ∷ record { number = 3; value = 0; chart = c }
+    ∷ record { number = 4; value = 0; chart = c }
+    ∷ record { number = 5; value = 7; chart = c }
+    ∷ record { number = 6; value = 0; chart = c }
+    ∷ record { number = 7; value = 0; chart = c }
+    ∷ record { number = 8; value = 0; chart = c }
+    ∷ record { number = 9; value = 0; chart = c }
+    ∷ record { number = 10; value = 0; chart = c }
+    ∷ record { number = 11; value = 0; chart = c }
+    ∷ record { number = 12; value = 0; chart = c }
+    ∷ []
+unfolding evaluate
+changedBy-example c = refl
+
+changedBy-done-example : (c : Chart) (t : Table) → changedBy c (done t) ≡ record { number = 0; value = 0; chart = filedChart c t }
+unfolding evaluate
+changedBy-done-example c t = refl
+
+-- 1 comes first; then whatever the event comes to, 11 too; a broken chain and wrong entries do not matter
+loadCall-example : (ns : List ℕ)
+    → loadCall ns short ∷ loadCall ns broken ∷ []
+    ≡ changedBy short (refused shortBuffer) ∷ changedBy broken (eventOn (load ns) (Vt ∷ [])) ∷ []
+unfolding evaluate
+loadCall-example ns = refl
+
+-- 5 with the lowest faulty triangle
+loadCall-faulty-example : loadCall (numbersU ++ (0 ∷ 0 ∷ 5 ∷ 5 ∷ 9 ∷ 9 ∷ []) ++ numbersU) chartU ≡ record { number = 5; value = 1; chart = chartU }
+unfolding evaluate
+loadCall-faulty-example = refl
+
+-- 1, 2 and 3 before any edit, in this order; then what the edit makes of the table, and 11
+editCall-example : (edit : Table → Outcome Table)
+    → map (λ c. editCall edit c) (short ∷ broken ∷ stale ∷ chartU ∷ [])
+    ≡ changedBy short (refused shortBuffer)
+    ∷ changedBy broken (refused brokenChain)
+    ∷ changedBy stale (refused staleEntries)
+    ∷ changedBy chartU (andThen (edit (U ∷ [])) (λ t. withinLimit t))
+    ∷ []
+unfolding evaluate
+editCall-example edit = refl
+
+-- a split: the new table and its entries; then the point is taken out again
+abbrev splitU : Changed
+unfolding evaluate
+splitU = splitCall 0 (at 20000 10000) chartU
+
+splitCall-example : splitU .number ∷ splitU .value ∷ splitU .chart .triangleCount ∷ take 19 (splitU .chart .table)
+    ≡ 0 ∷ 0 ∷ 3 ∷ 0 ∷ 0 ∷ 65535 ∷ 0 ∷ 20000 ∷ 10000 ∷ 65535 ∷ 0 ∷ 0 ∷ 65535 ∷ 20000 ∷ 10000 ∷ 0 ∷ 65535 ∷ 0 ∷ 0 ∷ 20000 ∷ 10000 ∷ 0 ∷ []
+unfolding evaluate
+splitCall-example = refl
+
+takeOutCall-example : takeOutCall (at 20000 10000) (splitU .chart) ≡ record { number = 0; value = 0; chart = chartU }
+unfolding evaluate
+takeOutCall-example = refl
+
+-- flips of 0 and 1 and of 1 and 0 differ
+abbrev flipped : Changed → List ℕ
+flipped r = r .number ∷ r .value ∷ r .chart .triangleCount ∷ r .chart .entryCount ∷ take 13 (r .chart .table)
+
+flipCall-example : flipped (flipCall 0 1 chartUV) ∷ flipped (flipCall 1 0 chartUV) ∷ []
+    ≡ (0 ∷ 0 ∷ 2 ∷ 14 ∷ 65535 ∷ 0 ∷ 65535 ∷ 65535 ∷ 0 ∷ 0 ∷ 65535 ∷ 65535 ∷ 0 ∷ 65535 ∷ 0 ∷ 0 ∷ 0 ∷ [])
+    ∷ (0 ∷ 0 ∷ 2 ∷ 14 ∷ 0 ∷ 0 ∷ 65535 ∷ 0 ∷ 65535 ∷ 65535 ∷ 0 ∷ 65535 ∷ 0 ∷ 0 ∷ 65535 ∷ 65535 ∷ 0 ∷ [])
+    ∷ []
+unfolding evaluate
+flipCall-example = refl
+
+-- Readers
+
+-- 1, then 2, then what is read; entries that are not the table's do not matter
+reading-example : (a : ℕ) → map (λ c. reading c a) (short ∷ broken ∷ stale ∷ chartU ∷ []) ≡ refused shortBuffer ∷ refused brokenChain ∷ done a ∷ done a ∷ []
+unfolding evaluate
+reading-example a = refl
+
+-- a stale chart is read as it stands: the point is in V, but in a cell that lists nothing
+locateCall-example : map (λ c. locateCall c (at 60000 50000)) (stale ∷ chartUV ∷ short ∷ broken ∷ [])
+    ≡ record { number = 0; found = none } ∷ record { number = 0; found = some 1 } ∷ record { number = 1; found = none } ∷ record { number = 2; found = none } ∷ []
+unfolding evaluate
+locateCall-example = refl
+
+listingCall-example : map (λ c. listingCall c (at 1 65535)) (chartUV ∷ stale ∷ short ∷ broken ∷ []) ≡ (0 ∷ 1 ∷ []) ∷ (0 ∷ []) ∷ [] ∷ [] ∷ []
+unfolding evaluate
+listingCall-example = refl
+
+-- U twice, in one cell, is not sound
+soundCall-example : map (λ c. soundCall c) (chartUV ∷ filled (numbersU ++ numbersU) (0 ∷ []) (0 ∷ []) (65535 ∷ []) 2 1 ∷ short ∷ broken ∷ [])
+    ≡ record { number = 0; isSound = true } ∷ record { number = 0; isSound = false } ∷ record { number = 1; isSound = false } ∷ record { number = 2; isSound = false } ∷ []
+unfolding evaluate
+soundCall-example = refl
+
+areaCall-example : map (λ c. areaCall c) (chartUV ∷ chartU ∷ short ∷ broken ∷ [])
+    ≡ record { number = 0; area = 8589672450 } ∷ record { number = 0; area = 4294836225 } ∷ record { number = 1; area = 0 } ∷ record { number = 2; area = 0 } ∷ []
+unfolding evaluate
+areaCall-example = refl
+
+-- Overlay
+
+-- only 12 writes the pairs
+pairsRefused-example : (before : List ℕ)
+    → map (λ r. pairsRefused r before) (take 11 rows) ≡ replicate 11 before
+unfolding evaluate
+pairsRefused-example before = refl
+
+pairsRefused-many-example : pairsRefused Refusal.tooManyPairs (replicate 8191 7 ++ (7 ∷ 8 ∷ 9 ∷ [])) ≡ replicate 8192 0 ++ (8 ∷ 9 ∷ [])
+unfolding evaluate
+pairsRefused-many-example = refl
+
+overlaidBy-example : (before : List ℕ)
+    → map (λ r. overlaidBy before (refused r)) (take 11 rows)
+    ≡ map (λ r. record { number = numberOf r; pairCount = 0; meets = 0; pairs = before }) (take 11 rows)
+unfolding evaluate
+overlaidBy-example before = refl
+
+overlaidBy-done-example :
+    overlaidBy (replicate 8192 7 ++ (8 ∷ 9 ∷ [])) (done (record { pairs = record { i = 2; j = 5 } ∷ record { i = 11; j = 0 } ∷ []; meets = 90 }))
+    ≡ record { number = 0; pairCount = 2; meets = 90; pairs = 2 ∷ 5 ∷ 11 ∷ 0 ∷ replicate 8188 0 ++ (8 ∷ 9 ∷ []) }
+unfolding evaluate
+overlaidBy-done-example = refl
+
+-- two different charts, both ways: U with U and V has one pair; V in the cells of U, and U with V
+abbrev overlaid : Overlaid → List ℕ
+overlaid r = r .number ∷ r .pairCount ∷ r .meets ∷ take 5 (r .pairs)
+
+overlayCall-example :
+    overlaid (overlayCall chartU chartUV (replicate 8192 7))
+    ∷ overlaid (overlayCall stale chartUV (replicate 8192 7))
+    ∷ overlaid (overlayCall chartUV stale (replicate 8192 7))
+    ∷ []
+    ≡ (0 ∷ 1 ∷ 7 ∷ 0 ∷ 0 ∷ 0 ∷ 0 ∷ 0 ∷ []) ∷ (0 ∷ 1 ∷ 7 ∷ 0 ∷ 1 ∷ 0 ∷ 0 ∷ 0 ∷ []) ∷ (0 ∷ 1 ∷ 7 ∷ 1 ∷ 0 ∷ 0 ∷ 0 ∷ 0 ∷ []) ∷ []
+unfolding evaluate
+overlayCall-example = refl
+
+-- a short chart on either side, short pairs; then a broken chart on either side; 1 before 2
+overlayCall-refused-example :
+    map (λ r. r .number)
+    (overlayCall short chartU (replicate 8192 7)
+    ∷ overlayCall chartU short (replicate 8192 7)
+    ∷ overlayCall chartU chartU (replicate 8191 7)
+    ∷ overlayCall broken chartU (replicate 8192 7)
+    ∷ overlayCall chartU broken (replicate 8192 7)
+    ∷ overlayCall broken short (replicate 8192 7)
+    ∷ overlayCall short broken (replicate 8192 7)
+    ∷ overlayCall broken broken (replicate 8191 7)
+    ∷ [])
+    ≡ 1 ∷ 1 ∷ 1 ∷ 2 ∷ 2 ∷ 1 ∷ 1 ∷ 1 ∷ []
+unfolding evaluate
+overlayCall-refused-example = refl
+
+-- Lists of events
+
+-- the event says which call
+eventCall-example : (ns : List ℕ) (c : Chart)
+    → map (λ e. eventCall e c) (load ns ∷ split 3 (at 5 7) ∷ takeOut (at 5 7) ∷ flip 3 5 ∷ [])
+    ≡ loadCall ns c ∷ splitCall 3 (at 5 7) c ∷ takeOutCall (at 5 7) c ∷ flipCall 3 5 c ∷ []
+unfolding evaluate
+eventCall-example ns c = refl
+
+-- each call gets what the one before it left
+chartAfter-example : (e f : Event) (c : Chart) → chartAfter (e ∷ f ∷ []) c ≡ eventCall f (eventCall e c .chart) .chart
+unfolding evaluate
+chartAfter-example e f c = refl
+
+-- accepted events of each kind: load, flip, split, take-out; a refused flip among them
+abbrev after : Chart → List ℕ
+after c = c .triangleCount ∷ c .entryCount ∷ take 13 (c .table)
+
+accepted-history-example : after (chartAfter (load (numbersU ++ numbersV) ∷ flip 1 0 ∷ flip 1 1 ∷ split 0 (at 40000 30000) ∷ takeOut (at 40000 30000) ∷ []) stale)
+    ≡ 2 ∷ 14 ∷ 0 ∷ 0 ∷ 65535 ∷ 0 ∷ 65535 ∷ 65535 ∷ 0 ∷ 65535 ∷ 0 ∷ 0 ∷ 65535 ∷ 65535 ∷ 0 ∷ []
+unfolding evaluate
+accepted-history-example = refl
