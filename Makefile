@@ -1,6 +1,7 @@
 # make test: the test command, which .ci/run calls. make run: the command program on document 01's example.
 # make bench: time per filing beside hand-written engines.
-.PHONY: test run bench
+# make mutants: small wrong versions of the definitions, and which of them the proofs and examples accept; long, outside the gate.
+.PHONY: test run bench mutants
 
 test:
 	@bash tests/run.sh
@@ -10,3 +11,6 @@ run:
 
 bench:
 	@bash bench/run.sh
+
+mutants:
+	@python3 tests/mutants.py $(OPTIONS)

@@ -1,0 +1,658 @@
+#!/usr/bin/env python3
+"""Makes small wrong versions, mutants, of the definitions in crates/*/specs, one at a time, and tells which of them the proofs
+and the examples accept.
+
+usage: make mutants, or mutants.py [--crates A,B] [--only REGEX] [--max N] [--jobs 1|2] [--minutes M] [--out FILE.tsv] [--resume] [--list]
+
+A mutant changes one place of one definition: a comparison, an operand, a coordinate, a corner, a chart, an order, a constant,
+a constructor, a variable; a part or row is dropped, negated or doubled; two arguments, fields, rows, cases or elements change
+places. It is judged in these steps:
+ 1. on the examples of its own crate, many mutants of a file in one check; then on its whole crate. An error in specs/ itself:
+    invalid, it is no definition. Any other refusal: killed.
+ 2. what passes is tried on the crates above whose texts name the definition, or one that is made of it, in the order of
+    crates.txt, until one refuses it; after log_spec on the cases that tests/definitions.py draws, as a crate 'trial'.
+    Programs are left out: they state nothing of their own.
+What passes all of it is a survivor: write an example or a law that refuses it. A mutant that is the same function has a row in
+tests/mutants-same.tsv (file, definition, mutant, why) and is not run; a row that names no mutant is an error.
+
+The work goes on in copies below a temporary folder; the repository is only read. FILE.tsv has a row for each mutant, written
+as the run goes on (target/mutants.tsv if not given); with --resume its killed and invalid ones are not judged again. --only
+looks at 'file definition'. --max takes a part that is spread over the definitions. --list prints the mutants and stops.
+Exit status: 0 when no survivor is left among the mutants judged, 1 otherwise."""
+
+import argparse
+import collections
+import concurrent.futures
+import os
+import platform
+import queue
+import random
+import re
+import shutil
+import signal
+import subprocess
+import sys
+import tempfile
+import time
+
+ROOT = os.path.dirname(os.path.dirname(os.path.abspath(__file__)))
+SAME = os.path.join(ROOT, "tests", "mutants-same.tsv")
+CASES = ["7", "4"]  # seed and count of the executed cases
+AT_ONCE = 24  # mutants in one check of the examples
+LIMIT = 900  # seconds for one check
+EXAMPLES = re.compile(r"/proofs/(Copy\d+)?(Examples|MarkedCases|Cases)\.antt")
+
+# ---- reading definitions
+
+TOKEN = re.compile(r"\[\]|[()\[\]{};,]|[^\s()\[\]{};,]+")
+OPERATORS = set("&& || ∷ ++ + - * / % ^ -ℤ +ℤ *ℤ < ≤ ≡ → ×".split())
+HEAD = re.compile(r"^( *)(?:(?:unfoldable|abbrev) )?pub (?:(record|data) )?([^\s:({]+)|^ *(use|module)\b", re.M)
+Definition = collections.namedtuple("Definition", "name is_record clauses")  # a clause: right side, variables with types
+
+
+class Item:
+    """A word, or a pair of brackets with what stands in it."""
+
+    def __init__(self, text, start, end, bracket=""):
+        self.text, self.start, self.end, self.bracket, self.items = text, start, end, bracket, []
+
+
+def items_of(text, start, end):
+    top = Item(None, start, end)
+    stack = [top]
+    code = re.sub(r"(^|\s)--(?=\s|$)[^\n]*", lambda m: m.group(1).ljust(len(m.group())), text[start:end])
+    for m in TOKEN.finditer(code):
+        word, a, b = m.group(), start + m.start(), start + m.end()
+        if word in "({[":
+            stack[-1].items.append(Item(None, a, b, word))
+            stack.append(stack[-1].items[-1])
+        elif word in ")}]" and len(stack) > 1:
+            stack.pop().end = b
+        elif len(word) > 1 and word.endswith(".") and not word.startswith("."):  # the dot of a lambda
+            stack[-1].items += [Item(word[:-1], a, b - 1), Item(".", b - 1, b)]
+        else:
+            stack[-1].items.append(Item(word, a, b))
+    return top.items
+
+
+def words_in(items):
+    for i in items:
+        yield from words_in(i.items) if i.bracket else [i.text]
+
+
+def type_of(items):
+    return " ".join(words_in(items))
+
+
+def split_by(run, operator):
+    parts = [[]]
+    for i in run:
+        if i.text == operator:
+            parts.append([])
+        else:
+            parts[-1].append(i)
+    return parts
+
+
+def bind(item, kind, scope, constructors):
+    """Puts the variables of a pattern into the scope, with their types where the type matched tells them."""
+    if not item.bracket:
+        if re.fullmatch(r"[a-z][\w′]*", item.text) and item.text not in constructors:
+            scope[item.text] = kind
+        return
+    parts = split_by(item.items, "∷")
+    for k, part in enumerate(parts):
+        inner = "ℕ" if part and part[0].text == "suc" else ""
+        if len(parts) > 1:
+            inner = kind if k == len(parts) - 1 else kind[5:] if kind.startswith("List ") else ""
+        for i in part:
+            bind(i, inner, scope, constructors | {"suc"})
+
+
+def declared(items):
+    """The variables of groups such as (n m : ℕ), with their types."""
+    groups = [split_by(i.items, ":") for i in items if i.bracket == "("]
+    return {n.text: type_of(g[1]) for g in groups if len(g) > 1 for n in g[0] if n.text}
+
+
+def definitions_of(text, constructors):
+    """The definitions of a file, each with the clauses of its cases; of a record, the types of its fields."""
+    heads, out, outer = [], [], {}
+    for m in HEAD.finditer(text):
+        field = heads and heads[-1].group(2) == "record" and m.group(3) and len(m.group(1)) > len(heads[-1].group(1))
+        if not field or re.match(r" *(unfoldable|abbrev)", m.group()):
+            heads.append(m)
+    for m, end in zip(heads, [h.start() for h in heads[1:]] + [len(text)]):
+        start, name, items = m.end(), m.group(3), items_of(text, m.end(), end)
+        if m.group(4) == "module":
+            outer = declared(items)
+        if not name or m.group(2) == "data" or name == "mod":
+            continue
+        scope, clauses = dict(outer) if m.group(1) else {}, []
+        if m.group(2) == "record":
+            scope.update(declared(items))
+            rows = [(start + r.start(), start + r.end()) for r in re.finditer(r"^ +pub \S+ :", text[start:end], re.M)]
+            for (_, a), b in zip(rows, [s for s, _ in rows[1:]] + [end]):
+                clauses.append((items_of(text, a, b), scope | declared(items_of(text, a, b))))
+        else:
+            rows = [start + r.start() for r in re.finditer(r"^%s%s(?= )" % (m.group(1), re.escape(name)), text[start:end], re.M)]
+            typed = split_by(items_of(text, start, rows[0]) if rows else [], ":")[-1]
+            kinds = [a for a in split_by(typed, "→") if not (a and a[0].bracket == "{")]
+            for a, b in zip(rows, rows[1:] + [end]):
+                left, *right = split_by(items_of(text, a, b), "=")
+                mine = dict(scope)
+                for pattern, kind in zip(left[1:], kinds):
+                    bind(pattern, type_of(kind), mine, constructors)
+                if right and right[0]:
+                    clauses.append((items_of(text, right[0][0].start, b), mine))
+        out.append(Definition(name, bool(m.group(2)), clauses))
+    return out
+
+
+def expressions(items, holder=None, before=None):
+    """(role, run of items, brackets around it, item before those) of each expression, label, pattern, binder and type."""
+    run, role = [], "expression"
+    for item in items:
+        word = item.text
+        stops = word in ("λ", "let", "=", "↦", ";", ",", "|", "in") or word in (".", ":") and role == "binder"
+        if not stops:
+            run.append(item)
+            continue
+        if run:
+            label = word == "=" and role == "expression" and holder and holder.bracket == "{"
+            yield "pattern" if word == "↦" else "label" if label else role, run, holder, before
+        run, role = [], {"λ": "binder", "let": "binder", ":": "type"}.get(word, "expression")
+    if run:
+        yield role, run, holder, before
+    for item, previous in zip(items, [None] + items):
+        if item.bracket:
+            yield from expressions(item.items, item, previous)
+
+
+# ---- mutants
+
+SWAPS = collections.defaultdict(list, {"*": ["+"], "*ℤ": ["+ℤ"], "^": ["*"]})  # names that take each other's place
+for pair in "leb ltb, leZ ltZ, && ||, true false, min max, take drop, any all, + -, +ℤ -ℤ, / %, < ≤".split(", "):
+    one, other = pair.split()
+    SWAPS[one].append(other)
+    SWAPS[other].append(one)
+COMPARISONS = {"leb", "ltb", "leZ", "ltZ"}
+SYMMETRIC = {"eqb", "samePoint", "sameCell", "overlaps", "interiorsMeet", "min", "max"}  # swapped arguments: the same
+ORDERED = {"-", "-ℤ", "/", "%", "^", "++", "<", "≤"}  # operators whose operands change places
+
+
+class Mutant:
+    def __init__(self, crate, file, line, definition, kind, text, shown):
+        self.crate, self.file, self.line, self.definition = crate, file, line, definition
+        self.kind, self.text, self.shown, self.verdict, self.where, self.passed = kind, text, shown, "", "", []
+        self.key = (file, definition, shown)
+
+    def row(self):
+        return "\t".join([*self.key, self.kind, self.verdict or "passes", self.where, " ".join(self.passed)])
+
+
+class Names:
+    """What the sources say of names: the next constructor or definition of the same type, records, Bool functions, numbers."""
+
+    def __init__(self):
+        self.after, self.records, self.constructors = {}, [], {"zero", "true", "false", "none"}
+        self.bools, self.numbers, self.takes = COMPARISONS | {"eqb"}, set(), {}
+        for path in sources(".antt", "specs"):
+            text, same = read(path), collections.defaultdict(list)
+            for m in re.finditer(r"^pub data (\S+).*\n((?: +.*\n)+)", text, re.M):
+                for words, kind in re.findall(r"^ +([^:\n]*?) : (.*)$", m.group(2), re.M):
+                    same[m.group(1), kind] += words.split()
+                    self.constructors |= set(words.split())
+            for m in re.finditer(r"^pub record (\S+).*\n((?: +.*\n)+)", text, re.M):
+                self.records.append((m.group(1), re.findall(r"^ +pub (\S+) : (.*)$", m.group(2), re.M)))
+            for name, kind in re.findall(r"^ *(?:unfoldable|abbrev) pub (\S+) : (.*)$", text, re.M):
+                same[kind].append(name)
+                self.takes[name] = [] if "(" in kind else re.sub(r"^\{[^}]*\} → ", "", kind).split(" → ")
+                (self.bools if kind.endswith("→ Bool") else self.numbers if kind == "ℕ" else set()).add(name)
+            for group in same.values():
+                self.after.update({a: b for a, b in zip(group, group[1:] + group[:1]) if a != b})
+        for path in sources(".rt", "src"):
+            for m in re.finditer(r"^pub struct (\w+)[^{;]*\{([^}]*)\}", read(path), re.M):
+                self.records.append((m.group(1), re.findall(r"pub (\w+): ([^,\n]*)", m.group(2))))
+
+    def fields_like(self, name, text):
+        """The other fields of the same type, in the records that the text names."""
+        records = [fields for record, fields in self.records if re.search(r"\b%s\b" % record, text)]
+        return sorted({n for fields in records for n, kind in fields if n != name and (name, kind) in fields})
+
+
+def bring(text, name, beside):
+    """The text with the name brought in, by the use line that brings another. None where there is no such line."""
+    if re.search(r"^ *(?:(?:unfoldable|abbrev) )?pub %s |^ +(?:\S+ )*%s (?:\S+ )*: " % ((re.escape(name),) * 2), text, re.M):
+        return text
+    lines = [(m, {w.strip().strip("_") for w in m.group(1).split(",")}) for m in re.finditer(r"^use \S+\.\{([^}]*)\}", text, re.M)]
+    if any(name in names for _, names in lines):
+        return text
+    written = "_" + name + "_" if name in OPERATORS else name
+    ends = [m.end(1) for m, names in lines if beside in names]
+    return text[: ends[0]] + ", " + written + text[ends[0] :] if ends else None
+
+
+def edited(text, edits):
+    for a, b, new in sorted(edits, reverse=True):
+        text = text[:a] + new + text[b:]
+    return text
+
+
+def mutants_of(crate, path, names):
+    text, out, seen = read(path), [], set()
+    file = os.path.relpath(path, os.path.join(ROOT, "crates"))
+    shown_before, one_line = collections.Counter(), lambda t: re.sub(r"\s+", " ", t).strip()
+    span = lambda run: (run[0].start, run[-1].end)
+    code = lambda run: text[run[0].start : run[-1].end]
+    exchange = lambda p, q: [(*span(p), code(q)), (*span(q), code(p))]
+
+    def add(kind, edits, need=None, beside=None):
+        new = bring(edited(text, edits), need, beside) if need else edited(text, edits)
+        if new in (None, text) or new in seen:
+            return
+        seen.add(new)
+        a, b = min(e[0] for e in edits), max(e[1] for e in edits)
+        lo, hi = max(text.rfind("\n", 0, a) + 1, a - 30), min((text.find("\n", b) + 1 or len(text) + 1) - 1, b + 12)
+        lo = next((k for k in range(lo, a) if text[k] == " "), lo)
+        shown = one_line(text[lo:hi]) + "  =>  " + one_line(edited(text[lo:hi], [(x - lo, y - lo, n) for x, y, n in edits]))
+        shown_before[d.name, shown] += 1
+        again = shown_before[d.name, shown]
+        shown += f"  ({again})" if again > 1 else ""
+        out.append(Mutant(crate, file, text.count("\n", 0, a) + 1, d.name, kind, new, shown))
+
+    def change_words(run, scope, scoped):
+        for item, following in zip(run, run[1:] + [None]):
+            w, here = item.text or "", (item.start, item.end)
+            for other in SWAPS[w]:
+                add("name", [(*here, other)], other, w)
+            if re.fullmatch(r"\d+", w):
+                for n in {int(w) + 1, max(int(w) - 1, 0)}:
+                    add("constant", [(*here, str(n))])
+            if w in names.numbers or scope.get(w) == "ℕ":
+                add("one more", [(*here, f"(suc {w})")], "suc", "ℕ")
+            for field in names.fields_like(w[1:], text) if w.startswith(".") else ():
+                add("field", [(*here, "." + field)])
+            for v in sorted(scoped - {w}) if w in scoped else ():
+                if scope.get(v, "") == scope.get(w, ""):
+                    add("variable", [(*here, v)])
+            last = w.rsplit(".", 1)[-1]
+            if last in names.after and last not in scoped and not w.startswith("."):
+                new = names.after[last]
+                add("next of its type", [(*here, w[: len(w) - len(last)] + new)], *([new, w] if last == w else []))
+            if w in ("suc", "not") and following:
+                add("drop " + w, [(item.start, following.start, "")])
+
+    def change_parts(run):
+        either = split_by(run, "||")
+        for parts in [either] + [split_by(p, "&&") for p in either]:
+            if len(parts) > 1 and all(parts):
+                for p, q in zip(parts, parts[1:]):
+                    add("drop part", [(p[0].start, q[0].start, "")])
+                add("drop part", [(parts[-2][-1].end, parts[-1][-1].end, "")])
+        parts = split_by(run, "∷")
+        if len(parts) > 1 and all(parts):
+            for p, q in zip(parts, parts[1:-1]):
+                add("swap elements", exchange(p, q))
+            for p, q in zip(parts, parts[1:]):
+                add("drop element", [(p[0].start, q[0].start, "")])
+            add("double element", [(parts[-1][0].start,) * 2 + (code(parts[-2]) + " ∷ ",)])
+        found = [i.text for i in run if i.text in OPERATORS]
+        if len(found) == 1 and found[0] in ORDERED:
+            add("swap operands", exchange(*split_by(run, found[0])))
+
+    def change_call(call, scope, negated):
+        head, arguments = call[0].text, call[1:]
+        if head in names.bools and arguments and not negated:
+            add("negate", [(*span(call), f"(not ({code(call)}))")], "not", "Bool")
+        if head in ("cond", "refuseIf") and len(arguments) == 3:
+            add("drop row", [(*span(call), code(arguments[2:]))])
+            if head == "cond":
+                add("swap rows", exchange(arguments[1:2], arguments[2:]))
+            inner = arguments[2].items
+            if len(inner) == 4 and inner[0].text == head:
+                add("swap rows", exchange(arguments[:2], inner[1:3]))
+                add("swap conditions", exchange(arguments[:1], inner[1:2]))
+        elif head and head not in SYMMETRIC | {"elim", "record"}:
+            taken = names.takes.get(head, [])
+            for k, (p, q) in enumerate(zip(arguments, arguments[1:])):
+                plain = "[" not in (p.bracket, q.bracket) and not any((i.text or "").startswith(".") for i in (p, q))
+                if len(taken) > k + 2:
+                    alike = taken[k] == taken[k + 1]
+                else:
+                    alike = p.bracket and q.bracket or head in COMPARISONS or p.text in scope and scope[p.text] == scope.get(q.text)
+                if plain and alike and code([p]) != code([q]):
+                    add("flip comparison" if head in COMPARISONS else "swap arguments", exchange([p], [q]))
+
+    for d in definitions_of(text, names.constructors):
+        for right, scope in d.clauses:
+            runs = list(expressions(right))
+            scoped = set(scope) | {w for role, run, _, _ in runs if role == "binder" for w in words_in(run)}
+            labels, arms = collections.defaultdict(list), collections.defaultdict(list)
+            for role, run, holder, before in runs:
+                if role == "label":
+                    labels[id(holder)].append([run[-1:], ""])
+                elif role == "pattern":
+                    arms[id(holder)].append([])
+                elif role == "expression":
+                    if labels[id(holder)]:
+                        labels[id(holder)][-1][1] += code(run)
+                    if arms[id(holder)]:
+                        arms[id(holder)][-1] += run
+                    change_words(run, scope, scoped)
+                    change_parts(run)
+                    cuts = [-1] + [k for k, i in enumerate(run) if i.text in OPERATORS] + [len(run)]
+                    for a, b in zip(cuts, cuts[1:]):
+                        if b - a > 1:
+                            change_call(run[a + 1 : b], scope, before is not None and before.text == "not")
+            for group in labels.values():
+                for k, (p, value) in enumerate(group):
+                    for q in [q for q, other in group[k + 1 :] if other != value]:
+                        add("swap fields", exchange(p, q))
+            for group in arms.values():
+                for p, q in zip(group, group[1:]):
+                    if p and q:
+                        add("swap cases", exchange(p, q))
+        for (p, here), (q, there) in zip(d.clauses, d.clauses[1:]) if not d.is_record else ():
+            if not set(words_in(p)) & (set(here) - set(there)) | set(words_in(q)) & (set(there) - set(here)):
+                add("swap cases", exchange(p, q))
+    return out
+
+
+# ---- the repository
+
+
+def read(path):
+    with open(path, encoding="utf-8") as f:
+        return f.read()
+
+
+def write(path, text):
+    with open(path + ".new", "w", encoding="utf-8") as f:
+        f.write(text)
+    os.replace(path + ".new", path)
+
+
+def sources(ending, part, root=ROOT, crate=""):
+    for folder, folders, files in os.walk(os.path.join(root, "crates", crate)):
+        folders.sort()
+        if f"{os.sep}{part}{os.sep}" in folder + os.sep:
+            yield from (os.path.join(folder, f) for f in sorted(files) if f.endswith(ending))
+
+
+def crates_of(text):
+    lines = [l.split("#")[0].split(":") for l in text.split("\n") if ":" in l.split("#")[0]]
+    return {name.strip(): rest.split() for name, rest in lines}
+
+
+class Reach:
+    """Which crates name a definition, or a definition that is made of it."""
+
+    def __init__(self, root, crates):
+        self.made_of, self.named, self.crates = collections.defaultdict(set), {}, crates
+        words = lambda text: set(re.findall(r"[^\s()\[\]{};,.|λ]+", re.sub(r"(^|\s)--\s.*", "", text)))
+        for c in crates:
+            paths = [p for part, ending in (("specs", ".antt"), ("proofs", ".antt"), ("src", ".rt")) for p in sources(ending, part, root, c)]
+            self.named[c] = set().union(*(words(read(p)) for p in paths))
+            for text in map(read, sources(".antt", "specs", root, c)):
+                heads = [m for m in HEAD.finditer(text) if m.group(3)]
+                for m, end in zip(heads, [h.start() for h in heads[1:]] + [len(text)]):
+                    self.made_of[m.group(3)] |= words(text[m.end() : end])
+
+    def above(self, crate, name):
+        known, more = {name}, {name}
+        while more:
+            more = {d for d, ws in self.made_of.items() if d not in known and ws & more}
+            known |= more
+        return [c for c in self.crates if crate in self.crates[c] and self.named[c] & known]
+
+
+class Place:
+    """A copy of the repository, its libraries proved, in which definitions are made wrong and right again."""
+
+    def __init__(self, root, crates):
+        self.root, self.crates = root, crates
+        guide = subprocess.run(["rt", "doc"], stdout=subprocess.PIPE, text=True, check=True).stdout.strip()
+        self.home = os.path.dirname(os.path.dirname(guide))
+        self.own = os.path.join(self.home, "on", platform.machine())
+
+    def run(self, verb, crate, *more):
+        """None when the crate is proved; else what was printed, or 'no verdict'. The words are those that rt gives."""
+        libraries, kit = os.path.join(self.root, "target", "rlib"), os.path.join(self.own, "rlib")
+        words = [os.path.join(self.own, "bin", "rattle"), verb, "--crate-name", crate, os.path.join(self.root, "crates", crate, "src", "lib.rt")]
+        for d in ["std"] + self.crates[crate]:
+            words += ["--extern", f"{d}={os.path.join(libraries if d in self.crates else kit, d + '.rlib')}"]
+        words += ["-L", "dependency=" + libraries, "-L", "dependency=" + kit]
+        words += ["--antt-project", os.path.join(self.home, "logic", "antt-project.json")]
+        words += ["--logic-built", os.path.join(self.own, "logic-built"), *more]
+        p = subprocess.Popen(words, stdout=subprocess.PIPE, stderr=subprocess.STDOUT, text=True, errors="replace", start_new_session=True)
+        try:
+            out = p.communicate(timeout=LIMIT)[0]
+        except subprocess.TimeoutExpired:
+            os.killpg(p.pid, signal.SIGKILL)  # the session that was started here
+            p.communicate()
+            return "no verdict"
+        return None if p.returncode == 0 else out if p.returncode == 1 else "no verdict"
+
+    def check(self, crate):
+        kept = os.path.join(self.root, "target", "inc", crate)
+        os.makedirs(kept, exist_ok=True)
+        return self.run("check", crate, "--incremental", kept)
+
+    def screen(self, batch):
+        """The examples of the crate on mutants of one file, in one check: each mutant has a copy of its file, of the files made
+        of it and of the examples. Copy 0 is right: an example that fails there mixes copies with laws, and shows nothing."""
+        crate = batch[0].crate
+        texts = {p: read(p) for part in ("specs", "proofs") for p in sources(".antt", part, self.root, crate)}
+        module, folder = lambda p: os.path.basename(p)[:-5], lambda p: os.path.dirname(p)
+        copied = [os.path.join(self.root, "crates", batch[0].file)]
+        for _ in texts:
+            named = re.compile(r"(Rattle·%s·(?:specs\.specs|proofs\.proofs)\.)(%s)\b" % (crate, "|".join(map(module, copied))))
+            copied += [p for p, t in texts.items() if p not in copied and (folder(p) == folder(copied[0]) or EXAMPLES.search(p)) and named.search(t)]
+        made, failed = [], collections.defaultdict(list)
+        for k, m in enumerate([None] + batch):
+            for p in copied:
+                made.append(os.path.join(folder(p), f"Copy{k}{module(p)}.antt"))
+                write(made[-1], named.sub(r"\g<1>Copy%d\2" % k, m.text if m and p == copied[0] else texts[p]))
+        nodes = {os.path.join(folder(p), "Lib.antt") for p in copied}
+        for node in nodes:
+            write(node, texts[node] + "".join(f"pub mod {module(p)}\n" for p in made if folder(p) == folder(node)))
+        printed = self.check(crate)
+        for p in made:
+            os.remove(p)
+        for node in nodes:
+            write(node, texts[node])
+        for part, k, place, name in re.findall(r"^\S+/(specs|proofs)/Copy(\d+)(\S+?:\d+):\d+: error: (?:`([^`]*)`)?", printed or "", re.M):
+            failed[int(k)].append((part == "specs", f"{crate}/{part}/{place} {name}"))
+        for k, m in enumerate(batch, 1):
+            new = [f for f in failed[k] if f not in failed[0]]
+            if new:
+                invalid = any(f[0] for f in new)
+                m.verdict, m.where = ("invalid", "") if invalid else ("killed", new[0][1])
+
+    def judge(self, m, above):
+        """The mutant on its own crate; or, given the crates above, on those."""
+        path = os.path.join(self.root, "crates", m.file)
+        right = read(path)
+        write(path, m.text)
+        if above is None:
+            self.conclude(m, m.crate, self.check(m.crate))
+        elif above:
+            library = os.path.join(self.root, "target", "rlib", m.crate + ".rlib")
+            os.rename(library, library + ".right")
+            self.conclude(m, m.crate, self.run("build", m.crate, "-o", library))
+            for c in above:
+                if not m.verdict:
+                    self.conclude(m, c, self.check(c))
+            shutil.rmtree(library, ignore_errors=True)
+            os.rename(library + ".right", library)
+        write(path, right)
+
+    def conclude(self, m, crate, printed):
+        if printed is None:
+            m.passed += [crate] if crate not in m.passed else []
+        elif printed == "no verdict":
+            m.verdict, m.where = "undecided", crate
+        else:
+            errors = re.findall(r"^(\S+?:\d+):\d+: error: (?:`([^`]*)`)?", printed, re.M)
+            found = [f.replace(os.path.join(self.root, "crates", ""), "") + " " + name for f, name in errors]
+            invalid = crate == m.crate and any(f.startswith(crate + "/specs/") for f in found)
+            m.verdict, m.where = ("invalid", "") if invalid else ("killed", ([f for f in found if EXAMPLES.search(f)] + found + [crate])[0])
+
+
+def prepare(work, crates, jobs):
+    """The copies, with every library proved; what the repository's own target/ has proved is taken from there."""
+    first = os.path.join(work, "0")
+    shutil.copytree(os.path.join(ROOT, "crates"), os.path.join(first, "crates"))
+    shutil.copyfile(os.path.join(ROOT, "crates.txt"), os.path.join(first, "crates.txt"))
+    for part in ("rlib", "stamp"):
+        if os.path.isdir(os.path.join(ROOT, "target", part)):
+            shutil.copytree(os.path.join(ROOT, "target", part), os.path.join(first, "target", part))
+    if subprocess.run(["rt", "check", *crates], cwd=first, env=dict(os.environ, RT_JOBS=str(jobs)), stdout=subprocess.DEVNULL).returncode:
+        sys.exit("the repository as it stands is not proved")
+    for k in range(1, jobs):
+        shutil.copytree(first, os.path.join(work, str(k)))
+    return [Place(os.path.join(work, str(k)), crates) for k in range(jobs)]
+
+
+def add_cases(work, places, crates):
+    """The crates with the executed cases as one more, after log_spec."""
+    root = os.path.join(work, "cases")
+    for part in ("crates", "tests", "model"):
+        shutil.copytree(os.path.join(ROOT, part), os.path.join(root, part))
+    shutil.copyfile(os.path.join(ROOT, "crates.txt"), os.path.join(root, "crates.txt"))
+    os.makedirs(os.path.join(root, "target", "model"))
+    model = ["rustc", "--edition", "2021", "-O", "-o", "target/model/model", "model/main.rs"]
+    for words in (model, [sys.executable, "tests/definitions.py", *CASES]):
+        if subprocess.run(words, cwd=root, stdout=subprocess.DEVNULL).returncode:
+            sys.exit("the executed cases do not agree with the model on the repository as it stands")
+    made = os.path.join(root, "target", "definitions")
+    after, trial = {}, crates_of(read(os.path.join(made, "crates.txt")))["trial"]
+    for c in crates:
+        after |= {c: crates[c], "trial": trial} if c == "log_spec" else {c: crates[c]}
+    for p in places:
+        shutil.copytree(os.path.join(made, "crates", "trial"), os.path.join(p.root, "crates", "trial"))
+        p.crates = after
+    return after
+
+
+# ---- the run
+
+
+def chosen_part(mutants, most):
+    """At most so many, one of each definition after the other, so that a part is a fair sample."""
+    rng, rank, counts = random.Random(1), {}, collections.Counter()
+    for m in sorted(mutants, key=lambda m: rng.random()):
+        rank[m.key] = counts[m.file, m.definition]
+        counts[m.file, m.definition] += 1
+    kept = {m.key for m in sorted(mutants, key=lambda m: rank[m.key])[:most]}
+    return [m for m in mutants if m.key in kept]
+
+
+class Run:
+    def __init__(self, out, minutes):
+        self.began, self.out, self.judged = time.time(), out, []
+        self.until = self.began + 60 * minutes
+
+    def say(self, text):
+        print(f"[{time.time() - self.began:.0f} s] {text}", flush=True)
+
+    def save(self):
+        os.makedirs(os.path.dirname(os.path.abspath(self.out)), exist_ok=True)
+        write(self.out, "\n".join(["file\tdefinition\tmutant\tkind\tverdict\twhere\tpassed"] + [m.row() for m in self.judged]) + "\n")
+
+    def each(self, step, places, batches, work):
+        """Does the work on every batch of mutants, at a place that is free, and says how it goes on."""
+        free, start, done, total = queue.Queue(), time.time(), [], sum(map(len, batches))
+        for p in places:
+            free.put(p)
+
+        def one(batch):
+            if time.time() < self.until:
+                place = free.get()
+                work(place, batch)
+                free.put(place)
+                for m in batch:
+                    done.append(m)
+                    left = (time.time() - start) / len(done) * (total - len(done))
+                    verdict = f"{m.verdict} {m.where}" if m.verdict else "passes " + " ".join(m.passed)
+                    self.say(f"{step}, {len(done)} of {total}, about {left:.0f} s left: {m.file}:{m.line} {m.definition}: {m.shown}: {verdict}")
+                    self.judged += [m] if m.verdict and m not in self.judged else []
+                self.save()
+
+        with concurrent.futures.ThreadPoolExecutor(len(places)) as pool:
+            list(pool.map(one, batches))
+        return [m for m in done if not m.verdict]
+
+
+def main():
+    o = argparse.ArgumentParser(description=__doc__, formatter_class=argparse.RawDescriptionHelpFormatter, usage=argparse.SUPPRESS)
+    for name in ("--crates", "--only"):
+        o.add_argument(name, default="")
+    o.add_argument("--max", type=int)
+    o.add_argument("--jobs", type=int, default=1, choices=(1, 2))
+    o.add_argument("--minutes", type=float, default=1e6)
+    o.add_argument("--out", default=os.path.join(ROOT, "target", "mutants.tsv"))
+    for name in ("--resume", "--list"):
+        o.add_argument(name, action="store_true")
+    o = o.parse_args()
+    os.nice(10)
+    signal.signal(signal.SIGTERM, lambda *_: sys.exit(1))  # the copies are removed
+    run, names = Run(o.out, o.minutes), Names()
+    is_program = lambda c: os.path.exists(os.path.join(ROOT, "crates", c, "src", "main.rt"))
+    crates = {c: d for c, d in crates_of(read(os.path.join(ROOT, "crates.txt"))).items() if not is_program(c)}
+    mutants = [m for c in crates for p in sources(".antt", "specs", ROOT, c) for m in mutants_of(c, p, names)]
+    same = {tuple(l.split("\t")[:3]) for l in read(SAME).split("\n") if l and not l.startswith("#")}
+    lost = same - {m.key for m in mutants}
+    if lost:
+        sys.exit("tests/mutants-same.tsv has rows that name no mutant:\n" + "\n".join("\t".join(k) for k in sorted(lost)))
+    mutants = [m for m in mutants if m.crate in (o.crates.split(",") if o.crates else crates) and re.search(o.only, m.file + " " + m.definition)]
+    known = [m for m in mutants if m.key in same]
+    run.say(f"{len(mutants)} mutants of {len({(m.file, m.definition) for m in mutants})} definitions, {len(known)} known to be the same function")
+    if o.list:
+        print("\n".join(f"{m.file}\t{m.definition}\t{m.shown}\t{m.kind}" for m in mutants))
+        return
+    rows = [l.split("\t") for l in read(o.out).split("\n")[1:] if l] if o.resume and os.path.exists(o.out) else []
+    earlier = {tuple(r[:3]): r for r in rows if r[4] in ("killed", "invalid")}
+    for m in mutants:
+        if m.key in earlier and m.key not in same:
+            m.verdict, m.where = earlier[m.key][4:6]
+            run.judged.append(m)
+    todo = chosen_part([m for m in mutants if not m.verdict and m.key not in same], o.max)
+    with tempfile.TemporaryDirectory(prefix="mutants-") as work:
+        places = prepare(work, crates, o.jobs)
+        run.say(f"every library is proved as it stands; {len(todo)} mutants to judge")
+        batches = []
+        for m in todo:
+            if not batches or batches[-1][0].file != m.file or len(batches[-1]) == AT_ONCE:
+                batches.append([])
+            batches[-1].append(m)
+        has_examples = lambda c: any(EXAMPLES.search(p) for p in sources(".antt", "proofs", ROOT, c))
+        left = run.each("examples", places, batches, lambda p, batch: has_examples(batch[0].crate) and p.screen(batch))
+        left = run.each("own crate", places, [[m] for m in left], lambda p, batch: p.judge(batch[0], None))
+        if left and time.time() < run.until:
+            run.say(f"{len(left)} pass their own crate; preparing the executed cases")
+            crates = add_cases(work, places, crates)
+            reach = Reach(places[0].root, crates)
+            left = run.each("crates above", places, [[m] for m in left], lambda p, batch: p.judge(batch[0], reach.above(batch[0].crate, batch[0].definition)))
+            for m in left:
+                m.verdict = "survived"
+            run.judged += left
+    run.save()
+    print(f"\n{len(run.judged)} of {len(mutants)} judged in {time.time() - run.began:.0f} s, {len(known)} known to be the same function")
+    print("by crate: judged, invalid, killed by its own examples, by its own laws, above, undecided, survived")
+    for c in crates:
+        mine = [m for m in run.judged if m.crate == c]
+        count = collections.Counter(m.verdict for m in mine)
+        own = [m for m in mine if m.verdict == "killed" and m.where.split("/")[0] == c]
+        shown = sum(bool(EXAMPLES.search(m.where)) for m in own)
+        if mine:
+            print(f"  {c}: {len(mine)}, {count['invalid']}, {shown}, {len(own) - shown}, {count['killed'] - len(own)}, {count['undecided']}, {count['survived']}")
+    left = [m for m in run.judged if m.verdict in ("survived", "undecided")]
+    for m in left:
+        print(f"{m.verdict}: {m.file}:{m.line} {m.definition} ({m.kind}): {m.shown}")
+    sys.exit(1 if left else 0)
+
+
+if __name__ == "__main__":
+    main()
