@@ -17,7 +17,7 @@ tests/mutants-same.tsv (file, definition, mutant, why) and is not run; a row tha
 
 The work goes on in copies below a temporary folder; the repository is only read. FILE.tsv has a row for each mutant, written
 as the run goes on (target/mutants.tsv if not given); with --resume its killed and invalid ones are not judged again. --only
-looks at 'file definition'. --max takes a part that is spread over the definitions. --list prints the mutants and stops.
+looks at 'file definition'. --max takes a part, drawn at random. --list prints the mutants and stops.
 Exit status: 0 when no survivor is left among the mutants judged, 1 otherwise."""
 
 import argparse
@@ -149,24 +149,25 @@ def definitions_of(text, constructors):
     return out
 
 
-def expressions(items, holder=None, before=None):
-    """(role, run of items, brackets around it, item before those) of each expression, label, pattern, binder and type."""
-    run, role = [], "expression"
-    for item in items:
-        word = item.text
-        stops = word in ("λ", "let", "=", "↦", ";", ",", "|", "in") or word in (".", ":") and role == "binder"
-        if not stops:
-            run.append(item)
-            continue
-        if run:
-            label = word == "=" and role == "expression" and holder and holder.bracket == "{"
-            yield "pattern" if word == "↦" else "label" if label else role, run, holder, before
-        run, role = [], {"λ": "binder", "let": "binder", ":": "type"}.get(word, "expression")
-    if run:
-        yield role, run, holder, before
-    for item, previous in zip(items, [None] + items):
-        if item.bracket:
-            yield from expressions(item.items, item, previous)
+def brackets_in(items):
+    for i in items:
+        yield from [i, *brackets_in(i.items)] if i.bracket else []
+
+
+def expressions(right):
+    """(role, run of items, item before the brackets around it) of each expression, label, pattern, binder and type."""
+    before = {id(i): previous for group in [right, *(g.items for g in brackets_in(right))] for previous, i in zip([None] + group, group)}
+    for bracket, items in [(None, right), *((g, g.items) for g in brackets_in(right))]:
+        run, role = [], "expression"
+        for item in items + [Item(";", 0, 0)]:
+            word = item.text
+            if not (word in ("λ", "let", "=", "↦", ";", ",", "|", "in") or word in (".", ":") and role == "binder"):
+                run.append(item)
+                continue
+            label = word == "=" and role == "expression" and bracket and bracket.bracket == "{"
+            if run:
+                yield "pattern" if word == "↦" else "label" if label else role, run, before.get(id(bracket))
+            run, role = [], {"λ": "binder", "let": "binder", ":": "type"}.get(word, "expression")
 
 
 # ---- mutants
@@ -327,32 +328,23 @@ def mutants_of(crate, path, names):
     for d in definitions_of(text, names.constructors):
         for right, scope in d.clauses:
             runs = list(expressions(right))
-            scoped = set(scope) | {w for role, run, _, _ in runs if role == "binder" for w in words_in(run)}
-            labels, arms = collections.defaultdict(list), collections.defaultdict(list)
-            for role, run, holder, before in runs:
-                if role == "label":
-                    labels[id(holder)].append([run[-1:], ""])
-                elif role == "pattern":
-                    arms[id(holder)].append([])
-                elif role == "expression":
-                    if labels[id(holder)]:
-                        labels[id(holder)][-1][1] += code(run)
-                    if arms[id(holder)]:
-                        arms[id(holder)][-1] += run
-                    change_words(run, scope, scoped)
-                    change_parts(run)
-                    cuts = [-1] + [k for k, i in enumerate(run) if i.text in OPERATORS] + [len(run)]
-                    for a, b in zip(cuts, cuts[1:]):
-                        if b - a > 1:
-                            change_call(run[a + 1 : b], scope, before is not None and before.text == "not")
-            for group in labels.values():
-                for k, (p, value) in enumerate(group):
-                    for q in [q for q, other in group[k + 1 :] if other != value]:
-                        add("swap fields", exchange(p, q))
-            for group in arms.values():
-                for p, q in zip(group, group[1:]):
-                    if p and q:
-                        add("swap cases", exchange(p, q))
+            scoped = set(scope) | {w for role, run, _ in runs if role == "binder" for w in words_in(run)}
+            for run, before in [(run, before) for role, run, before in runs if role == "expression"]:
+                change_words(run, scope, scoped)
+                change_parts(run)
+                cuts = [-1] + [k for k, i in enumerate(run) if i.text in OPERATORS] + [len(run)]
+                for a, b in zip(cuts, cuts[1:]):
+                    if b - a > 1:
+                        change_call(run[a + 1 : b], scope, before is not None and before.text == "not")
+            for group in brackets_in(right):
+                fields = [p for p in split_by(group.items, ";") if len(p) > 2 and p[1].text == "="]
+                for k, p in enumerate(fields):
+                    for q in [q for q in fields[k + 1 :] if code(q[2:]) != code(p[2:])]:
+                        add("swap fields", exchange(p[:1], q[:1]))
+                cases = [split_by(p, "↦")[1:] for p in split_by(group.items, "|")]
+                cases = [c[0] for c in cases if c and c[0]]
+                for p, q in zip(cases, cases[1:]):
+                    add("swap cases", exchange(p, q))
         for (p, here), (q, there) in zip(d.clauses, d.clauses[1:]) if not d.is_record else ():
             if not set(words_in(p)) & (set(here) - set(there)) | set(words_in(q)) & (set(there) - set(here)):
                 add("swap cases", exchange(p, q))
@@ -539,16 +531,6 @@ def add_cases(work, places, crates):
 # ---- the run
 
 
-def chosen_part(mutants, most):
-    """At most so many, one of each definition after the other, so that a part is a fair sample."""
-    rng, rank, counts = random.Random(1), {}, collections.Counter()
-    for m in sorted(mutants, key=lambda m: rng.random()):
-        rank[m.key] = counts[m.file, m.definition]
-        counts[m.file, m.definition] += 1
-    kept = {m.key for m in sorted(mutants, key=lambda m: rank[m.key])[:most]}
-    return [m for m in mutants if m.key in kept]
-
-
 class Run:
     def __init__(self, out, minutes):
         self.began, self.out, self.judged = time.time(), out, []
@@ -618,7 +600,9 @@ def main():
         if m.key in earlier and m.key not in same:
             m.verdict, m.where = earlier[m.key][4:6]
             run.judged.append(m)
-    todo = chosen_part([m for m in mutants if not m.verdict and m.key not in same], o.max)
+    todo = [m for m in mutants if not m.verdict and m.key not in same]
+    if o.max is not None and o.max < len(todo):
+        todo = [todo[k] for k in sorted(random.Random(1).sample(range(len(todo)), o.max))]
     with tempfile.TemporaryDirectory(prefix="mutants-") as work:
         places = prepare(work, crates, o.jobs)
         run.say(f"every library is proved as it stands; {len(todo)} mutants to judge")
