@@ -2,7 +2,7 @@
 """Makes small wrong versions, mutants, of the definitions in crates/*/specs, one at a time, and tells which of them the proofs
 and the examples accept.
 
-usage: make mutants, or mutants.py [--crates A,B] [--only REGEX] [--max N] [--jobs 1|2] [--minutes M] [--out FILE.tsv] [--resume] [--list]
+usage: mutants.py [--crates A,B] [--only REGEX] [--max N] [--jobs 1|2] [--minutes M] [--out FILE.tsv] [--resume] [--list]
 
 A mutant changes one place of one definition: a comparison, an operand, a coordinate, a corner, a chart, an order, a constant,
 a constructor, a variable; a part or row is dropped, negated or doubled; two arguments, fields, rows, cases or elements change
@@ -15,9 +15,9 @@ places. It is judged in these steps:
 What passes all of it is a survivor: write an example or a law that refuses it. A mutant that is the same function has a row in
 tests/mutants-same.tsv (file, definition, mutant, why) and is not run; a row that names no mutant is an error.
 
-The work goes on in copies below a temporary folder; the repository is only read. FILE.tsv has a row for each mutant, written
-as the run goes on (target/mutants.tsv if not given); with --resume its killed and invalid ones are not judged again. --only
-looks at 'file definition'. --max takes a part, drawn at random. --list prints the mutants and stops.
+The work goes on in copies below a temporary folder; the repository is only read. FILE.tsv gets a row for each mutant as the
+run goes on; with --resume those that it has as killed or invalid are not judged again. --only looks at 'file definition'.
+With make: make mutants OPTIONS="--crates plane --out plane.tsv". --max takes a part, drawn at random. --list prints the mutants and stops.
 Exit status: 0 when no survivor is left among the mutants judged, 1 otherwise."""
 
 import argparse
@@ -178,7 +178,7 @@ for pair in "leb ltb, leZ ltZ, && ||, true false, min max, take drop, any all, +
     SWAPS[one].append(other)
     SWAPS[other].append(one)
 COMPARISONS = {"leb", "ltb", "leZ", "ltZ"}
-SYMMETRIC = {"eqb", "samePoint", "sameCell", "overlaps", "interiorsMeet", "min", "max"}  # swapped arguments: the same
+SYMMETRIC = {"eqb", "samePoint", "sameCell", "overlaps", "interiorsMeet", "apart", "min", "max"}  # swapped arguments: the same
 ORDERED = {"-", "-ℤ", "/", "%", "^", "++", "<", "≤"}  # operators whose operands change places
 
 
@@ -403,7 +403,7 @@ class Place:
     """A copy of the repository, its libraries proved, in which definitions are made wrong and right again."""
 
     def __init__(self, root, crates):
-        self.root, self.crates = root, crates
+        self.root, self.crates, self.sure = root, crates, set()  # sure: proved as they stand
         guide = subprocess.run(["rt", "doc"], stdout=subprocess.PIPE, text=True, check=True).stdout.strip()
         self.home = os.path.dirname(os.path.dirname(guide))
         self.own = os.path.join(self.home, "on", platform.machine())
@@ -425,6 +425,10 @@ class Place:
             p.communicate()
             return "no verdict"
         return None if p.returncode == 0 else out if p.returncode == 1 else "no verdict"
+
+    def prove(self, crates):
+        if subprocess.run(["rt", "check", *crates], cwd=self.root, env=dict(os.environ, RT_JOBS="1"), stdout=subprocess.DEVNULL).returncode:
+            sys.exit("the repository as it stands is not proved")
 
     def check(self, crate):
         kept = os.path.join(self.root, "target", "inc", crate)
@@ -479,6 +483,11 @@ class Place:
             shutil.rmtree(library, ignore_errors=True)
             os.rename(library + ".right", library)
         write(path, right)
+        refused = m.where.split("/")[0]
+        if above and m.verdict and refused not in self.sure:
+            if self.check(refused) is not None:
+                sys.exit(f"the repository as it stands is not proved: {refused}")
+            self.sure.add(refused)
 
     def conclude(self, m, crate, printed):
         if printed is None:
@@ -492,16 +501,15 @@ class Place:
             m.verdict, m.where = ("invalid", "") if invalid else ("killed", ([f for f in found if EXAMPLES.search(f)] + found + [crate])[0])
 
 
-def prepare(work, crates, jobs):
-    """The copies, with every library proved; what the repository's own target/ has proved is taken from there."""
+def prepare(work, crates, chosen, jobs):
+    """The copies, with the chosen crates proved; what the repository's own target/ has proved is taken from there."""
     first = os.path.join(work, "0")
     shutil.copytree(os.path.join(ROOT, "crates"), os.path.join(first, "crates"))
     shutil.copyfile(os.path.join(ROOT, "crates.txt"), os.path.join(first, "crates.txt"))
     for part in ("rlib", "stamp"):
         if os.path.isdir(os.path.join(ROOT, "target", part)):
             shutil.copytree(os.path.join(ROOT, "target", part), os.path.join(first, "target", part))
-    if subprocess.run(["rt", "check", *crates], cwd=first, env=dict(os.environ, RT_JOBS=str(jobs)), stdout=subprocess.DEVNULL).returncode:
-        sys.exit("the repository as it stands is not proved")
+    Place(first, crates).prove(chosen)
     for k in range(1, jobs):
         shutil.copytree(first, os.path.join(work, str(k)))
     return [Place(os.path.join(work, str(k)), crates) for k in range(jobs)]
@@ -540,8 +548,8 @@ class Run:
         print(f"[{time.time() - self.began:.0f} s] {text}", flush=True)
 
     def save(self):
-        os.makedirs(os.path.dirname(os.path.abspath(self.out)), exist_ok=True)
-        write(self.out, "\n".join(["file\tdefinition\tmutant\tkind\tverdict\twhere\tpassed"] + [m.row() for m in self.judged]) + "\n")
+        if self.out:
+            write(self.out, "\n".join(["file\tdefinition\tmutant\tkind\tverdict\twhere\tpassed"] + [m.row() for m in self.judged]) + "\n")
 
     def each(self, step, places, batches, work):
         """Does the work on every batch of mutants, at a place that is free, and says how it goes on."""
@@ -569,12 +577,11 @@ class Run:
 
 def main():
     o = argparse.ArgumentParser(description=__doc__, formatter_class=argparse.RawDescriptionHelpFormatter, usage=argparse.SUPPRESS)
-    for name in ("--crates", "--only"):
+    for name in ("--crates", "--only", "--out"):
         o.add_argument(name, default="")
     o.add_argument("--max", type=int)
     o.add_argument("--jobs", type=int, default=1, choices=(1, 2))
     o.add_argument("--minutes", type=float, default=1e6)
-    o.add_argument("--out", default=os.path.join(ROOT, "target", "mutants.tsv"))
     for name in ("--resume", "--list"):
         o.add_argument(name, action="store_true")
     o = o.parse_args()
@@ -588,7 +595,8 @@ def main():
     lost = same - {m.key for m in mutants}
     if lost:
         sys.exit("tests/mutants-same.tsv has rows that name no mutant:\n" + "\n".join("\t".join(k) for k in sorted(lost)))
-    mutants = [m for m in mutants if m.crate in (o.crates.split(",") if o.crates else crates) and re.search(o.only, m.file + " " + m.definition)]
+    chosen = o.crates.split(",") if o.crates else list(crates)
+    mutants = [m for m in mutants if m.crate in chosen and re.search(o.only, m.file + " " + m.definition)]
     known = [m for m in mutants if m.key in same]
     run.say(f"{len(mutants)} mutants of {len({(m.file, m.definition) for m in mutants})} definitions, {len(known)} known to be the same function")
     if o.list:
@@ -604,8 +612,8 @@ def main():
     if o.max is not None and o.max < len(todo):
         todo = [todo[k] for k in sorted(random.Random(1).sample(range(len(todo)), o.max))]
     with tempfile.TemporaryDirectory(prefix="mutants-") as work:
-        places = prepare(work, crates, o.jobs)
-        run.say(f"every library is proved as it stands; {len(todo)} mutants to judge")
+        places = prepare(work, crates, [c for c in chosen if any(m.crate == c for m in todo)], o.jobs)
+        run.say(f"the crates are proved as they stand; {len(todo)} mutants to judge")
         batches = []
         for m in todo:
             if not batches or batches[-1][0].file != m.file or len(batches[-1]) == AT_ONCE:
@@ -618,6 +626,8 @@ def main():
             run.say(f"{len(left)} pass their own crate; preparing the executed cases")
             crates = add_cases(work, places, crates)
             reach = Reach(places[0].root, crates)
+            for p in places:
+                p.prove([c for c in crates if c != "trial" and not os.path.isdir(os.path.join(p.root, "target", "rlib", c + ".rlib"))] or ["lists"])
             left = run.each("crates above", places, [[m] for m in left], lambda p, batch: p.judge(batch[0], reach.above(batch[0].crate, batch[0].definition)))
             for m in left:
                 m.verdict = "survived"

@@ -32,6 +32,11 @@ leaves-example = refl
 abbrev e : ℕ → ℕ → ℕ → Entry
 e k l i = record { key = k; level = l; item = i }
 
+-- another item, another level, another key, and key and level exchanged
+sameCell-example : map (λ f. sameCell (e 4 1 9) f) (e 4 1 7 ∷ e 4 2 9 ∷ e 5 1 9 ∷ e 1 4 9 ∷ []) ≡ true ∷ false ∷ false ∷ false ∷ []
+unfolding sameCell
+sameCell-example = refl
+
 -- arity 4 and depth 2: sixteen keys
 span-example : span 4 2 0 ∷ span 4 2 1 ∷ span 4 2 2 ∷ rangeEnd 4 2 (e 4 1 9) ∷ [] ≡ 16 ∷ 4 ∷ 1 ∷ 8 ∷ []
 unfolding span rangeEnd
@@ -66,8 +71,16 @@ together-example : listedTogether 4 2 filed other 0 1 ∷ listedTogether 4 2 fil
 unfolding listedTogether overlaps span rangeEnd any filter
 together-example = refl
 
+-- after item 3 of the cell with keys 4 to 7: a higher item of it, the same, a lower one, the mark, the next cell, small and
+-- large, a gap, a cell within it, another level; after the mark only the next cell
+follows-example : map (λ f. follows 4 2 (e 4 1 3) f) (e 4 1 5 ∷ e 4 1 3 ∷ e 4 1 2 ∷ e 4 1 65535 ∷ e 8 2 0 ∷ e 8 1 0 ∷ e 9 1 7 ∷ e 5 1 7 ∷ e 4 2 7 ∷ [])
+    ++ map (λ f. follows 4 2 (e 4 1 65535) f) (e 4 1 65536 ∷ e 8 1 65535 ∷ [])
+    ≡ true ∷ false ∷ false ∷ false ∷ true ∷ true ∷ false ∷ false ∷ false ∷ false ∷ true ∷ []
+unfolding follows isMark emptyMark sameCell span rangeEnd
+follows-example = refl
+
 -- the chain rule holds of the two lists, and of each list below all but one part of it
-chain-example : map (λ es. chain 4 2 3 es) (filed ∷ other ∷ (e 0 0 65535 ∷ []) ∷ []) ≡ true ∷ true ∷ true ∷ []
+chain-example : map (λ es. chain 4 2 3 es) (filed ∷ other ∷ (e 0 0 65535 ∷ []) ∷ (e 0 0 2 ∷ []) ∷ []) ≡ true ∷ true ∷ true ∷ true ∷ []
 unfolding chain chainAfter entryFits follows isMark emptyMark sameCell span rangeEnd
 chain-example = refl
 
@@ -82,6 +95,7 @@ broken-example : map (λ es. chain 4 2 3 es)
     -- an item that is not below the count
     ∷ (e 0 0 3 ∷ [])
     ∷ (e 0 1 0 ∷ e 4 1 3 ∷ e 8 1 0 ∷ e 12 1 0 ∷ [])
+    ∷ (e 0 1 0 ∷ e 4 1 0 ∷ e 8 1 3 ∷ e 12 1 0 ∷ [])
     -- the same item twice, and descending items
     ∷ (e 0 0 1 ∷ e 0 0 1 ∷ [])
     ∷ (e 0 0 2 ∷ e 0 0 1 ∷ [])
@@ -95,7 +109,7 @@ broken-example : map (λ es. chain 4 2 3 es)
     ∷ (e 0 1 0 ∷ e 4 1 0 ∷ e 8 1 0 ∷ [])
     ∷ (e 0 1 0 ∷ e 4 1 0 ∷ e 8 1 0 ∷ e 12 1 0 ∷ e 16 1 0 ∷ [])
     ∷ [])
-    ≡ false ∷ false ∷ false ∷ false ∷ false ∷ false ∷ false ∷ false ∷ false ∷ false ∷ false ∷ false ∷ false ∷ false ∷ []
+    ≡ false ∷ false ∷ false ∷ false ∷ false ∷ false ∷ false ∷ false ∷ false ∷ false ∷ false ∷ false ∷ false ∷ false ∷ false ∷ []
 unfolding chain chainAfter entryFits follows isMark emptyMark sameCell span rangeEnd
 broken-example = refl
 

@@ -2,12 +2,12 @@
 -- marked cases of document 01, which are symmetric, leave open.
 -- Assumes nothing.
 use mathlib.Core.Path.{_≡_, refl}
-use mathlib.Core.Bool.{Bool, true, false}
-use mathlib.Core.List.{List, [], _∷_, map}
+use mathlib.Core.Bool.{Bool, true, false, not}
+use mathlib.Core.List.{List, [], _∷_, _++_, map}
 use Prim.Native.Nat.{ℕ}
 use lib.IntN.{ℤ, pos, negsuc}
 use Rattle.plane.specs.declared.Point.{Point}
-use Rattle.plane.specs.Point.{FracPoint, orient, orientAt, samePoint}
+use Rattle.plane.specs.Point.{FracPoint, orient, orientAt, samePoint, whole}
 use Rattle.plane.specs.Triangle.{Triangle, Side, corners, cornerAt, sides, rotated, triangleOf, proper, holds, strictlyInside, holdsAt, strictlyInsideAt, doubledArea}
 use Rattle.plane.specs.Interior.{someCornerInner, noSideSeparates, interiorsMeet}
 use Rattle.plane.specs.Box.{Box, apart, sideBox, triangleBox, allCorners, allInner, allOuter, sideMeets, triangleMeets}
@@ -52,6 +52,26 @@ strictlyInside-example : map (λ p. strictlyInside t p)
 unfolding strictlyInside orient
 strictlyInside-example = refl
 
+-- (2,3) (5,4) (3,9), whose D is 17: D is 1 for each side in turn
+abbrev u : Triangle
+u = tri 2 3 5 4 3 9
+
+inside-by-one-example : map (λ p. strictlyInside u p) (at 4 4 ∷ at 4 6 ∷ at 3 8 ∷ []) ≡ true ∷ true ∷ true ∷ []
+unfolding strictlyInside orient
+inside-by-one-example = refl
+
+-- halves of whole numbers: W × D is 1, then 0, then −1 for each side in turn
+abbrev halves : List FracPoint
+halves = frac 6 7 2 ∷ frac 9 10 2 ∷ frac 6 17 2 ∷ frac 7 7 2 ∷ frac 8 13 2 ∷ frac 5 12 2 ∷ frac 8 7 2 ∷ frac 9 11 2 ∷ frac 5 13 2 ∷ []
+
+holdsAt-example : map (λ p. holdsAt u p) halves ≡ true ∷ true ∷ true ∷ true ∷ true ∷ true ∷ false ∷ false ∷ false ∷ []
+unfolding holdsAt orientAt
+holdsAt-example = refl
+
+strictlyInsideAt-example : map (λ p. strictlyInsideAt u p) halves ≡ true ∷ true ∷ true ∷ false ∷ false ∷ false ∷ false ∷ false ∷ false ∷ []
+unfolding strictlyInsideAt orientAt
+strictlyInsideAt-example = refl
+
 -- (3/2, 1/2) lies on the side from (0,0) to (6,2), (3/2, 2/2) inside
 fractional-example : holdsAt t (frac 3 1 2) ∷ strictlyInsideAt t (frac 3 1 2) ∷ strictlyInsideAt t (frac 3 2 2) ∷ holdsAt t (frac 9 2 2) ∷ []
     ≡ true ∷ false ∷ true ∷ false ∷ []
@@ -62,7 +82,8 @@ area-example : doubledArea t ∷ doubledArea (tri 1 2 5 3 2 9) ∷ [] ≡ 44 ∷
 unfolding doubledArea orient
 area-example = refl
 
-proper-example : proper t ∷ proper (tri 0 0 2 8 6 2) ∷ proper (tri 0 0 3 1 6 2) ∷ [] ≡ true ∷ false ∷ false ∷ []
+-- D is 44, −44, 0 and 1
+proper-example : proper t ∷ proper (tri 0 0 2 8 6 2) ∷ proper (tri 0 0 3 1 6 2) ∷ proper (tri 2 3 5 4 4 4) ∷ [] ≡ true ∷ false ∷ false ∷ true ∷ []
 unfolding proper orient
 proper-example = refl
 
@@ -74,13 +95,70 @@ samePoint-example : map (λ p. samePoint (at 2 8) p) (at 2 8 ∷ at 2 7 ∷ at 3
 unfolding samePoint
 samePoint-example = refl
 
-rotated-example : rotated (corners t) 1 ≡ at 6 2 ∷ at 2 8 ∷ at 0 0 ∷ []
+corners-of-example : corners t ≡ at 0 0 ∷ at 6 2 ∷ at 2 8 ∷ []
+corners-of-example = refl
+
+-- modulo 3; a corner that an array lacks is (0,0)
+cornerAt-example : map (λ i. cornerAt (corners u) i) (0 ∷ 1 ∷ 2 ∷ 3 ∷ 4 ∷ 5 ∷ []) ++ (cornerAt (at 5 4 ∷ []) 1 ∷ [])
+    ≡ at 2 3 ∷ at 5 4 ∷ at 3 9 ∷ at 2 3 ∷ at 5 4 ∷ at 3 9 ∷ at 0 0 ∷ []
+unfolding cornerAt
+cornerAt-example = refl
+
+rotated-example : map (λ i. rotated (corners t) i) (0 ∷ 1 ∷ 2 ∷ [])
+    ≡ (at 0 0 ∷ at 6 2 ∷ at 2 8 ∷ []) ∷ (at 6 2 ∷ at 2 8 ∷ at 0 0 ∷ []) ∷ (at 2 8 ∷ at 0 0 ∷ at 6 2 ∷ []) ∷ []
 unfolding rotated cornerAt
 rotated-example = refl
 
 triangleOf-example : triangleOf (at 0 0 ∷ at 6 2 ∷ at 2 8 ∷ []) ≡ t
 unfolding triangleOf cornerAt
 triangleOf-example = refl
+
+whole-example : whole (at 2 8) ≡ frac 2 8 1
+unfolding whole
+whole-example = refl
+
+-- boxes that touch the box from (2,3) to (5,7) or reach into it, on each of its four sides; then boxes just apart from it
+apart-example : map (λ d. apart (box 2 3 5 7) d)
+    (box 0 4 2 5 ∷ box 5 4 8 6 ∷ box 3 0 4 3 ∷ box 3 7 4 9 ∷ box 1 4 3 6 ∷ box 4 4 9 5 ∷ box 3 1 4 5 ∷ box 3 5 4 9
+    ∷ box 0 4 1 5 ∷ box 6 4 8 6 ∷ box 3 0 4 2 ∷ box 3 8 4 9 ∷ [])
+    ≡ false ∷ false ∷ false ∷ false ∷ false ∷ false ∷ false ∷ false ∷ true ∷ true ∷ true ∷ true ∷ []
+unfolding apart
+apart-example = refl
+
+-- sides that go right and up, and left and down; a triangle and its rotations
+boxes-example :
+    map (λ s. sideBox s) (record { start = at 11 40; end = at 23 32 } ∷ record { start = at 27 5; end = at 14 9 } ∷ [])
+    ≡ box 11 32 23 40 ∷ box 14 5 27 9 ∷ []
+unfolding sideBox
+boxes-example = refl
+
+triangleBox-example : map (λ t. triangleBox t) (tri 11 45 23 32 38 57 ∷ tri 23 32 38 57 11 45 ∷ tri 38 57 11 45 23 32 ∷ [])
+    ≡ box 11 32 38 57 ∷ box 11 32 38 57 ∷ box 11 32 38 57 ∷ []
+unfolding triangleBox
+triangleBox-example = refl
+
+-- the corners of the box from (2,3) to (5,7), and points that are none of them
+corners-example : map (λ p. allCorners (λ c. not (samePoint p c)) (box 2 3 5 7))
+    (at 2 3 ∷ at 5 3 ∷ at 2 7 ∷ at 5 7 ∷ at 7 3 ∷ at 3 3 ∷ at 5 5 ∷ at 2 2 ∷ at 2 5 ∷ at 7 7 ∷ at 3 7 ∷ at 5 2 ∷ [])
+    ≡ false ∷ false ∷ false ∷ false ∷ true ∷ true ∷ true ∷ true ∷ true ∷ true ∷ true ∷ true ∷ []
+unfolding allCorners samePoint
+corners-example = refl
+
+-- the least D of a corner is 1, and 0
+inner-example : map (λ b. allInner (at 2 3) (at 5 4) b) (box 3 4 4 6 ∷ box 3 4 5 6 ∷ []) ≡ true ∷ false ∷ []
+unfolding allInner allCorners orient
+inner-example = refl
+
+outer-example : map (λ b. allOuter (at 5 4) (at 2 3) b) (box 3 4 4 6 ∷ box 3 4 5 6 ∷ []) ≡ true ∷ false ∷ []
+unfolding allOuter allCorners orient
+outer-example = refl
+
+-- one corner has D = 1, or the largest D is 0, at each of the three corners; then all have D < 0
+someCornerInner-example : map (λ t. someCornerInner (at 2 3) (at 5 4) t)
+    (tri 4 4 9 4 6 3 ∷ tri 6 3 4 4 9 4 ∷ tri 9 4 6 3 4 4 ∷ tri 8 5 9 4 6 3 ∷ tri 6 3 8 5 9 4 ∷ tri 9 4 6 3 8 5 ∷ tri 7 2 9 4 6 3 ∷ [])
+    ≡ true ∷ true ∷ true ∷ false ∷ false ∷ false ∷ false ∷ []
+unfolding someCornerInner orient
+someCornerInner-example = refl
 
 -- sides against boxes: borders that only touch, each corner that decides, each box that is just apart
 abbrev sideCase : ℕ → ℕ → ℕ → ℕ → Box → Bool

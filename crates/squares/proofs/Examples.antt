@@ -3,11 +3,12 @@
 use mathlib.Core.Path.{_≡_, refl}
 use mathlib.Core.List.{List, [], _∷_, map, flatMap}
 use Prim.Native.Nat.{ℕ}
+use lib.ListN.{length}
 use Rattle.orthtree.specs.Morton.{lowestBits, mortonKey}
 use Rattle.plane.specs.declared.Point.{Point}
 use Rattle.plane.specs.Box.{Box}
 use Rattle.squares.specs.declared.Square.{Square}
-use Rattle.squares.specs.Square.{sideAt, wholeSquare, topLeft, topRight, bottomLeft, bottomRight, quarters, zOrder, squareKey, squareBox}
+use Rattle.squares.specs.Square.{depth, arity, sideAt, wholeSquare, topLeft, topRight, bottomLeft, bottomRight, quarters, zOrder, squareKey, squareBox}
 
 abbrev square : ℕ → ℕ → ℕ → Square
 square x y level = record { x = x; y = y; level = level }
@@ -15,9 +16,9 @@ square x y level = record { x = x; y = y; level = level }
 abbrev numbersOf : Square → List ℕ
 numbersOf s = s .x ∷ s .y ∷ s .level ∷ []
 
--- Z(5,3), Z(3,5), Z(40000,9), Z(65535,0)
-zOrder-example : map (λ p. zOrder p) (record { x = 5; y = 3 } ∷ record { x = 3; y = 5 } ∷ record { x = 40000; y = 9 } ∷ record { x = 65535; y = 0 } ∷ [])
-    ≡ 27 ∷ 39 ∷ 1095766146 ∷ 1431655765 ∷ []
+-- Z(5,3), Z(3,5), Z(40000,9), Z(65535,0); a coordinate has 16 bits
+zOrder-example : map (λ p. zOrder p) (record { x = 5; y = 3 } ∷ record { x = 3; y = 5 } ∷ record { x = 40000; y = 9 } ∷ record { x = 65535; y = 0 } ∷ record { x = 65536; y = 3 } ∷ [])
+    ≡ 27 ∷ 39 ∷ 1095766146 ∷ 1431655765 ∷ 10 ∷ []
 unfolding zOrder mortonKey lowestBits
 zOrder-example = refl
 
@@ -26,6 +27,11 @@ quarters-example : flatMap (λ s. numbersOf s) (quarters (square 8192 40960 3))
     ≡ 8192 ∷ 40960 ∷ 4 ∷ 12288 ∷ 40960 ∷ 4 ∷ 8192 ∷ 45056 ∷ 4 ∷ 12288 ∷ 45056 ∷ 4 ∷ []
 unfolding quarters topLeft topRight bottomLeft bottomRight sideAt flatMap
 quarters-example = refl
+
+-- as many quarters as the arity, and the side of the deepest level is 1
+tree-example : length (quarters wholeSquare) ∷ sideAt 0 ∷ sideAt 15 ∷ sideAt depth ∷ [] ≡ arity ∷ 65536 ∷ 2 ∷ 1 ∷ []
+unfolding quarters sideAt
+tree-example = refl
 
 -- keys of the quarters go on where the one before ends: 4^12 keys each
 keys-example : map (λ s. squareKey s) (quarters (square 8192 40960 3)) ≡ 2348810240 ∷ 2365587456 ∷ 2382364672 ∷ 2399141888 ∷ []
