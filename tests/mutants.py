@@ -10,14 +10,14 @@ places. It is judged in these steps:
  1. on the examples of its own crate, many mutants of a file in one check; then on its whole crate. An error in specs/ itself:
     invalid, it is no definition. Any other refusal: killed.
  2. what passes is tried on the crates above whose texts name the definition, or one that is made of it, in the order of
-    crates.txt, until one refuses it; after log_spec on the cases that tests/definitions.py draws, as a crate 'trial'.
-    Programs are left out: they state nothing of their own.
+    crates.txt, until one refuses it; programs are left out, which state nothing of their own. After log_spec, the last crate
+    of definitions, come the executed cases: those that tests/definitions.py draws, as a crate 'trial'.
 What passes all of it is a survivor: write an example or a law that refuses it. A mutant that is the same function has a row in
 tests/mutants-same.tsv (file, definition, mutant, why) and is not run; a row that names no mutant is an error.
 
 The work goes on in copies below a temporary folder; the repository is only read. FILE.tsv gets a row for each mutant as the
 run goes on; with --resume those that it has as killed or invalid are not judged again. --only looks at 'file definition'.
-With make: make mutants OPTIONS="--crates plane --out plane.tsv". --max takes a part, drawn at random. --list prints the mutants and stops.
+--max takes a part, drawn at random. --list prints the mutants and stops. With make: make mutants OPTIONS="--crates plane".
 Exit status: 0 when no survivor is left among the mutants judged, 1 otherwise."""
 
 import argparse
@@ -384,8 +384,8 @@ class Reach:
         self.made_of, self.named, self.crates = collections.defaultdict(set), {}, crates
         words = lambda text: set(re.findall(r"[^\s()\[\]{};,.|λ]+", re.sub(r"(^|\s)--\s.*", "", text)))
         for c in crates:
-            paths = [p for part, ending in (("specs", ".antt"), ("proofs", ".antt"), ("src", ".rt")) for p in sources(ending, part, root, c)]
-            self.named[c] = set().union(*(words(read(p)) for p in paths))
+            parts = (("specs", ".antt"), ("proofs", ".antt"), ("src", ".rt"))
+            self.named[c] = set().union(*(words(read(p)) for part, ending in parts for p in sources(ending, part, root, c)))
             for text in map(read, sources(".antt", "specs", root, c)):
                 heads = [m for m in HEAD.finditer(text) if m.group(3)]
                 for m, end in zip(heads, [h.start() for h in heads[1:]] + [len(text)]):
@@ -411,13 +411,15 @@ class Place:
     def run(self, verb, crate, *more):
         """None when the crate is proved; else what was printed, or 'no verdict'. The words are those that rt gives."""
         libraries, kit = os.path.join(self.root, "target", "rlib"), os.path.join(self.own, "rlib")
-        words = [os.path.join(self.own, "bin", "rattle"), verb, "--crate-name", crate, os.path.join(self.root, "crates", crate, "src", "lib.rt")]
+        words = [os.path.join(self.own, "bin", "rattle"), verb, "--crate-name", crate]
+        words.append(os.path.join(self.root, "crates", crate, "src", "lib.rt"))
         for d in ["std"] + self.crates[crate]:
             words += ["--extern", f"{d}={os.path.join(libraries if d in self.crates else kit, d + '.rlib')}"]
         words += ["-L", "dependency=" + libraries, "-L", "dependency=" + kit]
         words += ["--antt-project", os.path.join(self.home, "logic", "antt-project.json")]
         words += ["--logic-built", os.path.join(self.own, "logic-built"), *more]
-        p = subprocess.Popen(words, stdout=subprocess.PIPE, stderr=subprocess.STDOUT, text=True, errors="replace", start_new_session=True)
+        pipes = dict(stdout=subprocess.PIPE, stderr=subprocess.STDOUT, text=True, errors="replace")
+        p = subprocess.Popen(words, start_new_session=True, **pipes)
         try:
             out = p.communicate(timeout=LIMIT)[0]
         except subprocess.TimeoutExpired:
@@ -427,7 +429,8 @@ class Place:
         return None if p.returncode == 0 else out if p.returncode == 1 else "no verdict"
 
     def prove(self, crates):
-        if subprocess.run(["rt", "check", *crates], cwd=self.root, env=dict(os.environ, RT_JOBS="1"), stdout=subprocess.DEVNULL).returncode:
+        words = ["rt", "check", *crates]
+        if crates and subprocess.run(words, cwd=self.root, env=dict(os.environ, RT_JOBS="1"), stdout=subprocess.DEVNULL).returncode:
             sys.exit("the repository as it stands is not proved")
 
     def check(self, crate):
@@ -444,7 +447,8 @@ class Place:
         copied = [os.path.join(self.root, "crates", batch[0].file)]
         for _ in texts:
             named = re.compile(r"(Rattle·%s·(?:specs\.specs|proofs\.proofs)\.)(%s)\b" % (crate, "|".join(map(module, copied))))
-            copied += [p for p, t in texts.items() if p not in copied and (folder(p) == folder(copied[0]) or EXAMPLES.search(p)) and named.search(t)]
+            may = [p for p in texts if p not in copied and (folder(p) == folder(copied[0]) or EXAMPLES.search(p))]
+            copied += [p for p in may if named.search(texts[p])]
         made, failed = [], collections.defaultdict(list)
         for k, m in enumerate([None] + batch):
             for p in copied:
@@ -458,7 +462,8 @@ class Place:
             os.remove(p)
         for node in nodes:
             write(node, texts[node])
-        for part, k, place, name in re.findall(r"^\S+/(specs|proofs)/Copy(\d+)(\S+?:\d+):\d+: error: (?:`([^`]*)`)?", printed or "", re.M):
+        error = r"^\S+/(specs|proofs)/Copy(\d+)(\S+?:\d+):\d+: error: (?:`([^`]*)`)?"
+        for part, k, place, name in re.findall(error, printed or "", re.M):
             failed[int(k)].append((part == "specs", f"{crate}/{part}/{place} {name}"))
         for k, m in enumerate(batch, 1):
             new = [f for f in failed[k] if f not in failed[0]]
@@ -498,7 +503,8 @@ class Place:
             errors = re.findall(r"^(\S+?:\d+):\d+: error: (?:`([^`]*)`)?", printed, re.M)
             found = [f.replace(os.path.join(self.root, "crates", ""), "") + " " + name for f, name in errors]
             invalid = crate == m.crate and any(f.startswith(crate + "/specs/") for f in found)
-            m.verdict, m.where = ("invalid", "") if invalid else ("killed", ([f for f in found if EXAMPLES.search(f)] + found + [crate])[0])
+            examples = [f for f in found if EXAMPLES.search(f)]
+            m.verdict, m.where = ("invalid", "") if invalid else ("killed", (examples + found + [crate])[0])
 
 
 def prepare(work, crates, chosen, jobs):
@@ -516,7 +522,7 @@ def prepare(work, crates, chosen, jobs):
 
 
 def add_cases(work, places, crates):
-    """The crates with the executed cases as one more, after log_spec."""
+    """The crates with the executed cases as one more."""
     root = os.path.join(work, "cases")
     for part in ("crates", "tests", "model"):
         shutil.copytree(os.path.join(ROOT, part), os.path.join(root, part))
@@ -527,13 +533,11 @@ def add_cases(work, places, crates):
         if subprocess.run(words, cwd=root, stdout=subprocess.DEVNULL).returncode:
             sys.exit("the executed cases do not agree with the model on the repository as it stands")
     made = os.path.join(root, "target", "definitions")
-    after, trial = {}, crates_of(read(os.path.join(made, "crates.txt")))["trial"]
-    for c in crates:
-        after |= {c: crates[c], "trial": trial} if c == "log_spec" else {c: crates[c]}
+    more = crates | {"trial": crates_of(read(os.path.join(made, "crates.txt")))["trial"]}
     for p in places:
         shutil.copytree(os.path.join(made, "crates", "trial"), os.path.join(p.root, "crates", "trial"))
-        p.crates = after
-    return after
+        p.crates = more
+    return more
 
 
 # ---- the run
@@ -549,7 +553,8 @@ class Run:
 
     def save(self):
         if self.out:
-            write(self.out, "\n".join(["file\tdefinition\tmutant\tkind\tverdict\twhere\tpassed"] + [m.row() for m in self.judged]) + "\n")
+            head = "file\tdefinition\tmutant\tkind\tverdict\twhere\tpassed"
+            write(self.out, "\n".join([head] + [m.row() for m in self.judged]) + "\n")
 
     def each(self, step, places, batches, work):
         """Does the work on every batch of mutants, at a place that is free, and says how it goes on."""
@@ -566,7 +571,8 @@ class Run:
                     done.append(m)
                     left = (time.time() - start) / len(done) * (total - len(done))
                     verdict = f"{m.verdict} {m.where}" if m.verdict else "passes " + " ".join(m.passed)
-                    self.say(f"{step}, {len(done)} of {total}, about {left:.0f} s left: {m.file}:{m.line} {m.definition}: {m.shown}: {verdict}")
+                    went = f"{step}, {len(done)} of {total}, about {left:.0f} s left"
+                    self.say(f"{went}: {m.file}:{m.line} {m.definition}: {m.shown}: {verdict}")
                     self.judged += [m] if m.verdict and m not in self.judged else []
                 self.save()
 
@@ -598,7 +604,8 @@ def main():
     chosen = o.crates.split(",") if o.crates else list(crates)
     mutants = [m for m in mutants if m.crate in chosen and re.search(o.only, m.file + " " + m.definition)]
     known = [m for m in mutants if m.key in same]
-    run.say(f"{len(mutants)} mutants of {len({(m.file, m.definition) for m in mutants})} definitions, {len(known)} known to be the same function")
+    definitions = {(m.file, m.definition) for m in mutants}
+    run.say(f"{len(mutants)} mutants of {len(definitions)} definitions, {len(known)} known to be the same function")
     if o.list:
         print("\n".join(f"{m.file}\t{m.definition}\t{m.shown}\t{m.kind}" for m in mutants))
         return
@@ -622,16 +629,20 @@ def main():
         has_examples = lambda c: any(EXAMPLES.search(p) for p in sources(".antt", "proofs", ROOT, c))
         left = run.each("examples", places, batches, lambda p, batch: has_examples(batch[0].crate) and p.screen(batch))
         left = run.each("own crate", places, [[m] for m in left], lambda p, batch: p.judge(batch[0], None))
-        if left and time.time() < run.until:
-            run.say(f"{len(left)} pass their own crate; preparing the executed cases")
-            crates = add_cases(work, places, crates)
-            reach = Reach(places[0].root, crates)
-            for p in places:
-                p.prove([c for c in crates if c != "trial" and not os.path.isdir(os.path.join(p.root, "target", "rlib", c + ".rlib"))] or ["lists"])
-            left = run.each("crates above", places, [[m] for m in left], lambda p, batch: p.judge(batch[0], reach.above(batch[0].crate, batch[0].definition)))
-            for m in left:
-                m.verdict = "survived"
-            run.judged += left
+        reach, order = Reach(places[0].root, crates), list(crates)
+        for p in places if left else ():
+            built = os.listdir(os.path.join(p.root, "target", "rlib"))
+            p.prove([c for c in crates if c + ".rlib" not in built])
+        cut = order.index("log_spec") + 1
+        for step, some in [("crates above", order[:cut]), ("executed cases", ["trial"]), ("crates above", order[cut:])]:
+            if step == "executed cases" and any(not m.verdict and m.crate in order[:cut] for m in left) and time.time() < run.until:
+                run.say("preparing the executed cases")
+                reach = Reach(places[0].root, add_cases(work, places, crates))
+            tried = lambda m: [c for c in reach.above(m.crate, m.definition) if c in some]
+            run.each(step, places, [[m] for m in left if not m.verdict and tried(m)], lambda p, batch: p.judge(batch[0], tried(batch[0])))
+        for m in [m for m in left if not m.verdict]:
+            m.verdict = "survived" if time.time() < run.until else "undecided"
+            run.judged.append(m)
     run.save()
     print(f"\n{len(run.judged)} of {len(mutants)} judged in {time.time() - run.began:.0f} s, {len(known)} known to be the same function")
     print("by crate: judged, invalid, killed by its own examples, by its own laws, above, undecided, survived")
@@ -641,7 +652,8 @@ def main():
         own = [m for m in mine if m.verdict == "killed" and m.where.split("/")[0] == c]
         shown = sum(bool(EXAMPLES.search(m.where)) for m in own)
         if mine:
-            print(f"  {c}: {len(mine)}, {count['invalid']}, {shown}, {len(own) - shown}, {count['killed'] - len(own)}, {count['undecided']}, {count['survived']}")
+            ways = [count["invalid"], shown, len(own) - shown, count["killed"] - len(own), count["undecided"], count["survived"]]
+            print(f"  {c}: {len(mine)}, " + ", ".join(map(str, ways)))
     left = [m for m in run.judged if m.verdict in ("survived", "undecided")]
     for m in left:
         print(f"{m.verdict}: {m.file}:{m.line} {m.definition} ({m.kind}): {m.shown}")

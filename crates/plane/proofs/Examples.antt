@@ -6,10 +6,11 @@ use mathlib.Core.Bool.{Bool, true, false, not}
 use mathlib.Core.List.{List, [], _∷_, _++_, map}
 use Prim.Native.Nat.{ℕ}
 use lib.IntN.{ℤ, pos, negsuc}
+use native.Mathlib.Omega.{arith}
 use Rattle.plane.specs.declared.Point.{Point}
 use Rattle.plane.specs.Point.{FracPoint, orient, orientAt, samePoint, whole}
 use Rattle.plane.specs.Triangle.{Triangle, Side, corners, cornerAt, sides, rotated, triangleOf, proper, holds, strictlyInside, holdsAt, strictlyInsideAt, doubledArea}
-use Rattle.plane.specs.Interior.{someCornerInner, noSideSeparates, interiorsMeet}
+use Rattle.plane.specs.Interior.{CommonInterior, someCornerInner, noSideSeparates, interiorsMeet}
 use Rattle.plane.specs.Box.{Box, apart, sideBox, triangleBox, allCorners, allInner, allOuter, sideMeets, triangleMeets}
 
 abbrev at : ℕ → ℕ → Point
@@ -216,3 +217,8 @@ interiorsMeet-example :
     ≡ false ∷ false ∷ false ∷ true ∷ false ∷ false ∷ true ∷ []
 unfolding interiorsMeet noSideSeparates someCornerInner orient
 interiorsMeet-example = refl
+
+-- the point (3,4) is strictly inside both
+common-example : CommonInterior t u
+unfolding strictlyInsideAt orientAt
+common-example = record { point = frac 3 4 1; above = omega arith; first = tt; second = tt }

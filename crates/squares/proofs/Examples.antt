@@ -4,11 +4,12 @@ use mathlib.Core.Path.{_≡_, refl}
 use mathlib.Core.List.{List, [], _∷_, map, flatMap}
 use Prim.Native.Nat.{ℕ}
 use lib.ListN.{length}
+use native.Mathlib.Omega.{arith}
 use Rattle.orthtree.specs.Morton.{lowestBits, mortonKey}
 use Rattle.plane.specs.declared.Point.{Point}
 use Rattle.plane.specs.Box.{Box}
 use Rattle.squares.specs.declared.Square.{Square}
-use Rattle.squares.specs.Square.{depth, arity, sideAt, wholeSquare, topLeft, topRight, bottomLeft, bottomRight, quarters, zOrder, squareKey, squareBox}
+use Rattle.squares.specs.Square.{depth, arity, sideAt, wholeSquare, topLeft, topRight, bottomLeft, bottomRight, quarters, zOrder, squareKey, squareBox, Aligned}
 
 abbrev square : ℕ → ℕ → ℕ → Square
 square x y level = record { x = x; y = y; level = level }
@@ -43,3 +44,12 @@ whole-example : squareBox wholeSquare ∷ squareBox (square 8192 40960 3) ∷ []
     ≡ record { left = 0; top = 0; right = 65536; bottom = 65536 } ∷ record { left = 8192; top = 40960; right = 16384; bottom = 49152 } ∷ []
 unfolding squareBox wholeSquare sideAt
 whole-example = refl
+
+-- squares of the tree, at the right end of the grid and at the bottom
+aligned-example : Aligned (square 65535 3 16)
+unfolding sideAt
+aligned-example = record { deep = omega arith; across = refl; down = refl; right = omega arith; bottom = omega arith }
+
+aligned-bottom-example : Aligned (square 8192 57344 3)
+unfolding sideAt
+aligned-bottom-example = record { deep = omega arith; across = refl; down = refl; right = omega arith; bottom = omega arith }
