@@ -1,8 +1,8 @@
 /* A hand-written filing engine, to measure the proved one against. It gives the same lists for the same tables.
 
-   plain_file    straightforward: a square looks at the triangles that met its parent, and each test is made as document 01
+   plain_build    straightforward: a square looks at the triangles that met its parent, and each test is made as document 01
                  words it, at the four corners of the square
-   culled_file   works as the proved engine does: what depends on a triangle alone is prepared once, one corner decides for
+   culled_build   works as the proved engine does: what depends on a triangle alone is prepared once, one corner decides for
                  each side, and the stopping test is one pass */
 #include "engine.h"
 #include <string.h>
@@ -208,7 +208,7 @@ static int culled_square(const uint16_t *above, size_t n, uint16_t *list, Square
 
 static uint16_t stack[(LEVELS + 2) * TRIANGLES];
 
-static size_t file_by(int (*square)(const uint16_t *, size_t, uint16_t *, Square, uint32_t), size_t n, Lists out) {
+static size_t build_by(int (*square)(const uint16_t *, size_t, uint16_t *, Square, uint32_t), size_t n, Lists out) {
     Square whole = { 0, 0, 0 };
     for (size_t i = 0; i < n; i++) stack[i] = i;
     found.count = 0;
@@ -216,14 +216,14 @@ static size_t file_by(int (*square)(const uint16_t *, size_t, uint16_t *, Square
     return give(out);
 }
 
-size_t plain_file(const uint16_t *table, size_t n, Lists out) {
+size_t plain_build(const uint16_t *table, size_t n, Lists out) {
     if (n > TRIANGLES || !all_proper(table, n)) return REFUSED;
     numbers = table;
-    return file_by(plain_square, n, out);
+    return build_by(plain_square, n, out);
 }
 
-size_t culled_file(const uint16_t *table, size_t n, Lists out) {
+size_t culled_build(const uint16_t *table, size_t n, Lists out) {
     if (n > TRIANGLES || !all_proper(table, n)) return REFUSED;
     prepare(table, n);
-    return file_by(culled_square, n, out);
+    return build_by(culled_square, n, out);
 }

@@ -3,9 +3,9 @@
 set -eu
 cd "$(dirname "$0")/.."
 mkdir -p target
-echo "== prove and build crates/file_table"
-rt staticlib file_table >target/bench.log 2>&1 || { tail -n 20 target/bench.log; exit 1; }
-echo "== build bench/filing.c"
-cc -O3 -Wall -o target/bench_filing bench/filing.c bench/engine.c target/staticlib/libfile_table.a
+echo "== prove and build crates/build_export"
+rt staticlib build_export >target/bench.log 2>&1 || { tail -n 20 target/bench.log; exit 1; }
+echo "== build bench/quadtree.c"
+cc -O3 -Wall -o target/bench_filing bench/quadtree.c bench/engine.c target/staticlib/libbuild_export.a
 echo "== time per filing, best of 40 rounds"
 target/bench_filing

@@ -1,5 +1,5 @@
 #!/usr/bin/env python3
-"""Runs public calls on sound and damaged charts by the proved program (crates/chart_calls) and by the reference model, and
+"""Runs public calls on sound and damaged charts by the proved program (crates/test_calls) and by the reference model, and
 compares what they answer and what the buffers hold afterwards.
 
 usage: calls.py SEED COUNT
@@ -21,9 +21,9 @@ import struct
 import sys
 
 sys.path.insert(0, os.path.dirname(os.path.abspath(__file__)))
-import filing
+import quadtree
 
-PROGRAM = os.path.join(filing.ROOT, "target", "bin", "chart_calls")
+PROGRAM = os.path.join(quadtree.ROOT, "target", "bin", "test_calls")
 BUFFERS = ["table0", "keys0", "levels0", "tris0"]
 TABLE, KEYS, LEVELS, ITEMS = range(4)
 NEEDED = [3072, 16384, 16384, 16384]
@@ -31,7 +31,7 @@ NEEDED = [3072, 16384, 16384, 16384]
 LONGEST = [3100, 16500, 16500, 16500]
 WIDTHS = [65536, 2**32, 256, 65536]
 MARK = 65535
-U = filing.U
+U = quadtree.U
 V = (65535, 65535, 0, 65535, 65535, 0)
 FLAT = (0, 0, 5, 5, 9, 9)
 REVERSED = (0, 0, 0, 5, 5, 0)
@@ -110,7 +110,7 @@ def program_lines(steps):
             data.append(struct.pack("<BBHII", 8, 0, 0, s[1], s[2]))
         elif s[0] == "fill":
             data.append(struct.pack("<BBHII", 9, s[1], 0, s[2], 0))
-    return filing.run([PROGRAM], b"".join(data)).split("\n")[:-1]
+    return quadtree.run([PROGRAM], b"".join(data)).split("\n")[:-1]
 
 
 def model_lines(steps):
@@ -128,7 +128,7 @@ def model_lines(steps):
         else:
             text.append(s[0] + " 0" + "".join(f" {v}" for v in (s[1] if len(s) > 1 else [])))
             text.append("sum 0")
-    lines = filing.run([filing.MODEL, "calls"], "\n".join(text).encode()).split("\n")[:-1]
+    lines = quadtree.run([quadtree.MODEL, "calls"], "\n".join(text).encode()).split("\n")[:-1]
     return [call.rsplit(" ", 1)[0] + " " + total.split()[1] for call, total in zip(lines[::2], lines[1::2])]
 
 
@@ -179,7 +179,7 @@ def loads(s):
     s.table([REVERSED], "D < 0", 5)
     s.table([V] * 3 + [REVERSED, FLAT], "triangle 3 named", 5)
     s.table([U] * 511 + [FLAT], "triangle 511 named", 5)
-    full, over = filing.exactly(s.rng, 16384), filing.exactly(s.rng, 16385)
+    full, over = quadtree.exactly(s.rng, 16384), quadtree.exactly(s.rng, 16385)
     s.table(full, "16384 entries", 0)
     s.read(*SOMEWHERE, shows="16384 entries", number=0)
     s.measure("16384 entries", 0)
@@ -332,10 +332,10 @@ def fullest(s):
 
 def drawn(s):
     """A chart that is read at its corners and elsewhere, then damaged at random."""
-    table = s.rng.choice([filing.KINDS[name] for name in ("soup", "mesh", "slivers", "borders", "repeated", "copies")])(s.rng)
+    table = s.rng.choice([quadtree.KINDS[name] for name in ("soup", "mesh", "slivers", "borders", "repeated", "copies")])(s.rng)
     s.table(table, "drawn")
     points = [t[2 * k : 2 * k + 2] for t in s.rng.sample(table, min(3, len(table))) for k in range(3)] if table else []
-    points += [filing.anywhere(s.rng) for _ in range(4)]
+    points += [quadtree.anywhere(s.rng) for _ in range(4)]
     s.read(*points)
     s.measure()
     for _ in range(4):

@@ -10,7 +10,7 @@ use Rattle.plane.specs.Triangle.{Triangle}
 use Rattle.chart_spec.proofs.MarkedCases.{at}
 use Rattle.chart_spec.proofs.EditExamples.{tri, pa, pb, pc}
 use Rattle.chart_spec.proofs.OverlayExamples.{entry}
-use Rattle.call_spec.specs.Buffers.{Chart, chartOf, pairsLength, tooShort, padded, zipEntries, chartTable, chartEntries, countsFit, chainRule, sameEntries, filed, chartWith, filedChart}
+use Rattle.call_spec.specs.Buffers.{Chart, chartOf, pairsLength, tooShort, padded, zipEntries, chartTable, chartEntries, countsFit, chainRule, sameEntries, indexed, chartWith, indexedChart}
 use Rattle.call_spec.proofs.Evaluate.{evaluate}
 
 lists-example : chartOf (1 ∷ []) (2 ∷ []) (3 ∷ []) (4 ∷ []) 5 6
@@ -112,7 +112,7 @@ chain-example :
 unfolding evaluate
 chain-example = refl
 
--- Filed
+-- Built
 
 -- key, level and triangle each different alone, first or second; longer and shorter
 sameEntries-example :
@@ -138,15 +138,15 @@ no-entries-example = refl
 abbrev quartered : List ℕ → List ℕ → ℕ → Chart
 quartered t is n = chartOf t (0 ∷ 1073741824 ∷ 2147483648 ∷ 3221225472 ∷ []) (1 ∷ 1 ∷ 1 ∷ 1 ∷ []) is 1 n
 
-filed-example :
-    filed (quartered (65535 ∷ 65535 ∷ 0 ∷ 65535 ∷ 65535 ∷ 0 ∷ []) (0 ∷ 0 ∷ 0 ∷ 0 ∷ []) 4)
-    ∷ filed (quartered (0 ∷ 0 ∷ 65535 ∷ 0 ∷ 0 ∷ 65535 ∷ []) (0 ∷ 0 ∷ 0 ∷ 0 ∷ []) 4)
-    ∷ filed (quartered (65535 ∷ 65535 ∷ 0 ∷ 65535 ∷ 65535 ∷ 0 ∷ []) (0 ∷ 0 ∷ 0 ∷ 0 ∷ []) 3)
-    ∷ filed (quartered (65535 ∷ 65535 ∷ 0 ∷ 65535 ∷ 65535 ∷ 0 ∷ []) (65535 ∷ 0 ∷ 0 ∷ 0 ∷ []) 4)
+indexed-example :
+    indexed (quartered (65535 ∷ 65535 ∷ 0 ∷ 65535 ∷ 65535 ∷ 0 ∷ []) (0 ∷ 0 ∷ 0 ∷ 0 ∷ []) 4)
+    ∷ indexed (quartered (0 ∷ 0 ∷ 65535 ∷ 0 ∷ 0 ∷ 65535 ∷ []) (0 ∷ 0 ∷ 0 ∷ 0 ∷ []) 4)
+    ∷ indexed (quartered (65535 ∷ 65535 ∷ 0 ∷ 65535 ∷ 65535 ∷ 0 ∷ []) (0 ∷ 0 ∷ 0 ∷ 0 ∷ []) 3)
+    ∷ indexed (quartered (65535 ∷ 65535 ∷ 0 ∷ 65535 ∷ 65535 ∷ 0 ∷ []) (65535 ∷ 0 ∷ 0 ∷ 0 ∷ []) 4)
     ∷ []
     ≡ true ∷ false ∷ false ∷ false ∷ []
 unfolding evaluate
-filed-example = refl
+indexed-example = refl
 
 -- the table and any entries, each list in its place, zeros behind them and what was there beyond
 chartWith-example :
@@ -166,6 +166,6 @@ unfolding evaluate
 chartWith-example = refl
 
 -- with the table's own entries: the empty table has one
-filedChart-example : (c : Chart) → filedChart c [] ≡ chartWith c [] (entry 0 0 65535 ∷ [])
+indexedChart-example : (c : Chart) → indexedChart c [] ≡ chartWith c [] (entry 0 0 65535 ∷ [])
 unfolding evaluate
-filedChart-example c = refl
+indexedChart-example c = refl

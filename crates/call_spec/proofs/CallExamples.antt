@@ -12,11 +12,11 @@ use Rattle.plane.specs.Triangle.{Triangle}
 use Rattle.chart_spec.specs.Table.{Table}
 use Rattle.chart_spec.specs.Refusals.{Refusal, shortBuffer, brokenChain, staleEntries, noFlip, Outcome, refused, done, numberOf, andThen}
 use Rattle.chart_spec.specs.Edits.{Event, load, split, takeOut, flip, eventOn, withinLimit}
-use Rattle.chart_spec.specs.Overlay.{Hatch}
+use Rattle.chart_spec.specs.Overlay.{OverlayAnswer}
 use Rattle.chart_spec.proofs.MarkedCases.{at}
 use Rattle.chart_spec.proofs.RefusalsExamples.{rows}
 use Rattle.chart_spec.proofs.EditExamples.{tri}
-use Rattle.call_spec.specs.Buffers.{Chart, chartOf, filedChart}
+use Rattle.call_spec.specs.Buffers.{Chart, chartOf, indexedChart}
 use Rattle.call_spec.specs.Calls.{Changed, Overlaid, changedBy, loadCall, editCall, splitCall, takeOutCall, flipCall, reading, locateCall, listingCall, soundCall, areaCall, pairsRefused, overlaidBy, overlayCall}
 use Rattle.call_spec.specs.History.{eventCall, chartAfter}
 use Rattle.call_spec.proofs.Evaluate.{evaluate}
@@ -72,7 +72,7 @@ stale = filled numbersV keysU levelsU (0 ∷ 0 ∷ 0 ∷ 0 ∷ 0 ∷ 0 ∷ 65535
 
 -- Load and the edits
 
--- a refusal gives its number and value and the chart as it was; else the table is filed
+-- a refusal gives its number and value and the chart as it was; else the table is indexed
 changedBy-example : (c : Chart)
     → map (λ r. changedBy c (refused r)) rows
     ≡ record { number = 1; value = 0; chart = c }
@@ -91,7 +91,7 @@ changedBy-example : (c : Chart)
 unfolding evaluate
 changedBy-example c = refl
 
-changedBy-done-example : (c : Chart) (t : Table) → changedBy c (done t) ≡ record { number = 0; value = 0; chart = filedChart c t }
+changedBy-done-example : (c : Chart) (t : Table) → changedBy c (done t) ≡ record { number = 0; value = 0; chart = indexedChart c t }
 unfolding evaluate
 changedBy-done-example c t = refl
 

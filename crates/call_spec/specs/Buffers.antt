@@ -1,4 +1,4 @@
--- Document 01, "Chart buffers": the lists that a caller lends, the chain rule, and what a filed chart holds.
+-- Document 01, "Chart buffers": the lists that a caller lends, the chain rule, and what a indexed chart holds.
 -- Assumes nothing.
 use mathlib.Core.Bool.{Bool, true, false, _&&_, _||_}
 use mathlib.Core.List.{List, [], _∷_, _++_, map}
@@ -83,8 +83,8 @@ sameEntries (e ∷ es) (f ∷ fs) =
     elim (sameCell e f && eqb (e .item) (f .item)) [ true ↦ sameEntries es fs | false ↦ false ]
 
 -- the entries are those of the table; refusal 3 when they are not
-unfoldable pub filed : Chart → Bool
-filed c = sameEntries (chartEntries c) (entriesOf (chartTable c))
+unfoldable pub indexed : Chart → Bool
+indexed c = sameEntries (chartEntries c) (entriesOf (chartTable c))
 
 -- the chart that holds the table and the given entries, in the buffers of c
 unfoldable pub chartWith : Chart → Table → List Entry → Chart
@@ -98,5 +98,5 @@ chartWith c t es = record {
 }
 
 -- the chart that an accepted load or edit leaves: the table with its own entries
-unfoldable pub filedChart : Chart → Table → Chart
-filedChart c t = chartWith c t (entriesOf t)
+unfoldable pub indexedChart : Chart → Table → Chart
+indexedChart c t = chartWith c t (entriesOf t)

@@ -12,8 +12,8 @@ use Rattle.plane.specs.declared.Point.{Point}
 use Rattle.chart_spec.specs.Table.{Table}
 use Rattle.chart_spec.specs.Refusals.{Refusal, shortBuffer, brokenChain, staleEntries, tooManyPairs, numberOf, valueOf, Outcome, refused, done, refuseIf, andThen, outcomeNumber, doneOr}
 use Rattle.chart_spec.specs.Edits.{load, eventOn, splitTable, takeOutTable, flipTable, withinLimit}
-use Rattle.chart_spec.specs.Overlay.{Hatch, pairNumbers, overlayOf}
-use Rattle.call_spec.specs.Buffers.{Chart, tooShort, chainRule, filed, filedChart, chartTable, chartEntries, padded, pairsLength}
+use Rattle.chart_spec.specs.Overlay.{OverlayAnswer, pairNumbers, overlayOf}
+use Rattle.call_spec.specs.Buffers.{Chart, tooShort, chainRule, indexed, indexedChart, chartTable, chartEntries, padded, pairsLength}
 use Rattle.chart_spec.specs.Reading.{located, listing, sound, totalArea}
 
 -- Load and the edits
@@ -27,7 +27,7 @@ pub record Changed : Type 0 where
 -- "Buffers and counts keep their former contents" at a refusal; else they hold the new table and its entries
 unfoldable pub changedBy : Chart → Outcome Table → Changed
 changedBy c (refused r) = record { number = numberOf r; value = valueOf r; chart = c }
-changedBy c (done t) = record { number = 0; value = 0; chart = filedChart c t }
+changedBy c (done t) = record { number = 0; value = 0; chart = indexedChart c t }
 
 -- the table given is not one of the lent buffers; 2 and 3 are not judged
 unfoldable pub loadCall : List ℕ → Chart → Changed
@@ -39,7 +39,7 @@ editCall edit c =
     changedBy c
     (refuseIf (tooShort c) shortBuffer
     (refuseIf (not (chainRule c)) brokenChain
-    (refuseIf (not (filed c)) staleEntries (andThen (edit (chartTable c)) (λ t. withinLimit t)))))
+    (refuseIf (not (indexed c)) staleEntries (andThen (edit (chartTable c)) (λ t. withinLimit t)))))
 
 unfoldable pub splitCall : ℕ → Point → Chart → Changed
 splitCall t p = editCall (λ table. splitTable t p table)
@@ -117,7 +117,7 @@ pairsRefused Refusal.noFlip before = before
 pairsRefused Refusal.tableFull before = before
 pairsRefused Refusal.tooManyEntries before = before
 
-unfoldable pub overlaidBy : List ℕ → Outcome Hatch → Overlaid
+unfoldable pub overlaidBy : List ℕ → Outcome OverlayAnswer → Overlaid
 overlaidBy before (refused r) = record { number = numberOf r; pairCount = 0; meets = 0; pairs = pairsRefused r before }
 overlaidBy before (done h) = record {
   number = 0;

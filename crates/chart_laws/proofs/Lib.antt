@@ -14,7 +14,7 @@ pub mod TakeOutUnique
 pub mod CellsLaws
 pub mod ReadingLaws
 pub mod OverlayLaws
-pub mod FilingLaws
+pub mod EntriesOfTable
 pub mod ChainOfTable
 pub mod MeetingsOfTable
 pub mod SharedGround

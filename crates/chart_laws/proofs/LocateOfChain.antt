@@ -1,4 +1,4 @@
--- Locating a point in any list of entries that satisfies the chain rule, filed from a table or not: the first listed triangle that
+-- Locating a point in any list of entries that satisfies the chain rule, indexed from a table or not: the first listed triangle that
 -- passes a test is the lowest numbered listed one that passes it.
 -- The idea: the numbers of a cell listing ascend strictly.
 -- Assumes nothing.

@@ -37,7 +37,7 @@ use Rattle.chart_spec.specs.Table.{Table, numbered, noTriangle, triangleNumbers
 use Rattle.chart_spec.specs.Cells.{stopped, cellsIn, cells, trianglesMeeting, orMark, entryOf, cellEntries, entriesOf}
 use Rattle.chart_spec.specs.Overlay.{pairsListed}
 use Rattle.chart_laws.proofs.TableLaws.{proper-at}
-use Rattle.chart_laws.proofs.FilingLaws.{meeting-filter}
+use Rattle.chart_laws.proofs.EntriesOfTable.{meeting-filter}
 use Rattle.chart_laws.proofs.ChainOfTable.{cells-aligned}
 use Rattle.chart_laws.proofs.OverlayLaws.{pair, pairs-listed-iff}
 

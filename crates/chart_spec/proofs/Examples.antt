@@ -17,7 +17,7 @@ use Rattle.chart_spec.specs.Edits.{givenTable, load, split, takeOut, fli
 use Rattle.chart_spec.specs.Overlay.{overlayOf, withinPairs}
 use Rattle.chart_spec.specs.Reading.{listing, sound, totalArea}
 use Rattle.chart_spec.proofs.Evaluate.{evaluate}
-use Rattle.chart_spec.proofs.MarkedCases.{at, entryNumbers, outcomeNumbers, hatchNumbers, locatedIn, overlaid}
+use Rattle.chart_spec.proofs.MarkedCases.{at, entryNumbers, outcomeNumbers, overlayNumbers, locatedIn, overlaid}
 
 -- Tables that the examples share
 
@@ -156,9 +156,9 @@ unfolding evaluate
 overlay-example = refl
 
 -- a chart whose one entry is the mark lists no triangle, so no pair, and has one cell
-unfiled-example : hatchNumbers (overlayOf tableA (entriesOf []) tableC (entriesOf tableC)) ≡ 0 ∷ 0 ∷ 4 ∷ []
+unindexed-example : overlayNumbers (overlayOf tableA (entriesOf []) tableC (entriesOf tableC)) ≡ 0 ∷ 0 ∷ 4 ∷ []
 unfolding evaluate
-unfiled-example = refl
+unindexed-example = refl
 
 -- 4,096 pairs are not too many, 4,097 are
 limit-of-pairs-example : map (λ n. outcomeNumber (withinPairs (replicate n (record { i = 3; j = 5 })) 8)) (4096 ∷ 4097 ∷ []) ≡ 0 ∷ 12 ∷ []

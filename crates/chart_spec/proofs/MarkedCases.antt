@@ -16,7 +16,7 @@ use Rattle.chart_spec.specs.Table.{Table, tableNumbers}
 use Rattle.chart_spec.specs.Cells.{cells, cellEntries, entriesOf}
 use Rattle.chart_spec.specs.Refusals.{Outcome, refused, done, numberOf, valueOf}
 use Rattle.chart_spec.specs.Edits.{Event, load, split, takeOut, flip, eventOn, plainTable}
-use Rattle.chart_spec.specs.Overlay.{Hatch, pairNumbers, overlayOf}
+use Rattle.chart_spec.specs.Overlay.{OverlayAnswer, pairNumbers, overlayOf}
 use Rattle.chart_spec.specs.Reading.{located, totalArea}
 use Rattle.chart_spec.proofs.Evaluate.{evaluate}
 
@@ -45,17 +45,17 @@ outcomeNumbers (refused r) = numberOf r ∷ valueOf r ∷ []
 outcomeNumbers (done t) = 0 ∷ tableNumbers t
 
 -- 0, pair count, meetings and pairs, or the refusal's number
-abbrev pub hatchNumbers : Outcome Hatch → List ℕ
-hatchNumbers (refused r) = numberOf r ∷ []
-hatchNumbers (done h) = 0 ∷ length (h .pairs) ∷ h .meets ∷ pairNumbers (h .pairs)
+abbrev pub overlayNumbers : Outcome OverlayAnswer → List ℕ
+overlayNumbers (refused r) = numberOf r ∷ []
+overlayNumbers (done h) = 0 ∷ length (h .pairs) ∷ h .meets ∷ pairNumbers (h .pairs)
 
--- locate in a table, filed
+-- locate in a table, indexed
 abbrev pub locatedIn : Table → Point → List ℕ
 locatedIn t p = foundNumbers (located t (entriesOf t) p)
 
--- overlay of two tables, filed
+-- overlay of two tables, indexed
 abbrev pub overlaid : Table → Table → List ℕ
-overlaid s t = hatchNumbers (overlayOf s (entriesOf s) t (entriesOf t))
+overlaid s t = overlayNumbers (overlayOf s (entriesOf s) t (entriesOf t))
 
 -- The rows
 

@@ -10,9 +10,9 @@ use Rattle.plane.specs.declared.Point.{Point}
 use Rattle.plane.specs.Triangle.{Triangle}
 use Rattle.chart_spec.specs.Table.{Table}
 use Rattle.chart_spec.specs.Refusals.{Outcome, refused, done, tooManyPairs}
-use Rattle.chart_spec.specs.Overlay.{Pair, Hatch, pairNumbers, pairListed, pairsListed, withinPairs, overlayOf}
+use Rattle.chart_spec.specs.Overlay.{Pair, OverlayAnswer, pairNumbers, pairListed, pairsListed, withinPairs, overlayOf}
 use Rattle.chart_spec.proofs.Evaluate.{evaluate}
-use Rattle.chart_spec.proofs.MarkedCases.{at, hatchNumbers}
+use Rattle.chart_spec.proofs.MarkedCases.{at, overlayNumbers}
 use Rattle.chart_spec.proofs.EditExamples.{tri}
 
 abbrev pair : ℕ → ℕ → Pair
@@ -42,7 +42,7 @@ abbrev allRight : List Entry
 allRight = entry 0 0 0 ∷ entry 0 0 1 ∷ entry 0 0 2 ∷ []
 
 -- no cell lists triangle 3 of the first chart
-shared-ground-example : hatchNumbers (overlayOf left allLeft right allRight) ≡ 0 ∷ 3 ∷ 1 ∷ 0 ∷ 1 ∷ 0 ∷ 2 ∷ 1 ∷ 0 ∷ []
+shared-ground-example : overlayNumbers (overlayOf left allLeft right allRight) ≡ 0 ∷ 3 ∷ 1 ∷ 0 ∷ 1 ∷ 0 ∷ 2 ∷ 1 ∷ 0 ∷ []
 unfolding evaluate
 shared-ground-example = refl
 
@@ -63,7 +63,7 @@ abbrev same : ℕ → Table
 same n = replicate n (tri (at 0 0) (at 60000 0) (at 0 50000))
 
 -- four cells each, triangle 0 in the first of one and the second of the other: no pair, four meetings
-apart-example : hatchNumbers
+apart-example : overlayNumbers
     (overlayOf
     (same 1)
     (entry 0 1 0 ∷ entry 1073741824 1 65535 ∷ entry 2147483648 1 65535 ∷ entry 3221225472 1 65535 ∷ [])

@@ -22,7 +22,7 @@ unfoldable pub pairNumbers : List Pair → List ℕ
 pairNumbers ps = flatMap (λ p. p .i ∷ p .j ∷ []) ps
 
 -- "The answer: pair count, pairs, and the meetings"; the pair count is the length of the pairs
-pub record Hatch : Type 0 where
+pub record OverlayAnswer : Type 0 where
   pub pairs : List Pair
   pub meets : ℕ
 
@@ -43,9 +43,9 @@ abbrev pub maxPairs : ℕ
 maxPairs = 4096
 
 -- refusal 12: "over 4,096 pairs"
-unfoldable pub withinPairs : List Pair → ℕ → Outcome Hatch
+unfoldable pub withinPairs : List Pair → ℕ → Outcome OverlayAnswer
 withinPairs ps m = refuseIf (ltb maxPairs (length ps)) tooManyPairs (done (record { pairs = ps; meets = m }))
 
 -- the overlay of two tables with their entries
-unfoldable pub overlayOf : Table → List Entry → Table → List Entry → Outcome Hatch
+unfoldable pub overlayOf : Table → List Entry → Table → List Entry → Outcome OverlayAnswer
 overlayOf s es t fs = withinPairs (pairsListed s es t fs) (meetings arity depth es fs)

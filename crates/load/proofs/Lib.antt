@@ -1,4 +1,4 @@
 pub mod FaultyLaws
 pub mod LoadLaws
-pub mod FiledLaws
-pub mod LoadFiled
+pub mod IndexedLaws
+pub mod LoadIndexed

@@ -18,9 +18,9 @@ use Rattle.chart_spec.specs.Cells.{entriesOf, maxEntries}
 use Rattle.chart_spec.specs.Refusals.{shortBuffer, badLength, faultyTriangle, tooManyEntries, refused, done, refuseIf, andThen}
 use Rattle.chart_spec.specs.Edits.{eventOn, proposed, loadTable, givenTable, withinLimit, limited}
 use Rattle.chart_laws.proofs.TableLaws.{tableNumbers-take, tableOf-length}
-use Rattle.call_spec.specs.Buffers.{Chart, chartOf, tooShort, padded, chartWith, filedChart}
+use Rattle.call_spec.specs.Buffers.{Chart, chartOf, tooShort, padded, chartWith, indexedChart}
 use Rattle.call_spec.specs.Calls.{Changed, changedBy, loadCall}
-use Rattle.entries.specs.Lists.{Listed}
+use Rattle.entry_lists.specs.Lists.{Listed}
 use Rattle.load.specs.Faulty.{firstFaulty}
 use Rattle.chains.proofs.BufferLaws.{or-neither}
 use Rattle.load.proofs.FaultyLaws.{faulty-none, faulty-done, faulty-refused}
@@ -103,8 +103,8 @@ module _ (ns : List ℕ) (c : Chart) where
 
           load-chart : length (entriesOf (given ns)) ≤ maxEntries
               → {table : List ℕ} → table ≡ padded tableLength (take (6 * (length ns / 6)) ns) (c .table)
-              → chartOf table ks ls is (length ns / 6) m ≡ filedChart c (given ns)
-          unfolding filedChart chartWith
+              → chartOf table ks ls is (length ns / 6) m ≡ indexedChart c (given ns)
+          unfolding indexedChart chartWith
           load-chart few {table} p =
               let numbers = ap (λ u. padded tableLength u (c .table)) (sym (tableNumbers-take ns (length ns / 6) (omega arith))) in
               let count = sym (tableOf-length ns (length ns / 6)) in

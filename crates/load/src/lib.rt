@@ -37,7 +37,7 @@ fn put_table(given: &[u16], n: usize, table: &mut [u16])
         table[i] = given[i];
         i += 1;
     }
-    entries::clear_items(table, n, 3072);
+    entry_lists::clear_items(table, n, 3072);
 }
 
 // Load. It answers how it went and the counts that the chart has now; a refusal leaves lists and counts as they were.
@@ -75,7 +75,7 @@ pub fn load(
             entries,
         };
     }
-    let m = entries::file_into(given, n, keys, levels, items);
+    let m = entry_lists::build_into(given, n, keys, levels, items);
     if m > 16384 {
         return Changed {
             change: Change::TooManyEntries,

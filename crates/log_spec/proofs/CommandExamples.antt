@@ -9,11 +9,11 @@ use Rattle.plane.specs.Triangle.{Triangle}
 use Rattle.chart_spec.specs.Table.{Table}
 use Rattle.chart_spec.specs.Refusals.{Outcome, refused, done, brokenChain, faultyTriangle, notThreeAround}
 use Rattle.chart_spec.specs.Edits.{load, split, takeOut, flip, eventOn}
-use Rattle.chart_spec.specs.Overlay.{Hatch}
+use Rattle.chart_spec.specs.Overlay.{OverlayAnswer}
 use Rattle.chart_spec.proofs.MarkedCases.{at}
 use Rattle.chart_spec.proofs.RefusalsExamples.{rows}
 use Rattle.chart_spec.proofs.EditExamples.{pa, pb, pc, pd, pp, tri}
-use Rattle.log_spec.specs.Log.{State, Step, startState, chartOf, withChart, withWaiting, refusalNumbers, eventNumbers, eventStep, waitStep, loadStep, foundNumber, locateStep, hatchLines, overlayStep, runCommand, stepOf, line, badLine, logFrom}
+use Rattle.log_spec.specs.Log.{State, Step, startState, chartOf, withChart, withWaiting, refusalNumbers, eventNumbers, eventStep, waitStep, loadStep, foundNumber, locateStep, overlayLines, overlayStep, runCommand, stepOf, line, badLine, logFrom}
 use Rattle.log_spec.proofs.Evaluate.{evaluate}
 
 -- the state of two charts and a waiting table
@@ -107,7 +107,7 @@ kept-example s p = refl
 
 -- "7 2"; "7 0 2 90", "2 5", "11 0"
 lines-example :
-    map (λ o. hatchLines o)
+    map (λ o. overlayLines o)
     (refused brokenChain ∷ done (record { pairs = record { i = 2; j = 5 } ∷ record { i = 11; j = 0 } ∷ []; meets = 90 }) ∷ [])
     ≡ (55 ∷ 32 ∷ 50 ∷ 10 ∷ [])
     ∷ (55 ∷ 32 ∷ 48 ∷ 32 ∷ 50 ∷ 32 ∷ 57 ∷ 48 ∷ 10 ∷ 50 ∷ 32 ∷ 53 ∷ 10 ∷ 49 ∷ 49 ∷ 32 ∷ 48 ∷ 10 ∷ [])

@@ -5,7 +5,7 @@ use mathlib.Core.List.{List, [], _∷_, _++_, map}
 use Prim.Native.Nat.{ℕ}
 use lib.ListN.{replicate}
 use Rattle.chart_spec.specs.Refusals.{refused, tooManyPairs}
-use Rattle.log_spec.specs.Log.{logOf, waitStep, hatchLines}
+use Rattle.log_spec.specs.Log.{logOf, waitStep, overlayLines}
 use Rattle.log_spec.proofs.Evaluate.{evaluate}
 
 -- document 01's own input: 1 U, 2 0, 1 V, 2 1, 7
@@ -56,6 +56,6 @@ unfolding evaluate
 edit-log-example = refl
 
 -- an overlay with too many pairs prints two numbers
-over-log-example : hatchLines (refused tooManyPairs) ≡ 55 ∷ 32 ∷ 49 ∷ 50 ∷ 10 ∷ []
+over-log-example : overlayLines (refused tooManyPairs) ≡ 55 ∷ 32 ∷ 49 ∷ 50 ∷ 10 ∷ []
 unfolding evaluate
 over-log-example = refl

@@ -13,7 +13,7 @@ use Rattle.chart_spec.specs.Table.{Table, tableLength}
 use Rattle.chart_spec.specs.Cells.{entriesOf}
 use Rattle.chart_spec.specs.Refusals.{Refusal, badLength, faultyTriangle, numberOf, Outcome, refused, done, doneOr}
 use Rattle.chart_spec.specs.Edits.{Event, load, split, takeOut, flip, eventOn}
-use Rattle.chart_spec.specs.Overlay.{Pair, Hatch, overlayOf}
+use Rattle.chart_spec.specs.Overlay.{Pair, OverlayAnswer, overlayOf}
 use Rattle.chart_spec.specs.Reading.{located}
 
 -- Lines
@@ -121,14 +121,14 @@ locateStep c p s =
     record { printed = line 6 (0 ∷ foundNumber (located t (entriesOf t) p) ∷ []); after = s }
 
 -- command 7: "pairs and meetings, then a line `i j` for each pair"
-unfoldable pub hatchLines : Outcome Hatch → List ℕ
-hatchLines (refused r) = line 7 (numberOf r ∷ [])
-hatchLines (done h) =
+unfoldable pub overlayLines : Outcome OverlayAnswer → List ℕ
+overlayLines (refused r) = line 7 (numberOf r ∷ [])
+overlayLines (done h) =
     line 7 (0 ∷ length (h .pairs) ∷ h .meets ∷ []) ++ flatMap (λ p. line (p .i) (p .j ∷ [])) (h .pairs)
 
 unfoldable pub overlayStep : State → Step
 overlayStep s = record {
-  printed = hatchLines (overlayOf (s .chart0) (entriesOf (s .chart0)) (s .chart1) (entriesOf (s .chart1)));
+  printed = overlayLines (overlayOf (s .chart0) (entriesOf (s .chart0)) (s .chart1) (entriesOf (s .chart1)));
   after = s;
 }
 

@@ -52,21 +52,21 @@ unfolding overlaps span rangeEnd
 overlaps-example = refl
 
 -- seven cells and nine entries; two cells have no item
-abbrev filed : List Entry
-filed = e 0 1 0 ∷ e 0 1 2 ∷ e 4 2 65535 ∷ e 5 2 1 ∷ e 6 2 0 ∷ e 6 2 1 ∷ e 7 2 2 ∷ e 8 1 65535 ∷ e 12 1 2 ∷ []
+abbrev indexed : List Entry
+indexed = e 0 1 0 ∷ e 0 1 2 ∷ e 4 2 65535 ∷ e 5 2 1 ∷ e 6 2 0 ∷ e 6 2 1 ∷ e 7 2 2 ∷ e 8 1 65535 ∷ e 12 1 2 ∷ []
 
-cells-example : map (λ c. c .key) (cellHeads filed) ≡ 0 ∷ 4 ∷ 5 ∷ 6 ∷ 7 ∷ 8 ∷ 12 ∷ []
+cells-example : map (λ c. c .key) (cellHeads indexed) ≡ 0 ∷ 4 ∷ 5 ∷ 6 ∷ 7 ∷ 8 ∷ 12 ∷ []
 unfolding cellHeads cellHeadsAfter sameCell
 cells-example = refl
 
 abbrev other : List Entry
 other = e 0 2 0 ∷ e 1 2 1 ∷ e 2 2 0 ∷ e 3 2 1 ∷ e 4 1 0 ∷ e 8 1 1 ∷ e 12 1 0 ∷ e 12 1 1 ∷ []
 
-meetings-example : meetings 4 2 filed other ∷ meetings 4 2 filed (e 0 0 65535 ∷ []) ∷ [] ≡ 10 ∷ 7 ∷ []
+meetings-example : meetings 4 2 indexed other ∷ meetings 4 2 indexed (e 0 0 65535 ∷ []) ∷ [] ≡ 10 ∷ 7 ∷ []
 unfolding meetings cellHeads cellHeadsAfter sameCell overlaps span rangeEnd sumOf
 meetings-example = refl
 
-together-example : listedTogether 4 2 filed other 0 1 ∷ listedTogether 4 2 filed other 1 0 ∷ listedTogether 4 2 filed other 1 1 ∷ listedTogether 4 2 other filed 0 1 ∷ listedTogether 4 2 other filed 1 1 ∷ []
+together-example : listedTogether 4 2 indexed other 0 1 ∷ listedTogether 4 2 indexed other 1 0 ∷ listedTogether 4 2 indexed other 1 1 ∷ listedTogether 4 2 other indexed 0 1 ∷ listedTogether 4 2 other indexed 1 1 ∷ []
     ≡ true ∷ true ∷ false ∷ true ∷ false ∷ []
 unfolding listedTogether overlaps span rangeEnd any filter
 together-example = refl
@@ -80,7 +80,7 @@ unfolding follows isMark emptyMark sameCell span rangeEnd
 follows-example = refl
 
 -- the chain rule holds of the two lists, and of each list below all but one part of it
-chain-example : map (λ es. chain 4 2 3 es) (filed ∷ other ∷ (e 0 0 65535 ∷ []) ∷ (e 0 0 2 ∷ []) ∷ []) ≡ true ∷ true ∷ true ∷ true ∷ []
+chain-example : map (λ es. chain 4 2 3 es) (indexed ∷ other ∷ (e 0 0 65535 ∷ []) ∷ (e 0 0 2 ∷ []) ∷ []) ≡ true ∷ true ∷ true ∷ true ∷ []
 unfolding chain chainAfter entryFits follows isMark emptyMark sameCell span rangeEnd
 chain-example = refl
 
@@ -123,6 +123,6 @@ unfolding mortonKey lowestBits
 child-key-example = refl
 
 -- of the entries above, those of the cell that has key 6 are at places 4 and 5, and of the cell that has key 11 at place 7
-block-example : endedBy 4 2 6 filed ∷ startedBy 6 filed ∷ endedBy 4 2 11 filed ∷ startedBy 11 filed ∷ [] ≡ 4 ∷ 6 ∷ 7 ∷ 8 ∷ []
+block-example : endedBy 4 2 6 indexed ∷ startedBy 6 indexed ∷ endedBy 4 2 11 indexed ∷ startedBy 11 indexed ∷ [] ≡ 4 ∷ 6 ∷ 7 ∷ 8 ∷ []
 unfolding runLength span rangeEnd
 block-example = refl

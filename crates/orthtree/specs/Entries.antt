@@ -1,4 +1,4 @@
--- Entries of a filed tree, key ranges and the chain rule (document 01, "Cells and entries", "Chart buffers", "Overlay"),
+-- Entries of a indexed tree, key ranges and the chain rule (document 01, "Cells and entries", "Chart buffers", "Overlay"),
 -- over any arity and depth.
 -- Assumes nothing.
 use mathlib.Core.Bool.{Bool, true, false, not, _&&_, _||_}

@@ -75,8 +75,8 @@ returns-3 c =
     let short = sym (c .before .before .before .before .too-short .ensures (a .triangles) (a .entries)) ∙ c .before .before .before .if1 .left in
     load-faulty (a .given .now) chart short (c .before .before .if2 .left) (c .before .first-faulty .ensures) (omega (arith, c .if3 .taken))
 
-file-into-requires : tie.Need-file-into-requires
-file-into-requires c κs =
+build-into-requires : tie.Need-build-into-requires
+build-into-requires c κs =
     let a = c .before .before .before .before .before .before .before .before .before .before .before .before .before .before .before .before .before .args in
     let chart = chartOf (a .table .now) (a .keys .now) (a .levels .now) (a .items .now) (a .triangles) (a .entries) in
     let short = sym (c .before .before .before .before .before .before .before .too-short .ensures (a .triangles) (a .entries)) ∙ c .before .before .before .before .before .before .if1 .left in
@@ -104,7 +104,7 @@ returns-4 c =
     let chart = chartOf (a .table .now) (a .keys .now) (a .levels .now) (a .items .now) (a .triangles) (a .entries) in
     let short = sym (c .before .before .before .before .before .before .before .before .before .before .before .before .before .before .before .too-short .ensures (a .triangles) (a .entries)) ∙ c .before .before .before .before .before .before .before .before .before .before .before .before .before .before .if1 .left in
     load-many (a .given .now) chart short (c .before .before .before .before .before .before .before .before .before .before .before .before .before .if2 .left) (c .before .before .before .before .before .before .before .before .before .before .before .before .first-faulty .ensures) (omega (arith, c .before .before .before .before .before .before .before .before .before .before .before .if3 .left))
-    (c .before .before .before .before .before .before .before .file-into .ensures) (omega (arith, c .if4 .taken))
+    (c .before .before .before .before .before .before .before .build-into .ensures) (omega (arith, c .if4 .taken))
 
 mul-put-table : tie.Need-mul-put-table
 mul-put-table c = search needs
@@ -137,7 +137,7 @@ returns-5 c =
     let chart = chartOf (a .table .now) (a .keys .now) (a .levels .now) (a .items .now) (a .triangles) (a .entries) in
     let short = sym (c .before .before .before .before .before .before .before .before .before .before .before .before .before .before .before .before .before .before .before .too-short .ensures (a .triangles) (a .entries)) ∙ c .before .before .before .before .before .before .before .before .before .before .before .before .before .before .before .before .before .before .if1 .left in
     load-done (a .given .now) chart short (c .before .before .before .before .before .before .before .before .before .before .before .before .before .before .before .before .before .if2 .left) (c .before .before .before .before .before .before .before .before .before .before .before .before .before .before .before .before .first-faulty .ensures) (omega (arith, c .before .before .before .before .before .before .before .before .before .before .before .before .before .before .before .if3 .left))
-    (c .before .before .before .before .before .before .before .before .before .before .before .file-into .ensures) (omega (arith, c .before .before .before .before .if4 .left)) (c .before .before .put-table .ensures)
+    (c .before .before .before .before .before .before .before .before .before .before .before .build-into .ensures) (omega (arith, c .before .before .before .before .if4 .left)) (c .before .before .put-table .ensures)
 
 pub load-spec : {M : Type 1} → statement M
 load-spec =
@@ -160,7 +160,7 @@ load-spec =
     same-length-11
     same-length-12
     returns-3
-    file-into-requires
+    build-into-requires
     same-length-13
     same-length-14
     same-length-15

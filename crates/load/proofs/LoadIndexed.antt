@@ -1,0 +1,69 @@
+-- After an accepted load the chart is indexed.
+-- The idea: a load that gives 0 passed every test, and those are what the chart of a table asks.
+-- Assumes nothing.
+use mathlib.Core.Path.{_≡_, refl, ap}
+use mathlib.Core.Bool.{Bool, true, false}
+use mathlib.Core.List.{List}
+use Prim.Native.Nat.{ℕ, _/_, _≤_, _<_}
+use native.Mathlib.Decide.{decLe}
+use native.Mathlib.Omega.{arith}
+use lib.ListN.{length}
+use Rattle.chart_spec.specs.Cells.{entriesOf, maxEntries}
+use Rattle.chart_spec.specs.Refusals.{Refusal, refused, numberOf}
+use Rattle.chart_laws.proofs.TableLaws.{tableOf-length}
+use Rattle.call_spec.specs.Buffers.{Chart, tooShort}
+use Rattle.call_spec.specs.Calls.{changedBy, loadCall}
+use Rattle.load.specs.Faulty.{firstFaulty}
+use Rattle.load.proofs.LoadLaws.{lengthTest, length-few, given, given-proper, load-short, load-length, load-faulty, load-over, load-accepted}
+use Rattle.load.proofs.IndexedLaws.{Editable, indexed-editable}
+
+module _ (ns : List ℕ) (c : Chart) (z : loadCall ns c .number ≡ 0) where
+  -- 0 is the number of no refusal
+  not-refused : (r : Refusal) → 0 < numberOf r → changedBy c (refused r) ≡ loadCall ns c → ⊥
+  unfolding changedBy
+  not-refused r p e = let n = ap (λ d. d .number) e in omega arith
+
+  -- so not 1
+  long : (b : Bool) → tooShort c ≡ b → tooShort c ≡ false
+  unfolding numberOf
+  long true s = absurd (not-refused Refusal.shortBuffer (omega arith) (load-short ns c s))
+  long false s = s
+
+  abbrev isLong : tooShort c ≡ false
+  isLong = long (tooShort c) refl
+
+  -- nor 4
+  whole : (b : Bool) → lengthTest ns ≡ b → lengthTest ns ≡ false
+  unfolding numberOf
+  whole true e = absurd (not-refused Refusal.badLength (omega arith) (load-length ns c isLong e))
+  whole false e = e
+
+  abbrev isWhole : lengthTest ns ≡ false
+  isWhole = whole (lengthTest ns) refl
+
+  -- nor 5
+  none-faulty : length ns / 6 ≤ firstFaulty (given ns)
+  unfolding numberOf
+  none-faulty = elim (decLe (length ns / 6) (firstFaulty (given ns))) [
+    | yes h ↦ h
+    | no n ↦ absurd (not-refused (Refusal.faultyTriangle (firstFaulty (given ns))) (omega arith) (load-faulty ns c isLong isWhole refl (omega arith)))
+  ]
+
+  -- nor 11
+  few-entries : length (entriesOf (given ns)) ≤ maxEntries
+  unfolding numberOf
+  few-entries = elim (decLe (length (entriesOf (given ns))) maxEntries) [
+    | yes h ↦ h
+    | no n ↦ absurd (not-refused Refusal.tooManyEntries (omega arith) (load-over ns c isLong isWhole refl none-faulty (omega arith)))
+  ]
+
+  editable : Editable (loadCall ns c .chart)
+  unfolding changedBy
+  editable =
+      let few = length-few ns isWhole in
+      rw (← load-accepted ns c isLong isWhole refl none-faulty few-entries)
+      (indexed-editable c (given ns) (omega (arith, tableOf-length ns (length ns / 6))) few-entries isLong (given-proper ns refl none-faulty))
+
+-- the buffers that an accepted load leaves are long enough, follow the chain rule and hold the entries of their table
+pub load-indexed : (ns : List ℕ) (c : Chart) → loadCall ns c .number ≡ 0 → Editable (loadCall ns c .chart)
+load-indexed ns c z = editable ns c z

@@ -1,0 +1,62 @@
+-- Locate finds the lowest numbered of the triangles listed in the point's cell that hold the point, on every chart that passes
+-- checks 1 and 2; on a indexed chart that is the lowest numbered of the whole table.
+-- The laws before the last of each kind speak of any test, not only of whether a triangle holds the point.
+-- Assumes nothing.
+use mathlib.Core.Path.{_≡_, sym, _∙_, ap}
+use mathlib.Core.Bool.{Bool, true, false}
+use Prim.Native.Nat.{ℕ}
+use lib.Dec.{T}
+use lib.ListN.{length}
+use Rattle.lists.specs.Lists.{first, upTo}
+use Rattle.lists.proofs.LowestLaws.{Lowest}
+use Rattle.plane.specs.declared.Point.{Point}
+use Rattle.plane.specs.Triangle.{holds}
+use Rattle.squares.proofs.ZOrderLaws.{InGrid}
+use Rattle.chart_spec.specs.Table.{numbered}
+use Rattle.chart_spec.specs.Cells.{entriesOf}
+use Rattle.chart_spec.specs.Reading.{listing, located}
+use Rattle.chart_laws.proofs.LocateOfChain.{first-listed}
+use Rattle.chart_laws.proofs.LocateOfTable.{first-of-table}
+use Rattle.chart_laws.proofs.TableLaws.{tableOf-length}
+use Rattle.call_spec.specs.Buffers.{Chart, tooShort, chainRule, indexed, chartTable, chartEntries}
+use Rattle.call_spec.specs.Calls.{locateCall}
+use Rattle.call_spec.proofs.BuffersLaws.{sameEntries-reflects}
+use Rattle.chains.proofs.BufferLaws.{ruled}
+use Rattle.locating.proofs.CallLaws.{located-done}
+
+-- a table has as many triangles as its count says
+table-length : (c : Chart) → length (chartTable c) ≡ c .triangleCount
+unfolding chartTable
+table-length c = tableOf-length (c .table) (c .triangleCount)
+
+-- a chart whose entries are those of its table
+entries-indexed : (c : Chart) → indexed c ≡ true → chartEntries c ≡ entriesOf (chartTable c)
+unfolding indexed
+entries-indexed c f = sameEntries-reflects (chartEntries c) (entriesOf (chartTable c)) .to (rw f tt)
+
+module _ (c : Chart) (p : Point) (r : chainRule c ≡ true) where
+  -- of the triangles listed in the point's cell, the first that passes a test is the lowest numbered that passes it
+  pub lowest-listed : (f : ℕ → Bool) → Lowest f (listing (chartEntries c) p) (first f (listing (chartEntries c) p))
+  lowest-listed f = first-listed (c .triangleCount) (chartEntries c) (ruled c r .chained) p f
+
+  -- on a indexed chart, for a test that only triangles pass that hold the point, that is the first of the whole table
+  pub first-indexed : InGrid p → indexed c ≡ true → (f : ℕ → Bool) → ((i : ℕ) → T (f i) → T (holds (numbered (chartTable c) i) p))
+      → first f (listing (chartEntries c) p) ≡ first f (upTo (length (chartTable c)))
+  first-indexed g e f only =
+      let rule = ruled c r in
+      ap (λ es. first f (listing es p)) (entries-indexed c e)
+      ∙ first-of-table (chartTable c) (rw table-length (rule .triangles)) p g (rule .good) f only
+
+  module _ (s : tooShort c ≡ false) where
+    found-first : locateCall c p .found ≡ first (λ i. holds (numbered (chartTable c) i) p) (listing (chartEntries c) p)
+    unfolding located
+    found-first = sym (ap (λ a. a .found) (located-done c p s r))
+
+    -- the triangle found is the lowest numbered of those listed that hold the point; nowhere is answered only if none of them holds it
+    pub locate-lowest-listed : Lowest (λ i. holds (numbered (chartTable c) i) p) (listing (chartEntries c) p) (locateCall c p .found)
+    locate-lowest-listed = rw found-first (lowest-listed (λ i. holds (numbered (chartTable c) i) p))
+
+    -- on a indexed chart it is the lowest numbered of the whole table that holds the point
+    pub locate-lowest : InGrid p → indexed c ≡ true
+        → locateCall c p .found ≡ first (λ i. holds (numbered (chartTable c) i) p) (upTo (length (chartTable c)))
+    locate-lowest g e = found-first ∙ first-indexed g e (λ i. holds (numbered (chartTable c) i) p) (λ i h. h)

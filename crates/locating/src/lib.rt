@@ -1,0 +1,96 @@
+// Locate and cell listing.
+
+use answers::Located;
+use plane::Point;
+ghost use mathlib.Core.Path.{_≡_};
+ghost use Prim.Native.Nat.{ℕ, _*_, _≤_, _<_};
+ghost use lib.ListN.{length, getD};
+ghost use Rattle.lists.specs.Lists.{first};
+ghost use Rattle.plane.specs.Triangle.{holds};
+ghost use Rattle.chart_spec.specs.Table.{triangleAt};
+ghost use Rattle.call_spec.specs.Buffers.{chartOf};
+ghost use Rattle.call_spec.specs.Calls.{locateCall, listingCall};
+ghost use Rattle.call_spec.specs.Calls.{Located as Calls·Located};
+ghost use Rattle.search.specs.Place.{OwnPart};
+ghost use Rattle.answers.specs.Outcomes.{locatedOf};
+ghost use Rattle.locating.specs.Holding.{foundOf, readable};
+ghost use Rattle.locating.specs.Places.{placesCall};
+
+// The first of the listed triangles that holds p.
+fn first_holding(table: &[u16], n: usize, list: &[u16], p: Point) -> Located
+    requires { ⌜ (6 * n ≤ length (now table)) × ((k : ℕ) → k < length (now list) → getD (now list) k 0 < n) ⌝ }
+    ensures { λ r. ⌜ r ≡ foundOf (first (λ i. holds (triangleAt (now (table .entry)) i) p) (now (list .entry))) ⌝ }
+{
+    let mut k = 0;
+    while k < list.len() {
+        let i = list[k];
+        if geometry::holds(numbers::triangle_at(table, numbers::index(i)), p) {
+            return Located::At(i);
+        }
+        k += 1;
+    }
+    Located::Nowhere
+}
+
+// Neither refusal 1 nor refusal 2 is met.
+fn is_readable(
+    table: &[u16],
+    keys: &[u32],
+    levels: &[u8],
+    items: &[u16],
+    triangles: usize,
+    entries: usize,
+) -> bool
+    ensures { λ o. ⌜ o ≡ readable (chartOf (now (table .entry)) (now (keys .entry)) (now (levels .entry)) (now (items .entry)) triangles entries) ⌝ }
+{
+    if chains::too_short(table, keys, levels, items) {
+        return false;
+    }
+    chains::chain_rule(table, keys, levels, items, triangles, entries)
+}
+
+// Cell listing of p: the triangle numbers of the cell whose key range has Z(p), as a part of the caller's own list; an empty
+// part for the mark and at a refusal.
+pub fn cell_listing<'a, 'b, 'c, 'd>(
+    table: &'b [u16],
+    keys: &'c [u32],
+    levels: &'d [u8],
+    items: &'a [u16],
+    triangles: usize,
+    entries: usize,
+    p: Point,
+) -> &'a [u16]
+    ensures { λ r. ⌜ now r ≡ listingCall (chartOf (now (table .entry)) (now (keys .entry)) (now (levels .entry)) (now (items .entry)) triangles entries) p ⌝ }
+    ensures { λ r. ⌜ OwnPart (items .entry) r (placesCall (chartOf (now (table .entry)) (now (keys .entry)) (now (levels .entry)) (now (items .entry)) triangles entries) p) ⌝ }
+{
+    if !is_readable(table, keys, levels, items, triangles, entries) {
+        return &items[0..0];
+    }
+    search::listing(keys, levels, items, triangles, entries, p)
+}
+
+// Locate p: the lowest numbered triangle, among those listed in the cell whose key range has Z(p), that holds p.
+pub fn locate(
+    table: &[u16],
+    keys: &[u32],
+    levels: &[u8],
+    items: &[u16],
+    triangles: usize,
+    entries: usize,
+    p: Point,
+) -> Located
+    ensures { λ r. ⌜ _≡_ {A = Calls·Located} (locatedOf r) (locateCall (chartOf (now (table .entry)) (now (keys .entry)) (now (levels .entry)) (now (items .entry)) triangles entries) p) ⌝ }
+{
+    if chains::too_short(table, keys, levels, items) {
+        return Located::ShortBuffer;
+    }
+    if !chains::chain_rule(table, keys, levels, items, triangles, entries) {
+        return Located::BrokenChain;
+    }
+    first_holding(
+        table,
+        triangles,
+        search::listing(keys, levels, items, triangles, entries, p),
+        p,
+    )
+}

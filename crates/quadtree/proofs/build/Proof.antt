@@ -1,0 +1,67 @@
+use mathlib.Core.Path.{sym, _∙_, ap}
+use native.Mathlib.Nat.{zero-add}
+use native.Mathlib.Omega.{arith}
+use lib.ListN.{length}
+use Rattle.squares.specs.Square.{squareKey}
+use Rattle.chart_spec.specs.Table.{tableOf}
+use Rattle.chart_spec.specs.Cells.{entriesOf}
+use Rattle.chart_laws.proofs.EntriesOfTable.{entriesIn-whole}
+use Rattle.quadtree.proofs.WholeWalk.{whole-start, whole-key, whole-room}
+use borrow.Author.Needs.{needs}
+use Rattle.quadtree.proofs.build.Statement.{statement}
+use Rattle.quadtree.proofs.build.Tie as tie
+
+prepare-requires : tie.Need-prepare-requires
+prepare-requires c κs = search needs
+
+put-numbers-requires : tie.Need-put-numbers-requires
+put-numbers-requires c κs = search needs
+
+whole-requires : tie.Need-whole-requires
+whole-requires c κs = search needs
+
+build-square-requires : tie.Need-build-square-requires
+build-square-requires c κs =
+    let a = c .before .before .before .before .before .before .before .before .before .before .before .before .before .before .before .before .before .before .before .before .before .args in
+    let p = c .before .before .before .before .before .before .before .before .before .before .before .before .before .before .before .before .before .before .before .before .before .pre in
+    let w = c .before .whole .ensures in (
+      whole-start (a .n) (a .table .now) (a .shape .now) _ (a .offsets .now) _ (a .stack .now) _ _
+          (c .before .before .before .before .before .before .before .before .before .before .before .before .before .prepare .ensures .0) (c .before .before .before .before .before .before .before .before .before .before .before .before .before .prepare .ensures .1) (c .before .before .before .before .before .before .before .put-numbers .ensures) w
+          (p .0 .0 .1) (p .1 .0 .0) (p .1 .0 .1) (p .1 .1 .0) (λ k. omega (arith, c .before .before .before .before .before .before .before .before .before .before .before .before .before .before .before .before .before .before .before .before .shared-slice-known .given k)) (p .0 .1),
+      (
+        whole-key ∙ sym (ap squareKey w),
+        (whole-room (a .n) (a .table .now) (a .stack .now) _ _ (c .before .before .before .before .before .before .before .put-numbers .ensures) w (p .1 .1 .0), (p .1 .1 .1, omega arith)),
+      ),
+    )
+
+same-length : tie.Need-same-length
+same-length c = search needs
+
+same-length-2 : tie.Need-same-length-2
+same-length-2 c = search needs
+
+same-length-3 : tie.Need-same-length-3
+same-length-3 c = search needs
+
+same-length-4 : tie.Need-same-length-4
+same-length-4 c = search needs
+
+returns : tie.Need-returns
+returns c =
+    let f = rw (c .before .before .before .before .before .before .whole .ensures, entriesIn-whole) at (c .before .before .before .before .build-square .ensures) in
+    let z = zero-add (length (entriesOf (tableOf (c .before .before .before .before .before .before .before .before .before .before .before .before .before .before .before .before .before .before .before .before .before .before .before .before .before .before .args .table .now) (c .before .before .before .before .before .before .before .before .before .before .before .before .before .before .before .before .before .before .before .before .before .before .before .before .before .before .args .n)))) in
+    (rw z at (f .fits), rw z at (f .over))
+
+pub build-spec : {M : Type 1} → statement M
+build-spec =
+    tie.close
+    (tie.spec
+    prepare-requires
+    put-numbers-requires
+    whole-requires
+    build-square-requires
+    same-length
+    same-length-2
+    same-length-3
+    same-length-4
+    returns)

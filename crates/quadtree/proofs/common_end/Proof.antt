@@ -1,0 +1,148 @@
+use mathlib.Core.Path.{_≡_, sym, _∙_, ap}
+use native.Mathlib.Omega.{arith}
+use Rattle.chart_spec.specs.Cells.{commonEnd}
+use Rattle.shapes.specs.Shape.{boxOf}
+use Rattle.quadtree.specs.Build.{maskOf, sidesMet}
+use Rattle.quadtree.proofs.EndLaws.{tested-read, common-read}
+use borrow.Author.Needs.{needs}
+use Rattle.quadtree.proofs.common_end.Statement.{statement}
+use Rattle.quadtree.proofs.common_end.Tie as tie
+
+first-met-requires : tie.Need-first-met-requires
+first-met-requires c κs = search needs
+
+mul-index : tie.Need-mul-index
+mul-index c = search needs
+
+shared-slice-read-index : tie.Need-shared-slice-read-index
+shared-slice-read-index c = search needs
+
+index-requires : tie.Need-index-requires
+index-requires c κs = search needs
+
+mul-packed-at : tie.Need-mul-packed-at
+mul-packed-at c = search needs
+
+packed-at-requires : tie.Need-packed-at-requires
+packed-at-requires c κs =
+    let g = c .before .before .before .before .before .before .before .before .pre .0 in
+    let h = g .held (c .before .before .before .first-met .result .at) (c .before .before .before .first-met .ensures .0 .low) (c .before .before .if1 .taken) in
+    let w = c .index .ensures .0 in
+    omega (arith, g .tables)
+
+mul-packed-at-2 : tie.Need-mul-packed-at-2
+mul-packed-at-2 c = search needs
+
+add-packed-at : tie.Need-add-packed-at
+add-packed-at c = search needs
+
+packed-at-requires-2 : tie.Need-packed-at-requires-2
+packed-at-requires-2 c κs =
+    let g = c .before .before .before .before .before .before .before .before .before .pre .0 in
+    let h = g .held (c .before .before .before .before .first-met .result .at) (c .before .before .before .before .first-met .ensures .0 .low) (c .before .before .before .if1 .taken) in
+    let w = c .before .index .ensures .0 in
+    omega (arith, g .tables)
+
+mul-packed-at-3 : tie.Need-mul-packed-at-3
+mul-packed-at-3 c = search needs
+
+add-packed-at-2 : tie.Need-add-packed-at-2
+add-packed-at-2 c = search needs
+
+packed-at-requires-3 : tie.Need-packed-at-requires-3
+packed-at-requires-3 c κs =
+    let g = c .before .before .before .before .before .before .before .before .before .before .pre .0 in
+    let h = g .held (c .before .before .before .before .before .first-met .result .at) (c .before .before .before .before .before .first-met .ensures .0 .low) (c .before .before .before .before .if1 .taken) in
+    let w = c .before .before .index .ensures .0 in
+    omega (arith, g .tables)
+
+start-of-requires : tie.Need-start-of-requires
+start-of-requires c κs = search needs
+
+start-of-requires-2 : tie.Need-start-of-requires-2
+start-of-requires-2 c κs = search needs
+
+missed-requires : tie.Need-missed-requires
+missed-requires c κs = c .before .before .before .before .before .before .before .before .first-met .ensures .1 (c .before .before .before .before .before .before .before .if1 .taken) .1 .1
+
+missed-requires-2 : tie.Need-missed-requires-2
+missed-requires-2 c κs = c .before .before .before .before .before .before .before .before .before .first-met .ensures .1 (c .before .before .before .before .before .before .before .before .if1 .taken) .1 .1
+
+either-end-requires : tie.Need-either-end-requires
+either-end-requires c κs =
+    let a = c .before .before .before .before .before .before .before .before .before .before .before .before .before .before .before .args in
+    let g = c .before .before .before .before .before .before .before .before .before .before .before .before .before .before .before .pre .0 in
+    let r = c .before .before .before .before .before .before .before .before .before .before .first-met .ensures in
+    let h = c .before .before .before .before .before .before .before .before .before .if1 .taken in (
+      (
+        record {
+          order = r .0 .high;
+          within = g .within;
+          held = λ k lo hi. g .held k (omega (arith, r .0 .low)) hi;
+          tables = g .tables;
+          shapes = g .shapes;
+          offs = g .offs;
+        },
+        c .before .before .before .before .before .before .before .before .before .before .before .before .before .before .before .pre .1,
+      ),
+      tested-read (a .table .now) (a .shape .now) (a .offsets .now) (boxOf (a .f)) (a .stack .now) (c .before .before .before .start-of .result) (c .before .before .start-of2 .result) (c .before .before .before .before .before .before .before .before .before .before .first-met .result .at) (a .to)
+          (c .before .before .before .before .before .before .before .index .result) (c .before .before .before .before .before .before .before .before .before .before .first-met .result .mask) (c .before .before .before .before .before .before .packed-at .result) (c .before .before .before .before .before .packed-at2 .result) (c .before .before .before .before .packed-at3 .result) (c .before .missed .result) (c .missed2 .result)
+          h (g .within)
+          (record {
+            number = c .before .before .before .before .before .before .before .index .ensures .0;
+            mask = r .1 h .0 ∙ ap (λ i. maskOf (sidesMet (a .shape .now) (a .offsets .now) (boxOf (a .f)) i)) (sym (c .before .before .before .before .before .before .before .index .ensures .0));
+            first = c .before .before .before .before .before .before .packed-at .ensures;
+            second = c .before .before .before .before .before .packed-at2 .ensures;
+            third = c .before .before .before .before .packed-at3 .ensures;
+          })
+          (c .before .missed .ensures) (c .missed2 .ensures),
+    )
+
+returns : tie.Need-returns
+returns c =
+    let a = c .before .before .before .before .before .before .before .before .before .before .before .before .before .before .before .before .args in
+    let r = c .before .before .before .before .before .before .before .before .before .before .before .first-met .ensures in
+    let h = c .before .before .before .before .before .before .before .before .before .before .if1 .taken in
+    c .either-end .ensures
+    ∙ common-read (a .table .now) (a .shape .now) (a .offsets .now) (boxOf (a .f)) (a .stack .now) (a .from) (c .before .before .before .before .before .before .before .before .before .before .before .first-met .result .at) (a .to)
+    (c .before .before .before .before .before .before .before .before .index .result) (c .before .before .before .before .before .before .before .before .before .before .before .first-met .result .mask) (c .before .before .before .before .before .before .before .packed-at .result) (c .before .before .before .before .before .before .packed-at2 .result) (c .before .before .before .before .before .packed-at3 .result) (c .before .before .before .before .start-of .result) (c .before .before .before .start-of2 .result)
+    (r .0) h (c .before .before .before .before .before .before .before .before .before .before .before .before .before .before .before .before .pre .0 .within)
+    (record {
+      number = c .before .before .before .before .before .before .before .before .index .ensures .0;
+      mask = r .1 h .0 ∙ ap (λ i. maskOf (sidesMet (a .shape .now) (a .offsets .now) (boxOf (a .f)) i)) (sym (c .before .before .before .before .before .before .before .before .index .ensures .0));
+      first = c .before .before .before .before .before .before .before .packed-at .ensures;
+      second = c .before .before .before .before .before .before .packed-at2 .ensures;
+      third = c .before .before .before .before .before .packed-at3 .ensures;
+    })
+    (r .1 h .1 .0) (r .1 h .1 .1) (c .before .before .before .before .start-of .ensures) (c .before .before .before .start-of2 .ensures)
+
+returns-2 : tie.Need-returns-2
+unfolding commonEnd
+returns-2 c =
+    let r = c .before .first-met .ensures .0 in
+    let k : c .before .first-met .result .at ≡ c .before .before .before .before .before .before .args .to = omega (arith, r .high) in
+    sym (ap commonEnd (rw k at (r .none)))
+
+pub common-end-spec : {M : Type 1} → statement M
+common-end-spec =
+    tie.close
+    (tie.spec
+    first-met-requires
+    mul-index
+    shared-slice-read-index
+    index-requires
+    mul-packed-at
+    packed-at-requires
+    mul-packed-at-2
+    add-packed-at
+    packed-at-requires-2
+    mul-packed-at-3
+    add-packed-at-2
+    packed-at-requires-3
+    start-of-requires
+    start-of-requires-2
+    missed-requires
+    missed-requires-2
+    either-end-requires
+    returns
+    returns-2)

@@ -1,0 +1,73 @@
+use Prim.Native.Nat.{_*_}
+use Rattle.lists.proofs.LentLaws.{lent-length, back-length}
+use borrow.Author.Needs.{needs}
+use lib.Seq.{length-take-le}
+use mathlib.Core.Path.{sym}
+use native.Mathlib.Omega.{arith}
+use Rattle.test_calls.proofs.run_load.Statement.{statement}
+use Rattle.test_calls.proofs.run_load.Tie as tie
+
+mul-size : tie.Need-mul-size
+mul-size c = search needs
+
+array-borrow-prefix-bytes : tie.Need-array-borrow-prefix-bytes
+array-borrow-prefix-bytes c = search needs
+
+slice-aggregate-read-full : tie.Need-slice-aggregate-read-full
+slice-aggregate-read-full c = lent-length (2 * c .before .before .before .before .before .args .n) 6400 (omega arith)
+
+read-full-requires : tie.Need-read-full-requires
+read-full-requires c κs = search needs
+
+slice-aggregate-decode : tie.Need-slice-aggregate-decode
+slice-aggregate-decode c = back-length (2 * c .before .before .before .before .before .before .before .before .args .n) 6400 (c .before .before .read-full .last .1 .0) (omega arith) (c .before .before .read-full .kept .1 .0)
+
+slice-aggregate-decode-2 : tie.Need-slice-aggregate-decode-2
+slice-aggregate-decode-2 c = search needs
+
+decode-requires : tie.Need-decode-requires
+decode-requires c κs = let b = back-length (2 * c .before .before .before .before .before .before .before .before .before .args .n) 6400 (c .before .before .before .read-full .last .1 .0) (omega arith) (c .before .before .before .read-full .kept .1 .0) in (omega (arith, b), omega arith)
+
+array-share-prefix-given : tie.Need-array-share-prefix-given
+array-share-prefix-given c = search needs
+
+slice-aggregate-load-given : tie.Need-slice-aggregate-load-given
+slice-aggregate-load-given c = sym (length-take-le (c .before .before .before .before .before .before .before .before .before .before .before .before .args .n) (c .before .before .decode .last .1 .1 .0) (omega arith))
+
+load-given-requires : tie.Need-load-given-requires
+load-given-requires c κs = search needs
+
+same-length : tie.Need-same-length
+same-length c = search needs
+
+same-length-2 : tie.Need-same-length-2
+same-length-2 c = search needs
+
+same-length-3 : tie.Need-same-length-3
+same-length-3 c = search needs
+
+same-length-4 : tie.Need-same-length-4
+same-length-4 c = search needs
+
+returns : tie.Need-returns
+returns c = search needs
+
+pub run-load-spec : {M : Type 1} → statement M
+run-load-spec =
+    tie.close
+    (tie.spec
+    mul-size
+    array-borrow-prefix-bytes
+    slice-aggregate-read-full
+    read-full-requires
+    slice-aggregate-decode
+    slice-aggregate-decode-2
+    decode-requires
+    array-share-prefix-given
+    slice-aggregate-load-given
+    load-given-requires
+    same-length
+    same-length-2
+    same-length-3
+    same-length-4
+    returns)

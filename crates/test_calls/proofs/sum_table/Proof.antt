@@ -1,0 +1,54 @@
+use native.Mathlib.Omega.{arith}
+use Prim.Native.Nat.{_≤_, _<_, _-_}
+use lib.ListN.{length}
+use Rattle.test_calls.proofs.sum_table.Statement.{statement}
+use Rattle.test_calls.proofs.sum_table.Tie as tie
+
+abbrev Inv-loop : tie.InvT-loop
+Inv-loop table from sum₀ i₀ sum i = (i ≤ length table) × (sum < 4294967296)
+
+abbrev μ-loop : tie.MeasureT-loop
+μ-loop table from sum₀ i₀ sum i = length table - i
+
+loop-holds : tie.Need-loop-holds Inv-loop μ-loop
+loop-holds c = omega arith
+
+mul-mixed : tie.Need-mul-mixed Inv-loop μ-loop
+mul-mixed c = omega arith
+
+shared-slice-read-mixed : tie.Need-shared-slice-read-mixed Inv-loop μ-loop
+shared-slice-read-mixed c = omega arith
+
+cast-mixed : tie.Need-cast-mixed Inv-loop μ-loop
+cast-mixed c = omega (arith, c .shared-slice-known2 .given (c .before .before .loop .i))
+
+mixed-requires : tie.Need-mixed-requires Inv-loop μ-loop
+mixed-requires c κs = omega (arith, c .shared-slice-known2 .given (c .before .before .loop .i))
+
+add-i : tie.Need-add-i Inv-loop μ-loop
+add-i c = omega arith
+
+loop-less : tie.Need-loop-less Inv-loop μ-loop
+loop-less c = omega arith
+
+loop-again : tie.Need-loop-again Inv-loop μ-loop
+loop-again c = omega arith
+
+returns : tie.Need-returns Inv-loop μ-loop
+returns c = omega arith
+
+pub sum-table-spec : {M : Type 1} → statement M
+sum-table-spec =
+    tie.close
+    (tie.spec
+    Inv-loop
+    μ-loop
+    loop-holds
+    mul-mixed
+    shared-slice-read-mixed
+    cast-mixed
+    mixed-requires
+    add-i
+    loop-less
+    loop-again
+    returns)
