@@ -1,4 +1,4 @@
-/* A hand-written filing engine, to measure the proved one against. It gives the same lists for the same tables.
+/* A hand-written quadtree engine, to measure the proved one against. It gives the same lists for the same tables.
 
    plain_build    straightforward: a square looks at the triangles that met its parent, and each test is made as document 01
                  words it, at the four corners of the square

@@ -1,4 +1,4 @@
-/* The hand-written filing engine of engine.c. */
+/* The hand-written quadtree engine of engine.c. */
 #ifndef ENGINE_H
 #define ENGINE_H
 #include <stddef.h>

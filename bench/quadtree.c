@@ -1,4 +1,4 @@
-/* Time per filing: the proved engine beside the hand-written ones of engine.c, on the same tables in one run.
+/* Time per build: the proved engine beside the hand-written ones of engine.c, on the same tables in one run.
    Each number is the best of the rounds, in processor time of this thread, so that other work on the machine counts little. */
 #include "engine.h"
 #include <stdio.h>

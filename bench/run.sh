@@ -1,11 +1,11 @@
 #!/usr/bin/env bash
-# Measures a filing beside hand-written engines: proves and builds the library, builds the C program, runs it.
+# Measures the building of a quadtree beside hand-written engines: proves and builds the library, builds the C program, runs it.
 set -eu
 cd "$(dirname "$0")/.."
 mkdir -p target
 echo "== prove and build crates/build_export"
 rt staticlib build_export >target/bench.log 2>&1 || { tail -n 20 target/bench.log; exit 1; }
 echo "== build bench/quadtree.c"
-cc -O3 -Wall -o target/bench_filing bench/quadtree.c bench/engine.c target/staticlib/libbuild_export.a
-echo "== time per filing, best of 40 rounds"
-target/bench_filing
+cc -O3 -Wall -o target/bench_quadtree bench/quadtree.c bench/engine.c target/staticlib/libbuild_export.a
+echo "== time per build, best of 40 rounds"
+target/bench_quadtree

@@ -242,7 +242,7 @@ def main():
     rng = random.Random(seed)
     tables = [(name, kind(rng), STARTS.get(name)) for _ in range(count) for name, kind in KINDS.items()]
     tables += [(name, table, start) for name, (table, start) in PLAIN.items()]
-    print(f"filing {len(tables)} tables, seed {seed}")
+    print(f"building {len(tables)} tables, seed {seed}")
     answers = by_program([table for _, table, _ in tables])
     if len(answers) != len(tables):
         print(f"{len(tables)} tables, {len(answers)} answers")

@@ -1,5 +1,4 @@
--- What each answer of the code says in document 01's terms: done with something, or refused. The numbers are those of
--- `numberOf` and `valueOf`.
+-- What each answer of the code says in document 01's terms: done with something, or refused by a row of its table of numbers.
 -- Assumes nothing.
 use mathlib.Core.Bool.{Bool, true, false}
 use mathlib.Core.List.{List}

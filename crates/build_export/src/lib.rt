@@ -1,4 +1,5 @@
-// Filing a table, for any numbers and lists: an export for the benchmark's C program and the test program `file_tables` alone.
+// Building the entries of a table, for any numbers and lists: an export for the benchmark's C program and the test program
+// `test_quadtree` alone.
 // It is no call of document 01, and 16385 and 16386 are none of its numbers.
 
 ghost use mathlib.Core.Path.{_≡_};

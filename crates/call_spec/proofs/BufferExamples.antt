@@ -2,7 +2,7 @@
 -- Assumes nothing.
 use mathlib.Core.Path.{_≡_, refl}
 use mathlib.Core.Bool.{Bool, true, false}
-use mathlib.Core.List.{List, [], _∷_, _++_, map}
+use mathlib.Core.List.{List, [], _∷_, _++_, map, flatMap}
 use Prim.Native.Nat.{ℕ}
 use lib.ListN.{replicate}
 use Rattle.orthtree.specs.Entries.{Entry}
@@ -10,7 +10,7 @@ use Rattle.plane.specs.Triangle.{Triangle}
 use Rattle.chart_spec.proofs.MarkedCases.{at}
 use Rattle.chart_spec.proofs.EditExamples.{tri, pa, pb, pc}
 use Rattle.chart_spec.proofs.OverlayExamples.{entry}
-use Rattle.call_spec.specs.Buffers.{Chart, chartOf, pairsLength, tooShort, padded, zipEntries, chartTable, chartEntries, countsFit, chainRule, sameEntries, indexed, chartWith, indexedChart}
+use Rattle.call_spec.specs.Buffers.{Chart, chartOf, pairsLength, tooShort, padded, zipEntries, chartTable, chartEntries, tableRule, entryCountFits, chainRule, sameEntries, indexed, chartWith, indexedChart}
 use Rattle.call_spec.proofs.Evaluate.{evaluate}
 
 lists-example : chartOf (1 ∷ []) (2 ∷ []) (3 ∷ []) (4 ∷ []) 5 6
@@ -71,10 +71,24 @@ chartEntries-example = refl
 
 -- The chain rule
 
--- 512 and 16,384 together; 513; 0; 16,385
-countsFit-example : countsFit 512 16384 ∷ countsFit 0 1 ∷ countsFit 513 1 ∷ countsFit 512 0 ∷ countsFit 512 16385 ∷ countsFit 600 16384 ∷ [] ≡ true ∷ true ∷ false ∷ false ∷ false ∷ false ∷ []
+-- 1 and 16,384 entries pass, 0 and 16,385 do not
+entryCountFits-example : map (λ m. entryCountFits m) (0 ∷ 1 ∷ 16384 ∷ 16385 ∷ []) ≡ false ∷ true ∷ true ∷ false ∷ []
 unfolding evaluate
-countsFit-example = refl
+entryCountFits-example = refl
+
+-- 512 triangles pass, 513 do not; the third triangle has D = 0
+abbrev many : ℕ → List ℕ
+many n = flatMap {A = ℕ} (λ k. 0 ∷ 0 ∷ 9 ∷ 1 ∷ 0 ∷ 5 ∷ []) (replicate n 0)
+
+tableRule-example :
+    tableRule (many 513) 512
+    ∷ tableRule (many 513) 513
+    ∷ tableRule (many 2 ++ (0 ∷ 0 ∷ 9 ∷ 3 ∷ 3 ∷ 1 ∷ [])) 2
+    ∷ tableRule (many 2 ++ (0 ∷ 0 ∷ 9 ∷ 3 ∷ 3 ∷ 1 ∷ [])) 3
+    ∷ []
+    ≡ true ∷ false ∷ true ∷ false ∷ []
+unfolding evaluate
+tableRule-example = refl
 
 -- one triangle in one cell: the counts, the triangle and the chain each wrong alone
 abbrev whole : List ℕ → ℕ → ℕ → Chart

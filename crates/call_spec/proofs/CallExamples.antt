@@ -10,7 +10,7 @@ use lib.ListN.{take, replicate}
 use Rattle.plane.specs.declared.Point.{Point}
 use Rattle.plane.specs.Triangle.{Triangle}
 use Rattle.chart_spec.specs.Table.{Table}
-use Rattle.chart_spec.specs.Refusals.{Refusal, shortBuffer, brokenChain, staleEntries, noFlip, Outcome, refused, done, numberOf, andThen}
+use Rattle.chart_spec.specs.Refusals.{Refusal, shortBuffer, brokenChain, staleEntries, noFlip, Outcome, refused, done, tooManyPairs, andThen}
 use Rattle.chart_spec.specs.Edits.{Event, load, split, takeOut, flip, eventOn, withinLimit}
 use Rattle.chart_spec.specs.Overlay.{OverlayAnswer}
 use Rattle.chart_spec.proofs.MarkedCases.{at}
@@ -179,13 +179,13 @@ pairsRefused-example : (before : List ℕ)
 unfolding evaluate
 pairsRefused-example before = refl
 
-pairsRefused-many-example : pairsRefused Refusal.tooManyPairs (replicate 8191 7 ++ (7 ∷ 8 ∷ 9 ∷ [])) ≡ replicate 8192 0 ++ (8 ∷ 9 ∷ [])
+pairsRefused-many-example : pairsRefused tooManyPairs (replicate 8191 7 ++ (7 ∷ 8 ∷ 9 ∷ [])) ≡ replicate 8192 0 ++ (8 ∷ 9 ∷ [])
 unfolding evaluate
 pairsRefused-many-example = refl
 
 overlaidBy-example : (before : List ℕ)
     → map (λ r. overlaidBy before (refused r)) (take 11 rows)
-    ≡ map (λ r. record { number = numberOf r; pairCount = 0; meets = 0; pairs = before }) (take 11 rows)
+    ≡ map (λ r. record { number = r .number; pairCount = 0; meets = 0; pairs = before }) (take 11 rows)
 unfolding evaluate
 overlaidBy-example before = refl
 

@@ -1,10 +1,10 @@
 -- `unfolding evaluate` opens these definitions and all that they are written in, so that closed facts about them compute.
 -- Assumes nothing.
 use Rattle.chart_spec.proofs.Evaluate.{evaluate as plainly}
-use Rattle.call_spec.specs.Buffers.{tooShort, padded, zipEntries, chartTable, chartEntries, countsFit, chainRule, sameEntries, indexed, chartWith, indexedChart}
-use Rattle.call_spec.specs.Calls.{changedBy, loadCall, editCall, splitCall, takeOutCall, flipCall, reading, locateCall, listingCall, soundCall, areaCall, pairsRefused, overlaidBy, overlayCall}
+use Rattle.call_spec.specs.Buffers.{tooShort, padded, zipEntries, chartTable, chartEntries, tableRule, entryCountFits, entriesRule, chainRule, sameEntries, indexed, chartWith, indexedChart}
+use Rattle.call_spec.specs.Calls.{ifLong, ifChained, ifIndexed, changedBy, loadCall, editCall, splitCall, takeOutCall, flipCall, reading, locateCall, listingCall, soundCall, areaCall, pairsRefused, overlaidBy, overlayCall}
 use Rattle.call_spec.specs.History.{eventCall, chartAfter}
 
 unfoldable pub evaluate : Unit {0}
-unfolding plainly tooShort padded zipEntries chartTable chartEntries countsFit chainRule sameEntries indexed chartWith indexedChart changedBy loadCall editCall splitCall takeOutCall flipCall reading locateCall listingCall soundCall areaCall pairsRefused overlaidBy overlayCall eventCall chartAfter
+unfolding plainly tooShort padded zipEntries chartTable chartEntries tableRule entryCountFits entriesRule chainRule sameEntries indexed chartWith indexedChart ifLong ifChained ifIndexed changedBy loadCall editCall splitCall takeOutCall flipCall reading locateCall listingCall soundCall areaCall pairsRefused overlaidBy overlayCall eventCall chartAfter
 evaluate = tt

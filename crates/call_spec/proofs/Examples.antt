@@ -11,7 +11,7 @@ use Rattle.chart_spec.specs.Refusals.{Outcome}
 use Rattle.chart_spec.specs.Edits.{load, split, flip}
 use Rattle.chart_spec.specs.Overlay.{OverlayAnswer, withinPairs}
 use Rattle.chart_spec.proofs.MarkedCases.{at}
-use Rattle.call_spec.specs.Buffers.{Chart, countsFit}
+use Rattle.call_spec.specs.Buffers.{Chart}
 use Rattle.call_spec.specs.Calls.{loadCall, splitCall, takeOutCall, flipCall, locateCall, listingCall, soundCall, areaCall, overlaidBy, overlayCall}
 use Rattle.call_spec.specs.History.{chartAfter}
 use Rattle.call_spec.proofs.Evaluate.{evaluate}
@@ -91,11 +91,6 @@ short-example :
     ≡ 1 ∷ 1 ∷ 1 ∷ 2 ∷ 2 ∷ []
 unfolding evaluate
 short-example = refl
-
--- 512 triangles and 16,384 entries pass, 513, 16,385 and 0 do not
-counts-example : countsFit 512 16384 ∷ countsFit 513 1 ∷ countsFit 0 16385 ∷ countsFit 0 0 ∷ countsFit 0 1 ∷ [] ≡ true ∷ false ∷ false ∷ false ∷ true ∷ []
-unfolding evaluate
-counts-example = refl
 
 -- 1 for a table that is one short, 2 for too few entries, 3 for entries of another table, else 6, 7, 8, 9, 0
 edits-example :

@@ -1,4 +1,4 @@
--- Document 01, "Chart buffers": the lists that a caller lends, the chain rule, and what a indexed chart holds.
+-- Document 01, "Chart buffers": the lists that a caller lends, the chain rule, and what an indexed chart holds.
 -- Assumes nothing.
 use mathlib.Core.Bool.{Bool, true, false, _&&_, _||_}
 use mathlib.Core.List.{List, [], _∷_, _++_, map}
@@ -63,16 +63,22 @@ chartTable c = tableOf (c .table) (c .triangleCount)
 unfoldable pub chartEntries : Chart → List Entry
 chartEntries c = take (c .entryCount) (zipEntries (c .keys) (c .levels) (c .items))
 
--- "triangle count ≤ 512", "entry count 1 to 16,384"
-unfoldable pub countsFit : ℕ → ℕ → Bool
-countsFit n m = leb n maxTriangles && leb 1 m && leb m maxEntries
+-- the table's part of the chain rule: "triangle count ≤ 512, every triangle with D > 0", for the first n triangles of the
+-- numbers
+unfoldable pub tableRule : List ℕ → ℕ → Bool
+tableRule ns n = leb n maxTriangles && all (λ t. proper t) (tableOf ns n)
 
--- "The chain rule": the counts, "every triangle with D > 0", and the rest, `chain`
+-- "entry count 1 to 16,384"
+unfoldable pub entryCountFits : ℕ → Bool
+entryCountFits m = leb 1 m && leb m maxEntries
+
+-- the entries' part: their count, and the rest, `chain`
+unfoldable pub entriesRule : Chart → Bool
+entriesRule c = entryCountFits (c .entryCount) && chain arity depth (c .triangleCount) (chartEntries c)
+
+-- "The chain rule"
 unfoldable pub chainRule : Chart → Bool
-chainRule c =
-    countsFit (c .triangleCount) (c .entryCount)
-    && all (λ t. proper t) (chartTable c)
-    && chain arity depth (c .triangleCount) (chartEntries c)
+chainRule c = tableRule (c .table) (c .triangleCount) && entriesRule c
 
 -- the two lists of entries are the same
 unfoldable pub sameEntries : List Entry → List Entry → Bool

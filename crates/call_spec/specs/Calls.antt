@@ -2,19 +2,33 @@
 -- (document 01, "Chart buffers", "Reading", "Overlay", "Numbers a call can give"). What a result does not name, a call
 -- does not touch.
 -- Assumes nothing.
-use mathlib.Core.Bool.{Bool, true, false, not, _||_}
+use mathlib.Core.Bool.{Bool, false, cond, not, _||_}
 use mathlib.Core.List.{List, []}
 use mathlib.Core.Option.{Option, none, some}
 use Prim.Native.Nat.{ℕ}
-use lib.Dec.{ltb}
+use lib.Dec.{ltb, eqb}
 use lib.ListN.{length}
 use Rattle.plane.specs.declared.Point.{Point}
 use Rattle.chart_spec.specs.Table.{Table}
-use Rattle.chart_spec.specs.Refusals.{Refusal, shortBuffer, brokenChain, staleEntries, tooManyPairs, numberOf, valueOf, Outcome, refused, done, refuseIf, andThen, outcomeNumber, doneOr}
+use Rattle.chart_spec.specs.Refusals.{Refusal, shortBuffer, brokenChain, staleEntries, tooManyPairs, Outcome, refused, done, refuseIf, andThen, outcomeNumber, doneOr}
 use Rattle.chart_spec.specs.Edits.{load, eventOn, splitTable, takeOutTable, flipTable, withinLimit}
 use Rattle.chart_spec.specs.Overlay.{OverlayAnswer, pairNumbers, overlayOf}
 use Rattle.call_spec.specs.Buffers.{Chart, tooShort, chainRule, indexed, indexedChart, chartTable, chartEntries, padded, pairsLength}
 use Rattle.chart_spec.specs.Reading.{located, listing, sound, totalArea}
+
+-- Refusals 1, 2 and 3 of a chart, in their order, each before what comes next
+
+-- 1
+unfoldable pub ifLong : {A : Type 0} → Chart → Outcome A → Outcome A
+ifLong c next = refuseIf (tooShort c) shortBuffer next
+
+-- 1 and 2
+unfoldable pub ifChained : {A : Type 0} → Chart → Outcome A → Outcome A
+ifChained c next = ifLong c (refuseIf (not (chainRule c)) brokenChain next)
+
+-- 1, 2 and 3
+unfoldable pub ifIndexed : {A : Type 0} → Chart → Outcome A → Outcome A
+ifIndexed c next = ifChained c (refuseIf (not (indexed c)) staleEntries next)
 
 -- Load and the edits
 
@@ -26,20 +40,16 @@ pub record Changed : Type 0 where
 
 -- "Buffers and counts keep their former contents" at a refusal; else they hold the new table and its entries
 unfoldable pub changedBy : Chart → Outcome Table → Changed
-changedBy c (refused r) = record { number = numberOf r; value = valueOf r; chart = c }
+changedBy c (refused r) = record { number = r .number; value = r .value; chart = c }
 changedBy c (done t) = record { number = 0; value = 0; chart = indexedChart c t }
 
 -- the table given is not one of the lent buffers; 2 and 3 are not judged
 unfoldable pub loadCall : List ℕ → Chart → Changed
-loadCall ns c = changedBy c (refuseIf (tooShort c) shortBuffer (eventOn (load ns) (chartTable c)))
+loadCall ns c = changedBy c (ifLong c (eventOn (load ns) (chartTable c)))
 
 -- split, take-out and flip: 1, 2 and 3, then what the edit makes of the chart's table, and 11
 unfoldable pub editCall : (Table → Outcome Table) → Chart → Changed
-editCall edit c =
-    changedBy c
-    (refuseIf (tooShort c) shortBuffer
-    (refuseIf (not (chainRule c)) brokenChain
-    (refuseIf (not (indexed c)) staleEntries (andThen (edit (chartTable c)) (λ t. withinLimit t)))))
+editCall edit c = changedBy c (ifIndexed c (andThen (edit (chartTable c)) (λ t. withinLimit t)))
 
 unfoldable pub splitCall : ℕ → Point → Chart → Changed
 splitCall t p = editCall (λ table. splitTable t p table)
@@ -54,7 +64,7 @@ flipCall i j = editCall (λ table. flipTable i j table)
 
 -- 1 and 2, then what is read
 unfoldable pub reading : {A : Type 0} → Chart → A → Outcome A
-reading c a = refuseIf (tooShort c) shortBuffer (refuseIf (not (chainRule c)) brokenChain (done a))
+reading c a = ifChained c (done a)
 
 -- the number, and the triangle found; none is nowhere
 pub record Located : Type 0 where
@@ -104,21 +114,10 @@ pub record Overlaid : Type 0 where
 
 -- at refusals the pairs keep their contents, "except at 12": "12, and 8,192 zeros in pairs"
 unfoldable pub pairsRefused : Refusal → List ℕ → List ℕ
-pairsRefused tooManyPairs before = padded pairsLength [] before
-pairsRefused shortBuffer before = before
-pairsRefused brokenChain before = before
-pairsRefused staleEntries before = before
-pairsRefused Refusal.badLength before = before
-pairsRefused (Refusal.faultyTriangle i) before = before
-pairsRefused Refusal.noSuchTriangle before = before
-pairsRefused Refusal.notInside before = before
-pairsRefused Refusal.notThreeAround before = before
-pairsRefused Refusal.noFlip before = before
-pairsRefused Refusal.tableFull before = before
-pairsRefused Refusal.tooManyEntries before = before
+pairsRefused r before = cond (eqb (r .number) (tooManyPairs .number)) (padded pairsLength [] before) before
 
 unfoldable pub overlaidBy : List ℕ → Outcome OverlayAnswer → Overlaid
-overlaidBy before (refused r) = record { number = numberOf r; pairCount = 0; meets = 0; pairs = pairsRefused r before }
+overlaidBy before (refused r) = record { number = r .number; pairCount = 0; meets = 0; pairs = pairsRefused r before }
 overlaidBy before (done h) = record {
   number = 0;
   pairCount = length (h .pairs);

@@ -79,7 +79,7 @@ module _ (table : Table) (few : length table ≤ 512) (p : Point) (g : InGrid p)
         ∙ first-narrow f (λ i. triangleMeets (numbered table i) (squareBox s)) (upTo (length table))
         (λ i m h. square-meets i s (proper-at table good i (upTo-to m)) (c .has) (only i h))
 
-    -- on a indexed chart a point is located in the lowest numbered triangle of the whole table that holds it
+    -- on an indexed chart a point is located in the lowest numbered triangle of the whole table that holds it
     pub locate-listing : located table (entriesOf table) p ≡ first (λ i. holds (numbered table i) p) (upTo (length table))
     unfolding located
     locate-listing = first-of-table (λ i. holds (numbered table i) p) (λ i h. h)

@@ -14,7 +14,7 @@ use Rattle.squares.specs.declared.Square.{Square}
 use Rattle.squares.specs.Square.{zOrder, squareKey}
 use Rattle.chart_spec.specs.Table.{Table, tableNumbers}
 use Rattle.chart_spec.specs.Cells.{cells, cellEntries, entriesOf}
-use Rattle.chart_spec.specs.Refusals.{Outcome, refused, done, numberOf, valueOf}
+use Rattle.chart_spec.specs.Refusals.{Outcome, refused, done}
 use Rattle.chart_spec.specs.Edits.{Event, load, split, takeOut, flip, eventOn, plainTable}
 use Rattle.chart_spec.specs.Overlay.{OverlayAnswer, pairNumbers, overlayOf}
 use Rattle.chart_spec.specs.Reading.{located, totalArea}
@@ -41,12 +41,12 @@ foundNumbers (some i) = 1 ∷ i ∷ []
 
 -- 0 and the table's numbers, or the refusal's number and value
 abbrev pub outcomeNumbers : Outcome Table → List ℕ
-outcomeNumbers (refused r) = numberOf r ∷ valueOf r ∷ []
+outcomeNumbers (refused r) = r .number ∷ r .value ∷ []
 outcomeNumbers (done t) = 0 ∷ tableNumbers t
 
 -- 0, pair count, meetings and pairs, or the refusal's number
 abbrev pub overlayNumbers : Outcome OverlayAnswer → List ℕ
-overlayNumbers (refused r) = numberOf r ∷ []
+overlayNumbers (refused r) = r .number ∷ []
 overlayNumbers (done h) = 0 ∷ length (h .pairs) ∷ h .meets ∷ pairNumbers (h .pairs)
 
 -- locate in a table, indexed

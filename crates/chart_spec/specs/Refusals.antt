@@ -3,41 +3,62 @@
 use mathlib.Core.Bool.{Bool, true, false}
 use Prim.Native.Nat.{ℕ}
 
--- a row of the table of numbers, from 1 to 12
-pub data Refusal : Type 0 where
-  shortBuffer brokenChain staleEntries badLength : Refusal
-  faultyTriangle : ℕ → Refusal
-  noSuchTriangle notInside notThreeAround noFlip tableFull tooManyEntries tooManyPairs : Refusal
+-- a row of the table of numbers: the number returned, and the number beside it
+pub record Refusal : Type 0 where
+  pub number : ℕ
+  pub value : ℕ
 
--- the column "Returned"
-unfoldable pub numberOf : Refusal → ℕ
-numberOf shortBuffer = 1
-numberOf brokenChain = 2
-numberOf staleEntries = 3
-numberOf badLength = 4
-numberOf (faultyTriangle i) = 5
-numberOf noSuchTriangle = 6
-numberOf notInside = 7
-numberOf notThreeAround = 8
-numberOf noFlip = 9
-numberOf tableFull = 10
-numberOf tooManyEntries = 11
-numberOf tooManyPairs = 12
+-- a row with nothing beside its number: "Other numbers returned are 0"
+abbrev pub row : ℕ → Refusal
+row n = record { number = n; value = 0 }
 
--- the number beside it: "5, lowest such triangle"; "Other numbers returned are 0"
-unfoldable pub valueOf : Refusal → ℕ
-valueOf shortBuffer = 0
-valueOf brokenChain = 0
-valueOf staleEntries = 0
-valueOf badLength = 0
-valueOf (faultyTriangle i) = i
-valueOf noSuchTriangle = 0
-valueOf notInside = 0
-valueOf notThreeAround = 0
-valueOf noFlip = 0
-valueOf tableFull = 0
-valueOf tooManyEntries = 0
-valueOf tooManyPairs = 0
+-- 1: "a lent buffer is shorter than above"
+abbrev pub shortBuffer : Refusal
+shortBuffer = row 1
+
+-- 2: "the chain rule fails"
+abbrev pub brokenChain : Refusal
+brokenChain = row 2
+
+-- 3: "the entries are not those of the table"
+abbrev pub staleEntries : Refusal
+staleEntries = row 3
+
+-- 4: "length no multiple of 6, or above 3,072"
+abbrev pub badLength : Refusal
+badLength = row 4
+
+-- "5, lowest such triangle": "its D ≤ 0"
+abbrev pub faultyTriangle : ℕ → Refusal
+faultyTriangle i = record { number = 5; value = i }
+
+-- 6: "a triangle number ≥ n"
+abbrev pub noSuchTriangle : Refusal
+noSuchTriangle = row 6
+
+-- 7: "p not strictly inside t"
+abbrev pub notInside : Refusal
+notInside = row 7
+
+-- 8: "the three triangles are not so"
+abbrev pub notThreeAround : Refusal
+notThreeAround = row 8
+
+-- 9: "no such shared side, or a new D ≤ 0"
+abbrev pub noFlip : Refusal
+noFlip = row 9
+
+-- 10: "n + 2 > 512"
+abbrev pub tableFull : Refusal
+tableFull = row 10
+
+-- 11: "the new table has over 16,384 entries"
+abbrev pub tooManyEntries : Refusal
+tooManyEntries = row 11
+
+-- 12: "over 4,096 pairs"
+abbrev pub tooManyPairs : Refusal
+tooManyPairs = row 12
 
 -- what a call or an event comes to: a refusal, or what it is done with
 pub data Outcome {ℓ} (A : Type ℓ) : Type ℓ where
@@ -57,12 +78,12 @@ module _ {ℓ} {A : Type ℓ} where
 
   -- 0, or the refusal's number
   unfoldable pub outcomeNumber : Outcome A → ℕ
-  outcomeNumber (refused r) = numberOf r
+  outcomeNumber (refused r) = r .number
   outcomeNumber (done a) = 0
 
   -- the refusal's number beside it, or 0
   unfoldable pub outcomeValue : Outcome A → ℕ
-  outcomeValue (refused r) = valueOf r
+  outcomeValue (refused r) = r .value
   outcomeValue (done a) = 0
 
   -- what it is done with, or else what there was before

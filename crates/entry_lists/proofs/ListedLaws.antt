@@ -1,4 +1,4 @@
--- What filing a table leaves: the packed entries in the scratch list, and from there the three lists.
+-- What building a table leaves: the packed entries in the scratch list, and from there the three lists.
 -- Assumes nothing.
 use mathlib.Core.Path.{_≡_, refl, sym, _∙_, ap}
 use mathlib.Core.List.{List, map}
@@ -16,7 +16,7 @@ use Rattle.entry_lists.specs.Lists.{keyOf, levelOf, itemOf, Listed}
 use Rattle.entry_lists.proofs.StoreLaws.{take-sets}
 use Rattle.entry_lists.proofs.PackLaws.{Packable, keys-packed, levels-packed, items-packed}
 
--- filing gave the number r and left the packed entries es in a list, or they were too many
+-- building gave the number r and left the packed entries es in a list, or they were too many
 pub record Packed (es : List Entry) (r : ℕ) (l l′ : List ℕ) : Type 0 where
   pub room : maxEntries ≤ length l
   pub fits : length es ≤ maxEntries → (r ≡ length es) × (l′ ≡ sets l 0 (map (λ e. packed e) es))

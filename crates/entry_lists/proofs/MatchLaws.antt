@@ -1,5 +1,5 @@
 -- The comparison of three entry lists with the entries of a table.
--- The idea: filing gives another count, or the same count and the entries packed, which are compared place by place;
+-- The idea: building gives another count, or the same count and the entries packed, which are compared place by place;
 -- packing loses nothing.
 -- Assumes nothing.
 use mathlib.Core.Path.{_≡_, sym, _∙_, ap}

@@ -23,7 +23,7 @@ itemOf x = x % 65536
 abbrev pub packedAt : List ℕ → List ℕ → List ℕ → ℕ → ℕ
 packedAt keys levels items i = packed (record { key = getD keys i 0; level = getD levels i 0; item = getD items i 0 })
 
--- what filing a table with the entries es leaves: their count and the three lists, "0 after its last used place", or 16,385
+-- what building a table with the entries es leaves: their count and the three lists, "0 after its last used place", or 16,385
 -- where they are too many, and the lists as they were
 pub record Listed (es : List Entry) (r : ℕ) (keys keys′ levels levels′ items items′ : List ℕ) : Type 0 where
   pub fits : length es ≤ maxEntries → r ≡ length es

@@ -25,7 +25,7 @@ use Rattle.load.specs.Faulty.{firstFaulty}
 use Rattle.chains.proofs.BufferLaws.{or-neither}
 use Rattle.load.proofs.FaultyLaws.{faulty-none, faulty-done, faulty-refused}
 
--- ---- the count that filing gave says whether the entries fit
+-- ---- the count that building gave says whether the entries fit
 
 module _ {es : List Entry} {m : ℕ} {ks ks′ ls ls′ is is′ : List ℕ} (l : Listed es m ks ks′ ls ls′ is is′) where
   -- they do where the count is within the limit
@@ -94,7 +94,7 @@ module _ (ns : List ℕ) (c : Chart) where
         load-accepted m = rw (s, b, faulty-done (given ns) (past-last ns e h), le-ltb maxEntries (length (entriesOf (given ns))) m)
 
         module _ {m : ℕ} {ks ls is : List ℕ} (l : Listed (entriesOf (given ns)) m (c .keys) ks (c .levels) ls (c .items) is) where
-          -- refusal 11 by the count that filing gave: the lists are as they were
+          -- refusal 11 by the count that building gave: the lists are as they were
           pub load-many : maxEntries < m
               → changedBy (chartOf (c .table) ks ls is (c .triangleCount) (c .entryCount)) (refused tooManyEntries) ≡ loadCall ns c
           load-many o =

@@ -1,5 +1,5 @@
 -- Locate finds the lowest numbered of the triangles listed in the point's cell that hold the point, on every chart that passes
--- checks 1 and 2; on a indexed chart that is the lowest numbered of the whole table.
+-- checks 1 and 2; on an indexed chart that is the lowest numbered of the whole table.
 -- The laws before the last of each kind speak of any test, not only of whether a triangle holds the point.
 -- Assumes nothing.
 use mathlib.Core.Path.{_≡_, sym, _∙_, ap}
@@ -39,7 +39,7 @@ module _ (c : Chart) (p : Point) (r : chainRule c ≡ true) where
   pub lowest-listed : (f : ℕ → Bool) → Lowest f (listing (chartEntries c) p) (first f (listing (chartEntries c) p))
   lowest-listed f = first-listed (c .triangleCount) (chartEntries c) (ruled c r .chained) p f
 
-  -- on a indexed chart, for a test that only triangles pass that hold the point, that is the first of the whole table
+  -- on an indexed chart, for a test that only triangles pass that hold the point, that is the first of the whole table
   pub first-indexed : InGrid p → indexed c ≡ true → (f : ℕ → Bool) → ((i : ℕ) → T (f i) → T (holds (numbered (chartTable c) i) p))
       → first f (listing (chartEntries c) p) ≡ first f (upTo (length (chartTable c)))
   first-indexed g e f only =
@@ -56,7 +56,7 @@ module _ (c : Chart) (p : Point) (r : chainRule c ≡ true) where
     pub locate-lowest-listed : Lowest (λ i. holds (numbered (chartTable c) i) p) (listing (chartEntries c) p) (locateCall c p .found)
     locate-lowest-listed = rw found-first (lowest-listed (λ i. holds (numbered (chartTable c) i) p))
 
-    -- on a indexed chart it is the lowest numbered of the whole table that holds the point
+    -- on an indexed chart it is the lowest numbered of the whole table that holds the point
     pub locate-lowest : InGrid p → indexed c ≡ true
         → locateCall c p .found ≡ first (λ i. holds (numbered (chartTable c) i) p) (upTo (length (chartTable c)))
     locate-lowest g e = found-first ∙ first-indexed g e (λ i. holds (numbered (chartTable c) i) p) (λ i h. h)

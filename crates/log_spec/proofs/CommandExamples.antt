@@ -13,7 +13,7 @@ use Rattle.chart_spec.specs.Overlay.{OverlayAnswer}
 use Rattle.chart_spec.proofs.MarkedCases.{at}
 use Rattle.chart_spec.proofs.RefusalsExamples.{rows}
 use Rattle.chart_spec.proofs.EditExamples.{pa, pb, pc, pd, pp, tri}
-use Rattle.log_spec.specs.Log.{State, Step, startState, chartOf, withChart, withWaiting, refusalNumbers, eventNumbers, eventStep, waitStep, loadStep, foundNumber, locateStep, overlayLines, overlayStep, runCommand, stepOf, line, badLine, logFrom}
+use Rattle.log_spec.specs.Log.{State, Step, startState, tableIn, withChart, withWaiting, refusalNumbers, eventNumbers, eventStep, waitStep, loadStep, foundNumber, locateStep, overlayLines, overlayStep, runCommand, stepOf, line, badLine, logFrom}
 use Rattle.log_spec.proofs.Evaluate.{evaluate}
 
 -- the state of two charts and a waiting table
@@ -24,7 +24,7 @@ start-example : startState ≡ state [] [] []
 unfolding evaluate
 start-example = refl
 
-chart-of-example : (t u : Table) (ns : List ℕ) → map (λ c. chartOf c (state t u ns)) (0 ∷ 1 ∷ []) ≡ t ∷ u ∷ []
+chart-of-example : (t u : Table) (ns : List ℕ) → map (λ c. tableIn c (state t u ns)) (0 ∷ 1 ∷ []) ≡ t ∷ u ∷ []
 unfolding evaluate
 chart-of-example t u ns = refl
 
@@ -136,9 +136,9 @@ run-example : (c : ℕ) (s : State)
     ∷ []
     ≡ waitStep (3 ∷ 5 ∷ 7 ∷ []) s
     ∷ loadStep c s
-    ∷ eventStep 3 c (eventOn (split 3 (at 5 7)) (chartOf c s)) s
-    ∷ eventStep 4 c (eventOn (takeOut (at 3 5)) (chartOf c s)) s
-    ∷ eventStep 5 c (eventOn (flip 3 5) (chartOf c s)) s
+    ∷ eventStep 3 c (eventOn (split 3 (at 5 7)) (tableIn c s)) s
+    ∷ eventStep 4 c (eventOn (takeOut (at 3 5)) (tableIn c s)) s
+    ∷ eventStep 5 c (eventOn (flip 3 5) (tableIn c s)) s
     ∷ locateStep c (at 3 5) s
     ∷ overlayStep s
     ∷ []
@@ -148,7 +148,7 @@ run-example c s = refl
 -- operands that are not there are 0
 run-short-example : (c : ℕ) (s : State)
     → runCommand 3 c [] s ∷ runCommand 5 c [] s ∷ []
-    ≡ eventStep 3 c (eventOn (split 0 (at 0 0)) (chartOf c s)) s ∷ eventStep 5 c (eventOn (flip 0 0) (chartOf c s)) s ∷ []
+    ≡ eventStep 3 c (eventOn (split 0 (at 0 0)) (tableIn c s)) s ∷ eventStep 5 c (eventOn (flip 0 0) (tableIn c s)) s ∷ []
 unfolding evaluate
 run-short-example c s = refl
 

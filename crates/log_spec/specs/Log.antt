@@ -11,7 +11,7 @@ use Rattle.orthtree.specs.Entries.{Entry}
 use Rattle.plane.specs.declared.Point.{Point}
 use Rattle.chart_spec.specs.Table.{Table, tableLength}
 use Rattle.chart_spec.specs.Cells.{entriesOf}
-use Rattle.chart_spec.specs.Refusals.{Refusal, badLength, faultyTriangle, numberOf, Outcome, refused, done, doneOr}
+use Rattle.chart_spec.specs.Refusals.{Refusal, badLength, faultyTriangle, Outcome, refused, done, doneOr}
 use Rattle.chart_spec.specs.Edits.{Event, load, split, takeOut, flip, eventOn}
 use Rattle.chart_spec.specs.Overlay.{Pair, OverlayAnswer, overlayOf}
 use Rattle.chart_spec.specs.Reading.{located}
@@ -56,9 +56,9 @@ unfoldable pub startState : State
 startState = record { chart0 = []; chart1 = []; waiting = [] }
 
 -- chart c of the state
-unfoldable pub chartOf : ℕ → State → Table
-chartOf zero s = s .chart0
-chartOf (suc n) s = s .chart1
+unfoldable pub tableIn : ℕ → State → Table
+tableIn zero s = s .chart0
+tableIn (suc n) s = s .chart1
 
 -- the state with another table for chart c
 unfoldable pub withChart : ℕ → Table → State → State
@@ -77,18 +77,7 @@ pub record Step : Type 0 where
 -- the numbers that commands 2 to 5 print after their own: "its number, the number returned, then: 2 to 5 the entry count, or
 -- for refusal 5 the triangle", "Other refusals print two numbers"
 unfoldable pub refusalNumbers : Refusal → List ℕ
-refusalNumbers (faultyTriangle i) = numberOf (faultyTriangle i) ∷ i ∷ []
-refusalNumbers Refusal.shortBuffer = numberOf Refusal.shortBuffer ∷ []
-refusalNumbers Refusal.brokenChain = numberOf Refusal.brokenChain ∷ []
-refusalNumbers Refusal.staleEntries = numberOf Refusal.staleEntries ∷ []
-refusalNumbers Refusal.badLength = numberOf Refusal.badLength ∷ []
-refusalNumbers Refusal.noSuchTriangle = numberOf Refusal.noSuchTriangle ∷ []
-refusalNumbers Refusal.notInside = numberOf Refusal.notInside ∷ []
-refusalNumbers Refusal.notThreeAround = numberOf Refusal.notThreeAround ∷ []
-refusalNumbers Refusal.noFlip = numberOf Refusal.noFlip ∷ []
-refusalNumbers Refusal.tableFull = numberOf Refusal.tableFull ∷ []
-refusalNumbers Refusal.tooManyEntries = numberOf Refusal.tooManyEntries ∷ []
-refusalNumbers Refusal.tooManyPairs = numberOf Refusal.tooManyPairs ∷ []
+refusalNumbers r = r .number ∷ cond (eqb (r .number) (faultyTriangle 0 .number)) (r .value ∷ []) []
 
 unfoldable pub eventNumbers : Outcome Table → List ℕ
 eventNumbers (refused r) = refusalNumbers r
@@ -96,19 +85,19 @@ eventNumbers (done t) = 0 ∷ length (entriesOf t) ∷ []
 
 -- commands 2 to 5: an event on chart c
 unfoldable pub eventStep : ℕ → ℕ → Outcome Table → State → Step
-eventStep command c o s = record { printed = line command (eventNumbers o); after = withChart c (doneOr (chartOf c s) o) s }
+eventStep command c o s = record { printed = line command (eventNumbers o); after = withChart c (doneOr (tableIn c s) o) s }
 
 -- command 1: six numbers "to a waiting table"; "A 513th waiting triangle prints `1 4` and is dropped"
 unfoldable pub waitStep : List ℕ → State → Step
 waitStep ns s =
     elim (ltb (length (s .waiting)) tableLength) [
       | true ↦ record { printed = []; after = withWaiting (s .waiting ++ ns) s }
-      | false ↦ record { printed = line 1 (numberOf badLength ∷ []); after = s }
+      | false ↦ record { printed = line 1 (badLength .number ∷ []); after = s }
     ]
 
 -- command 2: "load it, then empty it"
 unfoldable pub loadStep : ℕ → State → Step
-loadStep c s = eventStep 2 c (eventOn (load (s .waiting)) (chartOf c s)) (withWaiting [] s)
+loadStep c s = eventStep 2 c (eventOn (load (s .waiting)) (tableIn c s)) (withWaiting [] s)
 
 -- command 6: "the triangle or 65535"
 unfoldable pub foundNumber : Option ℕ → ℕ
@@ -117,12 +106,12 @@ foundNumber (some i) = i
 
 unfoldable pub locateStep : ℕ → Point → State → Step
 locateStep c p s =
-    let t : Table = chartOf c s in
+    let t : Table = tableIn c s in
     record { printed = line 6 (0 ∷ foundNumber (located t (entriesOf t) p) ∷ []); after = s }
 
 -- command 7: "pairs and meetings, then a line `i j` for each pair"
 unfoldable pub overlayLines : Outcome OverlayAnswer → List ℕ
-overlayLines (refused r) = line 7 (numberOf r ∷ [])
+overlayLines (refused r) = line 7 (r .number ∷ [])
 overlayLines (done h) =
     line 7 (0 ∷ length (h .pairs) ∷ h .meets ∷ []) ++ flatMap (λ p. line (p .i) (p .j ∷ [])) (h .pairs)
 
@@ -141,9 +130,9 @@ unfoldable pub runCommand : ℕ → ℕ → List ℕ → State → Step
 runCommand b c ws s =
     cond (eqb b 1) (waitStep ws s)
     (cond (eqb b 2) (loadStep c s)
-    (cond (eqb b 3) (eventStep 3 c (eventOn (split (getD ws 0 0) (pointOperand ws 1)) (chartOf c s)) s)
-    (cond (eqb b 4) (eventStep 4 c (eventOn (takeOut (pointOperand ws 0)) (chartOf c s)) s)
-    (cond (eqb b 5) (eventStep 5 c (eventOn (flip (getD ws 0 0) (getD ws 1 0)) (chartOf c s)) s)
+    (cond (eqb b 3) (eventStep 3 c (eventOn (split (getD ws 0 0) (pointOperand ws 1)) (tableIn c s)) s)
+    (cond (eqb b 4) (eventStep 4 c (eventOn (takeOut (pointOperand ws 0)) (tableIn c s)) s)
+    (cond (eqb b 5) (eventStep 5 c (eventOn (flip (getD ws 0 0) (getD ws 1 0)) (tableIn c s)) s)
     (cond (eqb b 6) (locateStep c (pointOperand ws 0) s) (overlayStep s))))))
 
 -- Reading

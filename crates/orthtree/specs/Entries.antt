@@ -1,4 +1,4 @@
--- Entries of a indexed tree, key ranges and the chain rule (document 01, "Cells and entries", "Chart buffers", "Overlay"),
+-- Entries of a tree, key ranges and the chain rule (document 01, "Cells and entries", "Chart buffers", "Overlay"),
 -- over any arity and depth.
 -- Assumes nothing.
 use mathlib.Core.Bool.{Bool, true, false, not, _&&_, _||_}
@@ -7,7 +7,7 @@ use Prim.Native.Nat.{ℕ, _+_, _*_, _-_, _%_, _^_}
 use lib.Dec.{leb, ltb, eqb}
 use Rattle.lists.specs.Lists.{all, any, filter, sumOf}
 
--- "An entry is key, level, triangle"; the third is the number of whatever the tree files, an item
+-- "An entry is key, level, triangle"; the third is the number of whatever the tree holds, an item
 pub record Entry : Type 0 where
   pub key : ℕ
   pub level : ℕ

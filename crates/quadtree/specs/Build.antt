@@ -107,7 +107,7 @@ pub record Candidates (n f t : ℕ) (table stack : List ℕ) (s : Square) : Type
   pub few : t - f ≤ n
   pub among : filter (λ i. triangleMeets (numbered (tableOf table n) i) (squareBox s)) (part f t stack) ≡ trianglesMeeting (tableOf table n) s
 
--- what filing a square leaves: its entries where they fit below 16,384, or 16,385; the stack is kept up to t
+-- what building a square leaves: its entries where they fit below 16,384, or 16,385; the stack is kept up to t
 pub record Built (es : List Entry) (at r t : ℕ) (out out′ stack stack′ : List ℕ) : Type 0 where
   pub fits : at + length es ≤ 16384 → (r ≡ at + length es) × (out′ ≡ sets out at (map (λ e. packed e) es))
   pub over : 16384 < at + length es → r ≡ 16385

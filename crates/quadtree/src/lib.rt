@@ -1,4 +1,4 @@
-// Filing a table: one recursion on quarters writes the entries of its cells, packed into numbers, and stops as soon as there
+// Building the quadtree of a table: one recursion on quarters writes the entries of its cells, packed into numbers, and stops as soon as there
 // are too many. A square looks only at the triangles that met its parent; a stack keeps the lists of the squares above.
 
 use shapes::Frame;

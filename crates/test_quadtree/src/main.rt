@@ -97,7 +97,7 @@ fn file(table: &[u16], keys: &mut [u32], levels: &mut [u8], items: &mut [u16])
     }
 }
 
-// Reads a table and files it; answers whether there was one.
+// Reads a table and builds its entries; answers whether there was one.
 fn next_table(keys: &mut [u32], levels: &mut [u8], items: &mut [u16]) -> bool
     requires { ⌜ (16384 ≤ length (now keys)) × ((16384 ≤ length (now levels)) × (16384 ≤ length (now items))) ⌝ }
 {
@@ -122,7 +122,7 @@ fn next_table(keys: &mut [u32], levels: &mut [u8], items: &mut [u16]) -> bool
     true
 }
 
-// The lists go from table to table, so that each filing finds the entries of the one before.
+// The lists go from table to table, so that each build finds the entries of the one before.
 fn build_all(keys: &mut [u32], levels: &mut [u8], items: &mut [u16])
     requires { ⌜ (16384 ≤ length (now keys)) × ((16384 ≤ length (now levels)) × (16384 ≤ length (now items))) ⌝ }
 {
