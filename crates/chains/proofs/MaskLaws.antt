@@ -1,58 +1,71 @@
 -- The keys that a square covers, less one, as a mask: its bits, and what "and", "or" and "xor" with it tell.
 -- A square's level is one of seventeen, so what is to be known of the spans is computed for each.
 -- Assumes nothing.
-use mathlib.Core.Path.{_≡_, sym, _∙_, ap}
+use mathlib.Core.Path.{_≡_, refl, sym, _∙_, ap}
 use mathlib.Core.Bool.{Bool, _&&_}
 use Prim.Native.Nat.{ℕ, _+_, _-_, _*_, _%_, _^_, _≤_, _<_}
+use native.Mathlib.Nat.{mod-self}
 use native.Mathlib.Omega.{arith}
 use lib.Bits.{bitAnd, bitOr, bitXor, and-le-l, and-le-r, and-mask, or-disjoint, xor-add-and, xor-self}
 use lib.Dec.{T, leb, eqb}
 use Rattle.lists.specs.Lists.{all, countFrom, upTo}
-use Rattle.lists.proofs.Reflects.{reflects-and, reflects-eqb, reflects-leb}
+use Rattle.lists.proofs.Reflects.{reflects-and₃, reflects-eqb, reflects-leb}
 use Rattle.lists.proofs.IndexLaws.{all-below-reflects}
 use Rattle.orthtree.specs.Entries.{span}
 use Rattle.squares.specs.Square.{arity, depth}
 use Rattle.chains.proofs.TestLaws.{eqb-same}
 
--- the span of a level: what the two shifts of code give, its bounds, and that it is a power of two
-pub record SpanAt (level : ℕ) : Type 0 where
-  pub shifted : ((1 * 2 ^ (16 - level)) % 2 ^ 32 * 2 ^ (16 - level)) % 2 ^ 32 ≡ span arity depth level % 2 ^ 32
-  pub positive : 1 ≤ span arity depth level
-  pub most : span arity depth level ≤ 4294967296
-  pub power : span arity depth level ≡ 2 ^ (2 * (16 - level))
-
-abbrev spanTest : ℕ → Bool
-spanTest l =
-    eqb (((1 * 2 ^ (16 - l)) % 2 ^ 32 * 2 ^ (16 - l)) % 2 ^ 32) (span arity depth l % 2 ^ 32)
-    && leb 1 (span arity depth l)
-    && leb (span arity depth l) 4294967296
-    && eqb (span arity depth l) (2 ^ (2 * (16 - l)))
-
-every-span : T (all (λ l. spanTest l) (upTo 17))
+every-span : T (all (λ l. eqb (span arity depth l) (2 ^ (2 * (16 - l)))) (upTo 17))
 unfolding all upTo countFrom span
 every-span = tt
 
-pub span-at : (level : ℕ) → level ≤ depth → SpanAt level
-span-at l h =
-    let t = all-below-reflects (λ i. spanTest i) 17 .to every-span l (omega arith) in
-    let r =
-    reflects-and
-    (reflects-and
-    (reflects-and (reflects-eqb (((1 * 2 ^ (16 - l)) % 2 ^ 32 * 2 ^ (16 - l)) % 2 ^ 32) (span arity depth l % 2 ^ 32))
-    (reflects-leb 1 (span arity depth l)))
-    (reflects-leb (span arity depth l) 4294967296))
-    (reflects-eqb (span arity depth l) (2 ^ (2 * (16 - l)))) in
-    let p = r .to t in
-    record { shifted = p .0 .0 .0; positive = p .0 .0 .1; most = p .0 .1; power = p .1 }
+-- the span of a level is a power of two
+span-power : (l : ℕ) → l ≤ depth → span arity depth l ≡ 2 ^ (2 * (16 - l))
+span-power l h =
+    reflects-eqb (span arity depth l) (2 ^ (2 * (16 - l))) .to
+    (all-below-reflects (λ i. eqb (span arity depth i) (2 ^ (2 * (16 - i)))) 17 .to every-span l (omega arith))
 
--- the number of 32 bits that one added to, modulo 2^32, is the span
-pub mask-of : (r x s : ℕ) → r < 4294967296 → 1 ≤ s → s ≤ 4294967296 → x ≡ s % 4294967296 → (r + 1) % 4294967296 ≡ x → r + 1 ≡ s
-mask-of r x s h lo hi e f = omega arith
+-- the span of the deepest level
+pub span-deepest : (l : ℕ) → l ≡ 16 → 1 ≡ span arity depth l
+unfolding span
+span-deepest l e = rw e refl
+
+-- half of a level's span, as code gets it by a shift
+abbrev half : ℕ → ℕ
+half l = (1 * 2 ^ (31 - 2 * l)) % 2 ^ 32
+
+-- the half is no less than 1 and a power of two, and twice the half is the span
+pub record HalfAt (l : ℕ) : Type 0 where
+  pub positive : 1 ≤ half l
+  pub power : half l ≡ 2 ^ (31 - 2 * l)
+  pub twice : half l + half l ≡ span arity depth l
+
+abbrev halfTest : ℕ → Bool
+halfTest l = leb 1 (half l) && eqb (half l) (2 ^ (31 - 2 * l)) && eqb (half l + half l) (span arity depth l)
+
+every-half : T (all (λ l. halfTest l) (upTo 16))
+unfolding all upTo countFrom span
+every-half = tt
+
+pub half-at : (l : ℕ) → l < 16 → HalfAt l
+half-at l h =
+    let r =
+    reflects-and₃ (reflects-leb 1 (half l)) (reflects-eqb (half l) (2 ^ (31 - 2 * l)))
+    (reflects-eqb (half l + half l) (span arity depth l)) in
+    let p = r .to (all-below-reflects (λ i. halfTest i) 16 .to every-half l h) in
+    record { positive = p .0; power = p .1 .0; twice = p .1 .1 }
+
+-- "xor" of a power of two and one less is one less than the next power
+pub xor-below : (h k : ℕ) → 1 ≤ h → h ≡ 2 ^ k → bitXor h (h - 1) + 1 ≡ h + h
+xor-below h k p e =
+    let z : bitAnd h (h - 1) ≡ 0 = ap (λ s. bitAnd h (s - 1)) e ∙ and-mask h k ∙ ap (λ s. h % s) (sym e) ∙ mod-self h in
+    let x = xor-add-and h (h - 1) in
+    omega arith
 
 -- "and" with the mask is the remainder
 pub and-span : (k l m : ℕ) → l ≤ depth → m + 1 ≡ span arity depth l → bitAnd k m ≡ k % span arity depth l
 and-span k l m h e =
-    let p = span-at l h .power in
+    let p = span-power l h in
     let q : m ≡ 2 ^ (2 * (16 - l)) - 1 = less m _ (e ∙ p) in
     ap (bitAnd k) q ∙ and-mask k (2 * (16 - l)) ∙ ap (λ s. k % s) (sym p)
   where

@@ -3,8 +3,7 @@
 -- Assumes nothing.
 use mathlib.Core.Path.{_≡_, refl, sym, _∙_, ap}
 use mathlib.Core.Bool.{Bool, true, false, false≢true, not, _&&_, _||_}
-use Prim.Native.Nat.{ℕ, suc, _+_, _%_, _≤_, _<_, max}
-use native.Mathlib.Decide.{decLe}
+use Prim.Native.Nat.{ℕ, suc, _+_, _≤_, _<_, max}
 use native.Mathlib.Omega.{arith}
 use borrow.Author.Tests.{ltb-true, le-leb, eq-eqb, ne-eqb}
 use lib.Dec.{leb, ltb, eqb}
@@ -57,15 +56,16 @@ or-true : (a : Bool) {b : Bool} → b ≡ true → a || b ≡ true
 or-true true h = refl
 or-true false h = h
 
--- one more than an item, where the mark's is 0, is at most the count when the item fits
-pub item-count : (item r count : ℕ) → item < 65536 → r ≡ (item + 1) % 65536 → leb r count ≡ itemFits count item
+-- one more than an item that is no mark is at most the count when the item fits
+pub item-count : (item r count : ℕ) → (item ≡ 65535 → ⊥) → r ≡ item + 1 → leb r count ≡ itemFits count item
 unfolding itemFits emptyMark
-item-count item r count h e = elim (decLe item 65534) [
-  | yes l ↦
-      leb-same r count (suc item) count (λ x. omega arith) (λ x. omega arith)
-      ∙ or-false (ltb item count) (ne-eqb item 65535 (λ q. omega arith))
-  | no n ↦ le-leb r count (omega arith) ∙ sym (or-true (ltb item count) (eq-eqb item 65535 (omega arith)))
-]
+item-count item r count n e =
+    leb-same r count (suc item) count (λ x. omega arith) (λ x. omega arith) ∙ or-false (ltb item count) (ne-eqb item 65535 n)
+
+-- 0 is at most the count, and the mark fits
+pub mark-count : (item r count : ℕ) → item ≡ 65535 → r ≡ 0 → leb r count ≡ itemFits count item
+unfolding itemFits emptyMark
+mark-count item r count m e = le-leb r count (omega arith) ∙ sym (or-true (ltb item count) (eq-eqb item 65535 m))
 
 -- an item below another one of 16 bits is no mark
 pub no-mark : (i j : ℕ) → j < 65536 → ltb i j ≡ true → not (eqb i emptyMark) ≡ true

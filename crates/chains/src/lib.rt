@@ -1,6 +1,7 @@
 // The chain rule of a chart's lent buffers. Every call but load judges it, so it is written for speed: a loop has no branch
 // but its own test and joins what it finds by `&`, `|` or the larger of two, so that the compiler judges several entries at a
-// time. Levels and items, which are narrower than keys, have loops of their own: more of them fit into one step.
+// time; an `if` between two numbers makes no branch. Levels and items, which are narrower than keys, have loops of their own:
+// more of them fit into one step.
 
 ghost use mathlib.Core.Path.{_≡_};
 ghost use mathlib.Core.Bool.{true, false, _||_};
@@ -47,7 +48,7 @@ fn levels_fit(levels: &[u8], n: usize) -> bool
 fn count_for(item: u16) -> u16
     ensures { λ r. ⌜ ((count : ℕ) → leb r count ≡ itemFits count item) ⌝ }
 {
-    std::num::wrapping_add_u16(item, 1)
+    if item == 65535 { 0 } else { item + 1 }
 }
 
 // The lowest triangle count for which each of the first n items fits.
@@ -64,13 +65,18 @@ fn count_for_all(items: &[u16], n: usize) -> u16
     most
 }
 
-// The keys that a square of this level covers, less one: ones in the bits that its own key does not use.
+// The keys that a square of this level covers, less one: ones in the bits that its own key does not use. Made from half of
+// the keys, since those of level 0 are 2^32, too many for a u32.
 fn low_bits(level: u8) -> u32
     requires { ⌜ level ≤ depth ⌝ }
     ensures { λ m. ⌜ m + 1 ≡ span arity depth level ⌝ }
 {
-    let bits = (16 - level) as u32;
-    std::num::wrapping_sub_u32((1u32 << bits) << bits, 1)
+    if level == 16 {
+        0
+    } else {
+        let half = 1u32 << (31 - 2 * level) as u32;
+        half ^ (half - 1)
+    }
 }
 
 // An entry with this key and level is aligned, and its square is the last.

@@ -1,13 +1,17 @@
-use Rattle.chains.proofs.TestLaws.{item-count}
+use native.Mathlib.Omega.{arith}
+use Rattle.chains.proofs.TestLaws.{item-count, mark-count}
 use borrow.Author.Needs.{needs}
 use Rattle.chains.proofs.count_for.Statement.{statement}
 use Rattle.chains.proofs.count_for.Tie as tie
 
-wrapping-add-u16-requires : tie.Need-wrapping-add-u16-requires
-wrapping-add-u16-requires c κs = search needs
+add-result : tie.Need-add-result
+add-result c = search needs
 
 returns : tie.Need-returns
-returns c = λ count. item-count (c .before .args .item) (c .wrapping-add-u16 .result) count (search needs) (c .wrapping-add-u16 .ensures)
+returns c = λ count. mark-count (c .before .args .item) _ count (c .if1 .taken) (omega arith)
+
+returns-2 : tie.Need-returns-2
+returns-2 c = λ count. item-count (c .before .args .item) _ count (c .if1 .left) (omega arith)
 
 pub count-for-spec : {M : Type 1} → statement M
-count-for-spec = tie.close (tie.spec wrapping-add-u16-requires returns)
+count-for-spec = tie.close (tie.spec add-result returns returns-2)

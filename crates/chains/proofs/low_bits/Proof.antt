@@ -1,39 +1,34 @@
-use Rattle.orthtree.specs.Entries.{span}
-use Rattle.squares.specs.Square.{arity, depth}
-use Rattle.chains.proofs.MaskLaws.{span-at, mask-of}
+use native.Mathlib.Omega.{arith}
+use Prim.Native.Nat.{_-_, _*_}
+use Rattle.chains.proofs.MaskLaws.{span-deepest, half-at, xor-below}
 use borrow.Author.Needs.{needs}
 use Rattle.chains.proofs.low_bits.Statement.{statement}
 use Rattle.chains.proofs.low_bits.Tie as tie
 
-sub-bits : tie.Need-sub-bits
-sub-bits c = search needs
+mul-half : tie.Need-mul-half
+mul-half c = search needs
 
-cast-bits : tie.Need-cast-bits
-cast-bits c = search needs
+sub-half : tie.Need-sub-half
+sub-half c = search needs
 
-shl-wrapping-sub-u32 : tie.Need-shl-wrapping-sub-u32
-shl-wrapping-sub-u32 c = search needs
+cast-half : tie.Need-cast-half
+cast-half c = search needs
 
-shl-wrapping-sub-u32-2 : tie.Need-shl-wrapping-sub-u32-2
-shl-wrapping-sub-u32-2 c = search needs
+shl-half : tie.Need-shl-half
+shl-half c = search needs
 
-wrapping-sub-u32-requires : tie.Need-wrapping-sub-u32-requires
-wrapping-sub-u32-requires c κs = search needs
+sub-result : tie.Need-sub-result
+sub-result c = let h = half-at (c .before .args .level) (omega arith) .positive in omega arith
 
 returns : tie.Need-returns
-returns c =
-    let level = c .before .args .level in
-    let r = c .wrapping-sub-u32 in
-    let s = span-at level (c .before .pre) in
-    mask-of (r .result) _ (span arity depth level) (search needs) (s .positive) (s .most) (s .shifted) (r .ensures)
+returns c = let s = span-deepest (c .before .args .level) (c .if1 .taken) in omega arith
+
+returns-2 : tie.Need-returns-2
+returns-2 c =
+    let l = c .before .args .level in
+    let h = half-at l (omega arith) in
+    omega (arith, xor-below _ (31 - 2 * l) (h .positive) (h .power), h .twice)
 
 pub low-bits-spec : {M : Type 1} → statement M
 low-bits-spec =
-    tie.close
-    (tie.spec
-    sub-bits
-    cast-bits
-    shl-wrapping-sub-u32
-    shl-wrapping-sub-u32-2
-    wrapping-sub-u32-requires
-    returns)
+    tie.close (tie.spec mul-half sub-half cast-half shl-half sub-result returns returns-2)
