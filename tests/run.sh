@@ -26,10 +26,19 @@ build_model() {
         rustc --edition 2021 -O --test -o target/model/tests model/main.rs
 }
 
+# the model's own tests: all pass, none is passed over, and there are as many as there were
+test_model() {
+    local said
+    said=$(target/model/tests -q 2>&1) || { echo "$said"; return 1; }
+    echo "$said" | grep '^test result:'
+    [[ $said =~ test\ result:\ ok\.\ 22\ passed\;\ 0\ failed\;\ 0\ ignored ]]
+}
+
 echo "== rt ci: prove every crate, try the must-fail edits, run the programs"
 rt ci 2>&1 | tee "$log"
 verdict=${PIPESTATUS[0]}
 last=$(tail -n 1 "$log")
+wanted=$(($(grep -c '^[^#[:space:]]' crates.txt) + $(find crates -path '*/must-fail/*' -type f | wc -l)))
 if [[ $last =~ ^([0-9]+)\ passed,\ ([0-9]+)\ failed$ ]]; then
     passed=$((passed + BASH_REMATCH[1]))
     failed=$((failed + BASH_REMATCH[2]))
@@ -37,16 +46,20 @@ if [[ $last =~ ^([0-9]+)\ passed,\ ([0-9]+)\ failed$ ]]; then
         failed=$((failed + 1))
         echo "FAILED: rt ci exited with $verdict"
     fi
+    if [ $((BASH_REMATCH[1] + BASH_REMATCH[2])) -ne "$wanted" ]; then
+        failed=$((failed + 1))
+        echo "FAILED: rt ci judged $((BASH_REMATCH[1] + BASH_REMATCH[2])) crates and must-fail edits, and there are $wanted"
+    fi
 else
     failed=$((failed + 1))
     echo "FAILED: rt ci printed no verdict"
 fi
 
 check "layout of the sources (rt fmt --check)" rt fmt --check
-check "no hole and no axiom in the proofs, must-fail edits refused at a fact" python3 tests/verdicts.py "$log"
-check "every sentence of document 01 has its row (docs/CLAIMS.md)" python3 tests/claims.py
+check "every crate proved with no hole and no axiom, every must-fail edit refused at a fact" python3 tests/verdicts.py "$log"
+check "every sentence of document 01 has its row and what carries it (docs/CLAIMS.md)" python3 tests/claims.py
 check "the reference model builds" build_model
-check "the reference model's own tests" target/model/tests -q
+check "the reference model's own tests" test_model
 check "the reference model on the stored command streams" python3 tests/log_cases.py target/model/model log
 check "the definitions, executed, against the reference model" python3 tests/definitions.py 7 4
 check "tables filed by the program and by the reference model" python3 tests/quadtree.py 7 10
