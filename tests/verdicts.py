@@ -8,7 +8,7 @@ line has no word that is not known here; a library has no axioms, a program the 
 
 Must-fail edits: each file below a must-fail/ folder is one that rt tries (crates/NAME/must-fail/LABEL.edit), each edit was
 refused in this run and has its log, and each log has its edit. An edit starts with a sentence, `# ..`, and goes on with `file:`,
-`old:` and `new:` lines alone, for src/ and specs/ (an edit of a proof shows nothing).
+`old:` and `new:` lines alone, for src/ and specs/. Beside an edit of specs/ it may change a proof to go with it, but no example.
 
 What an edit shows: its first error is a fact that fails. The reasons are listed in FACTS, everything else fails: a name that is not
 there, text that does not parse, a field or a requirement that another shape of the code would have. A type that does not fit can
@@ -16,7 +16,8 @@ also come from a proof that no longer fits its code, so beyond that
 
 - an edit of src/ keeps the operators, calls, keywords and types of the code, each as often as before, and changes operands
   alone: constants, variables, fields, enum variants. A comparison may become strict or not strict (< and <=, > and >=). It may
-  become another comparison where `omega` refuses, which gives numbers at which the fact fails;
+  become another comparison where `omega` refuses, which gives numbers at which the fact fails. An edit with other operators
+  says with what operands its crate is proved: a line `# proved with: TEXT` for its last `new:` text, with the same operators;
 - an edit of specs/ makes a computed example fail, there or further down in its log."""
 
 import collections
@@ -125,25 +126,30 @@ def edits():
 
 
 def replacements(label):
-    """The file, old and new text of each replacement of an edit."""
+    """The file, old and new text of each replacement of an edit, and the text with which its crate is proved, if it says so."""
     name, edit = label.split("/")
     lines = read(os.path.join(ROOT, "crates", name, "must-fail", edit + ".edit")).rstrip("\n").split("\n")
     if not re.match(r"# \S", lines[0]):
         faults.append(f"must-fail {label}: its first line does not say what it breaks")
-    found, file, old = [], None, None
+    found, file, old, proved = [], None, None, None
     for line in lines[1:]:
-        if re.match(r"file: (src|specs)/", line):
+        if re.match(r"file: (src|specs|proofs)/", line):
             file = line[len("file: ") :]
         elif line.startswith("old: ") and file and old is None:
             old = line[len("old: ") :]
         elif re.match(r"new:( |$)", line) and old is not None:
             found.append((file, old, line[len("new: ") :]))
             old = None
-        elif not line.startswith("# "):
+        elif line.startswith("# proved with: ") and proved is None:
+            proved = line[len("# proved with: ") :]
+        else:
             faults.append(f"must-fail {label}: a line that does not belong there: {line}")
-    if not found or old is not None:
-        faults.append(f"must-fail {label}: not pairs of old and new text of src/ or specs/")
-    return found
+    folders = {file.split("/")[0] for file, _, _ in found}
+    if not found or old is not None or folders == {"proofs"} or folders >= {"proofs", "src"}:
+        faults.append(f"must-fail {label}: not old and new texts of src/, of specs/, or of specs/ and a proof that goes with it")
+    if any(re.match(r"proofs/.*(Example|Case)", file) for file, _, _ in found):
+        faults.append(f"must-fail {label}: it changes an example")
+    return found, proved
 
 
 def failing(label):
@@ -192,7 +198,7 @@ def changed(before, after):
 
 
 def judge_edit(label):
-    pairs, laws = replacements(label), failing(label)
+    (pairs, proved), laws = replacements(label), failing(label)
     if all(old == new for _, old, new in pairs):
         faults.append(f"must-fail {label}: it changes nothing")
     if not laws:
@@ -204,7 +210,9 @@ def judge_edit(label):
             before += code_shape(old, kind == "omega")
             after += code_shape(new, kind == "omega")
     if before != after:
-        faults.append(f"must-fail {label}: other operators or calls: {changed(before, after)} (refused at {law}: {kind})")
+        last = pairs[-1][2]
+        if not proved or proved == last or code_shape(proved, False) != code_shape(last, False):
+            faults.append(f"must-fail {label}: other operators or calls: {changed(before, after)} (refused at {law}: {kind})")
     examples = [law for law, kind in laws if kind == "types" and re.search("-example$|^marked-cases$", law)]
     if any(file.startswith("specs/") for file, _, _ in pairs) and not examples:
         faults.append(f"must-fail {label}: no computed example fails (refused at {law}: {kind})")
