@@ -62,7 +62,7 @@ check "the reference model builds" build_model
 check "the reference model's own tests" test_model
 check "the reference model on the stored command streams" python3 tests/log_cases.py target/model/model log
 check "the definitions, executed, against the reference model" python3 tests/definitions.py 7 4
-check "tables filed by the program and by the reference model" python3 tests/quadtree.py 7 10
+check "entries built by the program and by the reference model" python3 tests/quadtree.py 7 10
 check "calls on sound and damaged charts by the program and by the reference model" python3 tests/calls.py 7 20
 
 echo "$passed passed, $failed failed"

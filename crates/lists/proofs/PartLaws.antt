@@ -45,6 +45,11 @@ part-map g l xs d f t h w v e =
     getD-take (t - f) (drop f xs) i (g d) j ∙ getD-drop f xs i (g d) ∙ sym (e (f + i) (omega arith))
     ∙ ap g (sym (part-at l f t h w d i j)) ∙ sym (List·getD-map g p i d))
 
+-- n places from a on, seen from one place further: m from c on
+place-next : {b : Bool} (a n c m : ℕ) {i : ℕ} → c ≡ a - 1 → c + m ≡ a + n - 1
+    → Reflects b ((a ≤ suc i) × (suc i < a + n)) → Reflects b ((c ≤ i) × (i < c + m))
+place-next a n c m e g r = reflects-iff (λ h. (omega arith, omega arith)) (λ h. (omega arith, omega arith)) r
+
 module _ {A : Type 0} (f : A → Bool) (d : A) where
   places-pass : (k : ℕ) (x : A) (xs : List A) → f x ≡ true → placesFrom f k (x ∷ xs) ≡ k ∷ placesFrom f (suc k) xs
   unfolding placesFrom
@@ -61,15 +66,15 @@ module _ {A : Type 0} (f : A → Bool) (d : A) where
   places-induct k [] a (suc n) h r = absurd (omega arith)
   places-induct k (x ∷ xs) zero zero h r =
       places-fail k x xs (test-false (λ t. absurd (let g = r 0 (omega arith) .to t in omega arith)))
-      ∙ places-induct (suc k) xs zero zero (omega arith) (λ i l. reflects-iff (λ g. (omega arith, omega arith)) (λ g. (omega arith, omega arith)) (r (suc i) (omega arith)))
+      ∙ places-induct (suc k) xs zero zero (omega arith) (λ i l. place-next 0 0 0 0 (omega arith) (omega arith) (r (suc i) (omega arith)))
   places-induct k (x ∷ xs) zero (suc n) h r =
       places-pass k x xs (test-true (r 0 (omega arith) .from (omega arith, omega arith)))
       ∙ ap₂ (λ j l. j ∷ l) (omega arith) (
-      places-induct (suc k) xs zero n (omega arith) (λ i l. reflects-iff (λ g. (omega arith, omega arith)) (λ g. (omega arith, omega arith)) (r (suc i) (omega arith)))
+      places-induct (suc k) xs zero n (omega arith) (λ i l. place-next 0 (suc n) 0 n (omega arith) (omega arith) (r (suc i) (omega arith)))
       ∙ ap (λ j. countFrom j n) (omega arith))
   places-induct k (x ∷ xs) (suc a) n h r =
       places-fail k x xs (test-false (λ t. absurd (let g = r 0 (omega arith) .to t in omega arith)))
-      ∙ places-induct (suc k) xs a n (omega arith) (λ i l. reflects-iff (λ g. (omega arith, omega arith)) (λ g. (omega arith, omega arith)) (r (suc i) (omega arith)))
+      ∙ places-induct (suc k) xs a n (omega arith) (λ i l. place-next (suc a) n a n (omega arith) (omega arith) (r (suc i) (omega arith)))
       ∙ ap (λ j. countFrom j n) (omega arith)
 
   -- where a test passes at n places from place a on and at no other, those are the places of the elements that pass it

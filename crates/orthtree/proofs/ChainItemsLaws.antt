@@ -36,7 +36,8 @@ module _ (arity depth count : ℕ) (pos : 0 < arity) (es : List Entry) (rule : T
   -- of the entries of the cell that has the key, each later one is a further item of it
   pub cell-ordered : Ordered (λ e f. NextItem e f) (filter has es)
   cell-ordered =
-      ordered-imp (λ e f h. before-common arity depth k (h .0) (covers-reflects arity depth k e .to (h .1 .0)) (covers-reflects arity depth k f .to (h .1 .1)))
+      ordered-imp (λ e f h.
+      before-common arity depth k (h .0) (covers-reflects arity depth k e .to (h .1 .0)) (covers-reflects arity depth k f .to (h .1 .1)))
       (ordered-filter has (chain-ordered arity depth count pos es rule))
 
   -- so the items ascend strictly
