@@ -6,7 +6,7 @@ ghost use mathlib.Core.Path.{_≡_};
 ghost use mathlib.Core.Bool.{true, false};
 ghost use Prim.Native.Nat.{_/_};
 ghost use lib.ListN.{length};
-ghost use Rattle.chart_spec.specs.Table.{tableOf};
+ghost use Rattle.chart_spec.specs.Table.{numbersPerTriangle, tableOf};
 ghost use Rattle.chart_spec.specs.Cells.{entriesOf};
 ghost use Rattle.entry_lists.specs.Lists.{Listed};
 ghost use Rattle.build_export.specs.Buildable.{lengthsFit, buildable};
@@ -15,11 +15,11 @@ ghost use Rattle.build_export.specs.Buildable.{lengthsFit, buildable};
 fn lengths_fit(table: &[u16], keys: &[u32], levels: &[u8], items: &[u16]) -> bool
     ensures { λ o. ⌜ o ≡ lengthsFit (now (table .entry)) (now (keys .entry)) (now (levels .entry)) (now (items .entry)) ⌝ }
 {
-    (table.len() % 6 == 0)
-        & (table.len() <= 3072)
-        & (16384 <= keys.len())
-        & (16384 <= levels.len())
-        & (16384 <= items.len())
+    (table.len() % tables::TRIANGLE_NUMBERS == 0)
+        & (table.len() <= tables::TABLE_NUMBERS)
+        & (tables::MOST_ENTRIES <= keys.len())
+        & (tables::MOST_ENTRIES <= levels.len())
+        & (tables::MOST_ENTRIES <= items.len())
 }
 
 // The number of the table's entries, which then stand in the three lists, zeros after them; 16385 where they are more than
@@ -31,10 +31,10 @@ pub extern "C" fn build_table(
     levels: &mut [u8],
     items: &mut [u16],
 ) -> usize
-    ensures { λ r. ⌜ (buildable (now (table .entry)) (now (keys .entry)) (now (levels .entry)) (now (items .entry)) ≡ true → Listed (entriesOf (tableOf (now (table .entry)) (length (now (table .entry)) / 6))) r (now (keys .entry)) (now (keys .exit)) (now (levels .entry)) (now (levels .exit)) (now (items .entry)) (now (items .exit))) ⌝ }
+    ensures { λ r. ⌜ (buildable (now (table .entry)) (now (keys .entry)) (now (levels .entry)) (now (items .entry)) ≡ true → Listed (entriesOf (tableOf (now (table .entry)) (length (now (table .entry)) / numbersPerTriangle))) r (now (keys .entry)) (now (keys .exit)) (now (levels .entry)) (now (levels .exit)) (now (items .entry)) (now (items .exit))) ⌝ }
     ensures { λ r. ⌜ (buildable (now (table .entry)) (now (keys .entry)) (now (levels .entry)) (now (items .entry)) ≡ false → (r ≡ 16386) × ((now (keys .exit) ≡ now (keys .entry)) × ((now (levels .exit) ≡ now (levels .entry)) × (now (items .exit) ≡ now (items .entry))))) ⌝ }
 {
-    let n = table.len() / 6;
+    let n = table.len() / tables::TRIANGLE_NUMBERS;
     if lengths_fit(table, keys, levels, items) {
         if chains::all_proper(table, n) {
             return entry_lists::build_into(table, n, keys, levels, items);

@@ -12,19 +12,19 @@ ghost use Rattle.lists.specs.Lists.{all, upTo};
 ghost use Rattle.orthtree.specs.Entries.{span, chain};
 ghost use Rattle.plane.specs.Triangle.{proper};
 ghost use Rattle.squares.specs.Square.{arity, depth};
-ghost use Rattle.chart_spec.specs.Table.{tableOf};
+ghost use Rattle.chart_spec.specs.Table.{numbersPerTriangle, tableOf};
 ghost use Rattle.call_spec.specs.Buffers.{zipEntries, tooShort, chainRule, chartOf};
 ghost use Rattle.chains.specs.Links.{entry, itemFits, linked, linkedAt, endsTree};
 
 // Each of the first n triangles has D > 0.
 pub fn all_proper(table: &[u16], n: usize) -> bool
-    requires { ⌜ 6 * n ≤ length (now table) ⌝ }
+    requires { ⌜ numbersPerTriangle * n ≤ length (now table) ⌝ }
     ensures { λ o. ⌜ o ≡ all (λ t. proper t) (tableOf (now (table .entry)) n) ⌝ }
 {
     let mut ok = true;
     let mut i = 0;
     while i < n {
-        ok = ok & geometry::is_proper(numbers::triangle_at(table, i));
+        ok = ok & geometry::is_proper(tables::triangle_at(table, i));
         i += 1;
     }
     ok
@@ -180,7 +180,10 @@ pub fn chain_holds(keys: &[u32], levels: &[u8], items: &[u16], count: usize, n: 
 pub fn too_short(table: &[u16], keys: &[u32], levels: &[u8], items: &[u16]) -> bool
     ensures { λ o. ⌜ ((count n : ℕ) → o ≡ tooShort (chartOf (now (table .entry)) (now (keys .entry)) (now (levels .entry)) (now (items .entry)) count n)) ⌝ }
 {
-    (table.len() < 3072) | (keys.len() < 16384) | (levels.len() < 16384) | (items.len() < 16384)
+    (table.len() < tables::TABLE_NUMBERS)
+        | (keys.len() < tables::MOST_ENTRIES)
+        | (levels.len() < tables::MOST_ENTRIES)
+        | (items.len() < tables::MOST_ENTRIES)
 }
 
 // The chain rule, for any counts.
@@ -195,13 +198,13 @@ pub fn chain_rule(
     requires { ⌜ tooShort (chartOf (now table) (now keys) (now levels) (now items) count n) ≡ false ⌝ }
     ensures { λ o. ⌜ o ≡ chainRule (chartOf (now (table .entry)) (now (keys .entry)) (now (levels .entry)) (now (items .entry)) count n) ⌝ }
 {
-    if count > 512 {
+    if count > tables::MOST_TRIANGLES {
         return false;
     }
     if n == 0 {
         return false;
     }
-    if n > 16384 {
+    if n > tables::MOST_ENTRIES {
         return false;
     }
     all_proper(table, count) & chain_holds(keys, levels, items, count, n)

@@ -9,8 +9,8 @@ ghost use lib.ListN.{length, getD, take, replicate};
 ghost use lib.Seq.{sets};
 ghost use Rattle.lists.specs.Lists.{all, upTo};
 ghost use Rattle.plane.specs.Triangle.{proper};
-ghost use Rattle.chart_spec.specs.Table.{tableOf};
-ghost use Rattle.chart_spec.specs.Cells.{entriesOf};
+ghost use Rattle.chart_spec.specs.Table.{maxTriangles, numbersPerTriangle, tableOf};
+ghost use Rattle.chart_spec.specs.Cells.{entriesOf, maxEntries};
 ghost use Rattle.call_spec.specs.Buffers.{padded, zipEntries, sameEntries};
 ghost use Rattle.quadtree.specs.Build.{packed};
 ghost use Rattle.entry_lists.specs.Lists.{keyOf, levelOf, itemOf, packedAt, Listed};
@@ -69,41 +69,41 @@ fn item_of(x: u64) -> u16
 
 // The keys of the first n packed entries, and zeros up to place 16384.
 fn put_keys(entries: &[u64], n: usize, keys: &mut [u32])
-    requires { ⌜ (n ≤ length (now entries)) × ((n ≤ 16384) × (16384 ≤ length (now keys))) ⌝ }
-    ensures { λ r. ⌜ now (keys .exit) ≡ padded 16384 (map keyOf (take n (now (entries .entry)))) (now (keys .entry)) ⌝ }
+    requires { ⌜ (n ≤ length (now entries)) × ((n ≤ maxEntries) × (maxEntries ≤ length (now keys))) ⌝ }
+    ensures { λ r. ⌜ now (keys .exit) ≡ padded maxEntries (map keyOf (take n (now (entries .entry)))) (now (keys .entry)) ⌝ }
 {
     let mut i = 0;
     while i < n {
         keys[i] = key_of(entries[i]);
         i += 1;
     }
-    clear_keys(keys, n, 16384);
+    clear_keys(keys, n, tables::MOST_ENTRIES);
 }
 
 // Their levels.
 fn put_levels(entries: &[u64], n: usize, levels: &mut [u8])
-    requires { ⌜ (n ≤ length (now entries)) × ((n ≤ 16384) × (16384 ≤ length (now levels))) ⌝ }
-    ensures { λ r. ⌜ now (levels .exit) ≡ padded 16384 (map levelOf (take n (now (entries .entry)))) (now (levels .entry)) ⌝ }
+    requires { ⌜ (n ≤ length (now entries)) × ((n ≤ maxEntries) × (maxEntries ≤ length (now levels))) ⌝ }
+    ensures { λ r. ⌜ now (levels .exit) ≡ padded maxEntries (map levelOf (take n (now (entries .entry)))) (now (levels .entry)) ⌝ }
 {
     let mut i = 0;
     while i < n {
         levels[i] = level_of(entries[i]);
         i += 1;
     }
-    clear_levels(levels, n, 16384);
+    clear_levels(levels, n, tables::MOST_ENTRIES);
 }
 
 // Their items.
 fn put_items(entries: &[u64], n: usize, items: &mut [u16])
-    requires { ⌜ (n ≤ length (now entries)) × ((n ≤ 16384) × (16384 ≤ length (now items))) ⌝ }
-    ensures { λ r. ⌜ now (items .exit) ≡ padded 16384 (map itemOf (take n (now (entries .entry)))) (now (items .entry)) ⌝ }
+    requires { ⌜ (n ≤ length (now entries)) × ((n ≤ maxEntries) × (maxEntries ≤ length (now items))) ⌝ }
+    ensures { λ r. ⌜ now (items .exit) ≡ padded maxEntries (map itemOf (take n (now (entries .entry)))) (now (items .entry)) ⌝ }
 {
     let mut i = 0;
     while i < n {
         items[i] = item_of(entries[i]);
         i += 1;
     }
-    clear_items(items, n, 16384);
+    clear_items(items, n, tables::MOST_ENTRIES);
 }
 
 // Files a table into the three lists: the number of its entries, or 16385 where they are more than 16384 and the lists stay as
@@ -115,16 +115,16 @@ pub fn build_into(
     levels: &mut [u8],
     items: &mut [u16],
 ) -> usize
-    requires { ⌜ ((n ≤ 512) × (6 * n ≤ length (now table))) × (all (λ t. proper t) (tableOf (now table) n) ≡ true) ⌝ }
-    requires { ⌜ (16384 ≤ length (now keys)) × ((16384 ≤ length (now levels)) × (16384 ≤ length (now items))) ⌝ }
+    requires { ⌜ ((n ≤ maxTriangles) × (numbersPerTriangle * n ≤ length (now table))) × (all (λ t. proper t) (tableOf (now table) n) ≡ true) ⌝ }
+    requires { ⌜ (maxEntries ≤ length (now keys)) × ((maxEntries ≤ length (now levels)) × (maxEntries ≤ length (now items))) ⌝ }
     ensures { λ r. ⌜ Listed (entriesOf (tableOf (now (table .entry)) n)) r (now (keys .entry)) (now (keys .exit)) (now (levels .entry)) (now (levels .exit)) (now (items .entry)) (now (items .exit)) ⌝ }
 {
     let mut shape = [0u16; 14336];
     let mut offsets = [0u64; 1536];
     let mut stack = [0u16; 9216];
-    let mut entries = [0u64; 16384];
+    let mut entries = [0u64; tables::MOST_ENTRIES];
     let m = quadtree::build(table, n, &mut shape, &mut offsets, &mut stack, &mut entries);
-    if m > 16384 {
+    if m > tables::MOST_ENTRIES {
         return 16385;
     }
     put_keys(&entries, m, keys);
@@ -163,14 +163,14 @@ pub fn entries_match(
     items: &[u16],
     m: usize,
 ) -> bool
-    requires { ⌜ ((n ≤ 512) × (6 * n ≤ length (now table))) × (all (λ t. proper t) (tableOf (now table) n) ≡ true) ⌝ }
-    requires { ⌜ ((m ≤ 16384) × (m ≤ length (now keys))) × ((m ≤ length (now levels)) × (m ≤ length (now items))) ⌝ }
+    requires { ⌜ ((n ≤ maxTriangles) × (numbersPerTriangle * n ≤ length (now table))) × (all (λ t. proper t) (tableOf (now table) n) ≡ true) ⌝ }
+    requires { ⌜ ((m ≤ maxEntries) × (m ≤ length (now keys))) × ((m ≤ length (now levels)) × (m ≤ length (now items))) ⌝ }
     ensures { λ o. ⌜ o ≡ sameEntries (take m (zipEntries (now (keys .entry)) (now (levels .entry)) (now (items .entry)))) (entriesOf (tableOf (now (table .entry)) n)) ⌝ }
 {
     let mut shape = [0u16; 14336];
     let mut offsets = [0u64; 1536];
     let mut stack = [0u16; 9216];
-    let mut entries = [0u64; 16384];
+    let mut entries = [0u64; tables::MOST_ENTRIES];
     let r = quadtree::build(table, n, &mut shape, &mut offsets, &mut stack, &mut entries);
     if r != m {
         return false;

@@ -5,7 +5,7 @@ use answers::Changed;
 ghost use mathlib.Core.Path.{_≡_};
 ghost use Prim.Native.Nat.{_*_, _≤_};
 ghost use lib.ListN.{length, take};
-ghost use Rattle.chart_spec.specs.Table.{tableOf};
+ghost use Rattle.chart_spec.specs.Table.{numbersPerTriangle, tableLength, tableOf};
 ghost use Rattle.call_spec.specs.Buffers.{chartOf, padded};
 ghost use Rattle.call_spec.specs.Calls.{loadCall};
 ghost use Rattle.call_spec.specs.Calls.{Changed as Calls·Changed};
@@ -14,12 +14,12 @@ ghost use Rattle.load.specs.Faulty.{firstFaulty};
 
 // The lowest of the first n triangles that has D <= 0, or n.
 fn first_faulty(table: &[u16], n: usize) -> usize
-    requires { ⌜ 6 * n ≤ length (now table) ⌝ }
+    requires { ⌜ numbersPerTriangle * n ≤ length (now table) ⌝ }
     ensures { λ r. ⌜ r ≡ firstFaulty (tableOf (now (table .entry)) n) ⌝ }
 {
     let mut i = 0;
     while i < n {
-        if !geometry::is_proper(numbers::triangle_at(table, i)) {
+        if !geometry::is_proper(tables::triangle_at(table, i)) {
             return i;
         }
         i += 1;
@@ -29,15 +29,15 @@ fn first_faulty(table: &[u16], n: usize) -> usize
 
 // The first n numbers given, then zeros up to place 3072.
 fn put_table(given: &[u16], n: usize, table: &mut [u16])
-    requires { ⌜ (n ≤ length (now given)) × ((n ≤ 3072) × (3072 ≤ length (now table))) ⌝ }
-    ensures { λ _. ⌜ now (table .exit) ≡ padded 3072 (take n (now (given .entry))) (now (table .entry)) ⌝ }
+    requires { ⌜ (n ≤ length (now given)) × ((n ≤ tableLength) × (tableLength ≤ length (now table))) ⌝ }
+    ensures { λ _. ⌜ now (table .exit) ≡ padded tableLength (take n (now (given .entry))) (now (table .entry)) ⌝ }
 {
     let mut i = 0;
     while i < n {
         table[i] = given[i];
         i += 1;
     }
-    entry_lists::clear_items(table, n, 3072);
+    entry_lists::clear_items(table, n, tables::TABLE_NUMBERS);
 }
 
 // Load. It answers how it went and the counts that the chart has now; a refusal leaves lists and counts as they were.
@@ -59,14 +59,14 @@ pub fn load(
             entries,
         };
     }
-    if (given.len() % 6 != 0) | (given.len() > 3072) {
+    if (given.len() % tables::TRIANGLE_NUMBERS != 0) | (given.len() > tables::TABLE_NUMBERS) {
         return Changed {
             change: Change::BadLength,
             triangles,
             entries,
         };
     }
-    let n = given.len() / 6;
+    let n = given.len() / tables::TRIANGLE_NUMBERS;
     let faulty = first_faulty(given, n);
     if faulty < n {
         return Changed {
@@ -76,14 +76,14 @@ pub fn load(
         };
     }
     let m = entry_lists::build_into(given, n, keys, levels, items);
-    if m > 16384 {
+    if m > tables::MOST_ENTRIES {
         return Changed {
             change: Change::TooManyEntries,
             triangles,
             entries,
         };
     }
-    put_table(given, 6 * n, table);
+    put_table(given, tables::TRIANGLE_NUMBERS * n, table);
     Changed {
         change: Change::Done,
         triangles: n,

@@ -7,7 +7,7 @@ ghost use Prim.Native.Nat.{ℕ, _*_, _≤_, _<_};
 ghost use lib.ListN.{length, getD};
 ghost use Rattle.lists.specs.Lists.{first};
 ghost use Rattle.plane.specs.Triangle.{holds};
-ghost use Rattle.chart_spec.specs.Table.{triangleAt};
+ghost use Rattle.chart_spec.specs.Table.{numbersPerTriangle, triangleAt};
 ghost use Rattle.call_spec.specs.Buffers.{chartOf};
 ghost use Rattle.call_spec.specs.Calls.{locateCall, listingCall};
 ghost use Rattle.call_spec.specs.Calls.{Located as Calls·Located};
@@ -18,13 +18,13 @@ ghost use Rattle.locating.specs.Places.{placesCall};
 
 // The first of the listed triangles that holds p.
 fn first_holding(table: &[u16], n: usize, list: &[u16], p: Point) -> Located
-    requires { ⌜ (6 * n ≤ length (now table)) × ((k : ℕ) → k < length (now list) → getD (now list) k 0 < n) ⌝ }
+    requires { ⌜ (numbersPerTriangle * n ≤ length (now table)) × ((k : ℕ) → k < length (now list) → getD (now list) k 0 < n) ⌝ }
     ensures { λ r. ⌜ r ≡ foundOf (first (λ i. holds (triangleAt (now (table .entry)) i) p) (now (list .entry))) ⌝ }
 {
     let mut k = 0;
     while k < list.len() {
         let i = list[k];
-        if geometry::holds(numbers::triangle_at(table, numbers::index(i)), p) {
+        if geometry::holds(tables::triangle_at(table, numbers::index(i)), p) {
             return Located::At(i);
         }
         k += 1;

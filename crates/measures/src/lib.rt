@@ -12,7 +12,7 @@ ghost use Rattle.lists.specs.Lists.{all, upTo};
 ghost use Rattle.plane.specs.Triangle.{proper, triangleOf, doubledArea};
 ghost use Rattle.plane.specs.Box.{Box, triangleBox};
 ghost use Rattle.plane.specs.Interior.{interiorsMeet};
-ghost use Rattle.chart_spec.specs.Table.{triangleAt, tableOf};
+ghost use Rattle.chart_spec.specs.Table.{maxTriangles, numbersPerTriangle, triangleAt, tableOf};
 ghost use Rattle.chart_spec.specs.Reading.{sound as Reading·sound};
 ghost use Rattle.chart_spec.specs.Reading.{totalArea};
 ghost use Rattle.call_spec.specs.Buffers.{chartOf};
@@ -60,10 +60,10 @@ fn meets(s: [Point; 3], left: u16, top: u16, right: u16, bottom: u16, t: [Point;
 
 // Triangle i shares ground with none of those before it, where all have D > 0.
 fn is_apart(table: &[u16], i: usize) -> bool
-    requires { ⌜ (6 * i + 6 ≤ length (now table)) × (all (λ t. proper t) (tableOf (now table) (i + 1)) ≡ true) ⌝ }
+    requires { ⌜ (numbersPerTriangle * (i + 1) ≤ length (now table)) × (all (λ t. proper t) (tableOf (now table) (i + 1)) ≡ true) ⌝ }
     ensures { λ o. ⌜ o ≡ all (λ j. not (interiorsMeet (triangleAt (now (table .entry)) i) (triangleAt (now (table .entry)) j))) (upTo i) ⌝ }
 {
-    let t = numbers::triangle_at(table, i);
+    let t = tables::triangle_at(table, i);
     let p = t[0];
     let q = t[1];
     let r = t[2];
@@ -73,7 +73,7 @@ fn is_apart(table: &[u16], i: usize) -> bool
     let bottom = greatest(p.y, q.y, r.y);
     let mut j = 0;
     while j < i {
-        if meets(t, left, top, right, bottom, numbers::triangle_at(table, j)) {
+        if meets(t, left, top, right, bottom, tables::triangle_at(table, j)) {
             return false;
         }
         j += 1;
@@ -83,7 +83,7 @@ fn is_apart(table: &[u16], i: usize) -> bool
 
 // No two of the first n triangles, each with D > 0, share ground.
 fn all_apart(table: &[u16], n: usize) -> bool
-    requires { ⌜ (6 * n ≤ length (now table)) × (all (λ t. proper t) (tableOf (now table) n) ≡ true) ⌝ }
+    requires { ⌜ (numbersPerTriangle * n ≤ length (now table)) × (all (λ t. proper t) (tableOf (now table) n) ≡ true) ⌝ }
     ensures { λ o. ⌜ o ≡ Reading·sound (tableOf (now (table .entry)) n) ⌝ }
 {
     let mut i = 0;
@@ -130,13 +130,13 @@ fn doubled(t: [Point; 3]) -> u64
 
 // The sum over the first n triangles, each with D > 0.
 fn sum(table: &[u16], n: usize) -> u64
-    requires { ⌜ ((n ≤ 512) × (6 * n ≤ length (now table))) × (all (λ t. proper t) (tableOf (now table) n) ≡ true) ⌝ }
+    requires { ⌜ ((n ≤ maxTriangles) × (numbersPerTriangle * n ≤ length (now table))) × (all (λ t. proper t) (tableOf (now table) n) ≡ true) ⌝ }
     ensures { λ r. ⌜ r ≡ totalArea (tableOf (now (table .entry)) n) ⌝ }
 {
     let mut s = 0u64;
     let mut i = 0;
     while i < n {
-        s += doubled(numbers::triangle_at(table, i));
+        s += doubled(tables::triangle_at(table, i));
         i += 1;
     }
     s

@@ -14,8 +14,8 @@ ghost use Rattle.lists.specs.Lists.{all, filter, upTo};
 ghost use Rattle.plane.specs.Triangle.{sides, proper};
 ghost use Rattle.orthtree.specs.Entries.{span};
 ghost use Rattle.squares.specs.Square.{squareBox, squareKey, quarters, Aligned};
-ghost use Rattle.chart_spec.specs.Table.{pointAt, tableOf};
-ghost use Rattle.chart_spec.specs.Cells.{isEnd, commonEnd, stopped, trianglesMeeting, orMark, entriesIn, entriesOf};
+ghost use Rattle.chart_spec.specs.Table.{maxTriangles, numbersPerTriangle, pointAt, tableOf};
+ghost use Rattle.chart_spec.specs.Cells.{isEnd, commonEnd, stopped, trianglesMeeting, orMark, entriesIn, entriesOf, maxEntries};
 ghost use Rattle.shapes.specs.Shape.{boxOf, InGrid, triangleMeetsAt};
 ghost use Rattle.quadtree.specs.Build.{packed, only, maskOf, masked, unpacked, unpackedTriangle, startOf, sidesMet, sidesAt, eitherEnd, part, Skipped, Tested, Ready, Prepared, Candidates, Built};
 
@@ -161,9 +161,9 @@ fn either_end(
     while k < to {
         let i = numbers::index(stack[k]);
         let m = sides_met(shape, offsets, i, f);
-        let a = packed_at(table, 6 * i);
-        let b = packed_at(table, 6 * i + 2);
-        let c = packed_at(table, 6 * i + 4);
+        let a = packed_at(table, tables::TRIANGLE_NUMBERS * i);
+        let b = packed_at(table, tables::TRIANGLE_NUMBERS * i + 2);
+        let c = packed_at(table, tables::TRIANGLE_NUMBERS * i + 4);
         first = first | missed(m, p, a, b, c);
         second = second | missed(m, q, a, b, c);
         if (first != 0) & (second != 0) {
@@ -193,9 +193,9 @@ fn common_end(
     if k < to {
         let i = numbers::index(stack[k]);
         let m = met.mask;
-        let a = packed_at(table, 6 * i);
-        let b = packed_at(table, 6 * i + 2);
-        let c = packed_at(table, 6 * i + 4);
+        let a = packed_at(table, tables::TRIANGLE_NUMBERS * i);
+        let b = packed_at(table, tables::TRIANGLE_NUMBERS * i + 2);
+        let c = packed_at(table, tables::TRIANGLE_NUMBERS * i + 4);
         let p = start_of(m, a, b, c);
         let q = start_of(m, b, c, a);
         let x = missed(m, p, a, b, c);
@@ -282,11 +282,11 @@ fn entry_count(from: usize, to: usize) -> usize
 
 // The entries of a cell whose triangles stand from `from` up to `to`, or 16385 where they do not fit below 16384.
 fn put_leaf(stack: &[u16], from: usize, to: usize, head: u64, out: &mut [u64], at: usize) -> usize
-    requires { ⌜ ((from ≤ to) × (to ≤ length (now stack))) × ((16384 ≤ length (now out)) × ((at ≤ 16384) × (head ≤ 18446744073709486080))) ⌝ }
-    ensures { λ r. ⌜ (at + length (orMark (part from to (now (stack .entry)))) ≤ 16384 → (r ≡ at + length (orMark (part from to (now (stack .entry))))) × (now (out .exit) ≡ sets (now (out .entry)) at (map (λ i. head + i) (orMark (part from to (now (stack .entry))))))) ⌝ }
-    ensures { λ r. ⌜ (16384 < at + length (orMark (part from to (now (stack .entry)))) → r ≡ 16385) ⌝ }
+    requires { ⌜ ((from ≤ to) × (to ≤ length (now stack))) × ((maxEntries ≤ length (now out)) × ((at ≤ maxEntries) × (head ≤ 18446744073709486080))) ⌝ }
+    ensures { λ r. ⌜ (at + length (orMark (part from to (now (stack .entry)))) ≤ maxEntries → (r ≡ at + length (orMark (part from to (now (stack .entry))))) × (now (out .exit) ≡ sets (now (out .entry)) at (map (λ i. head + i) (orMark (part from to (now (stack .entry))))))) ⌝ }
+    ensures { λ r. ⌜ (maxEntries < at + length (orMark (part from to (now (stack .entry)))) → r ≡ 16385) ⌝ }
 {
-    if 16384 - at < entry_count(from, to) {
+    if tables::MOST_ENTRIES - at < entry_count(from, to) {
         return 16385;
     }
     put_cell(stack, from, to, head, out, at)
@@ -342,10 +342,10 @@ fn build_square(
     at: usize,
 ) -> usize
     requires { ⌜ Ready n from to (now table) (now shape) (now offsets) (now stack) × (Prepared n (now table) (now shape) (now offsets) × (Candidates n from to (now table) (now stack) s × Aligned s)) ⌝ }
-    requires { ⌜ (key ≡ squareKey s) × ((to + (17 - s .level) * n ≤ length (now stack)) × ((16384 ≤ length (now out)) × (at ≤ 16385))) ⌝ }
+    requires { ⌜ (key ≡ squareKey s) × ((to + (17 - s .level) * n ≤ length (now stack)) × ((maxEntries ≤ length (now out)) × (at ≤ 16385))) ⌝ }
     ensures { λ r. ⌜ Built (entriesIn (tableOf (now (table .entry)) n) s) at r to (now (out .entry)) (now (out .exit)) (now (stack .entry)) (now (stack .exit)) ⌝ }
 {
-    if 16384 < at {
+    if tables::MOST_ENTRIES < at {
         return 16385;
     }
     let f = frame_of(s);
@@ -377,7 +377,7 @@ fn build_square(
 
 // The numbers from 0 up to n.
 fn put_numbers(stack: &mut [u16], n: usize)
-    requires { ⌜ (n ≤ length (now stack)) × (n ≤ 512) ⌝ }
+    requires { ⌜ (n ≤ length (now stack)) × (n ≤ maxTriangles) ⌝ }
     ensures { λ r. ⌜ now (stack .exit) ≡ sets (now (stack .entry)) 0 (upTo n) ⌝ }
 {
     let mut i = 0;
@@ -396,10 +396,10 @@ pub fn build(
     stack: &mut [u16],
     out: &mut [u64],
 ) -> usize
-    requires { ⌜ ((n ≤ 512) × (6 * n ≤ length (now table))) × (all (λ t. proper t) (tableOf (now table) n) ≡ true) ⌝ }
-    requires { ⌜ ((28 * n ≤ length (now shape)) × (3 * n ≤ length (now offsets))) × ((18 * n ≤ length (now stack)) × (16384 ≤ length (now out))) ⌝ }
-    ensures { λ r. ⌜ (length (entriesOf (tableOf (now (table .entry)) n)) ≤ 16384 → (r ≡ length (entriesOf (tableOf (now (table .entry)) n))) × (now (out .exit) ≡ sets (now (out .entry)) 0 (map (λ e. packed e) (entriesOf (tableOf (now (table .entry)) n))))) ⌝ }
-    ensures { λ r. ⌜ (16384 < length (entriesOf (tableOf (now (table .entry)) n)) → r ≡ 16385) ⌝ }
+    requires { ⌜ ((n ≤ maxTriangles) × (numbersPerTriangle * n ≤ length (now table))) × (all (λ t. proper t) (tableOf (now table) n) ≡ true) ⌝ }
+    requires { ⌜ ((28 * n ≤ length (now shape)) × (3 * n ≤ length (now offsets))) × ((18 * n ≤ length (now stack)) × (maxEntries ≤ length (now out))) ⌝ }
+    ensures { λ r. ⌜ (length (entriesOf (tableOf (now (table .entry)) n)) ≤ maxEntries → (r ≡ length (entriesOf (tableOf (now (table .entry)) n))) × (now (out .exit) ≡ sets (now (out .entry)) 0 (map (λ e. packed e) (entriesOf (tableOf (now (table .entry)) n))))) ⌝ }
+    ensures { λ r. ⌜ (maxEntries < length (entriesOf (tableOf (now (table .entry)) n)) → r ≡ 16385) ⌝ }
 {
     shapes::prepare(table, n, shape, offsets);
     put_numbers(stack, n);

@@ -12,7 +12,7 @@ ghost use lib.ListN.{length};
 ghost use lib.Seq.{sets};
 ghost use mathlib.Core.List.{flatMap};
 ghost use Rattle.shapes.specs.Shape.{distance, atMost, chosen, sideShape, boxShape, shapeOf, sideOffset, offsetsOf, boxOf, InGrid, reachAt, baseAt, touchesAt, triangleMeetsAt, sideMeetsAt};
-ghost use Rattle.chart_spec.specs.Table.{triangleAt, tableOf};
+ghost use Rattle.chart_spec.specs.Table.{numbersPerTriangle, triangleAt, tableOf};
 
 // A box of the grid: left ≤ right ≤ 65536 and top ≤ bottom ≤ 65536.
 pub struct Frame {
@@ -110,20 +110,20 @@ fn put_offsets(offsets: &mut [u64], k: usize, a: Point, b: Point, c: Point)
 
 // Triangle i of the table, from its six numbers.
 fn put_triangle(table: &[u16], i: usize, shape: &mut [u16], offsets: &mut [u64])
-    requires { ⌜ (6 * i + 6 ≤ length (now table)) × ((28 * i + 28 ≤ length (now shape)) × (3 * i + 3 ≤ length (now offsets))) ⌝ }
+    requires { ⌜ (numbersPerTriangle * (i + 1) ≤ length (now table)) × ((28 * i + 28 ≤ length (now shape)) × (3 * i + 3 ≤ length (now offsets))) ⌝ }
     ensures { λ r. ⌜ now (shape .exit) ≡ sets (now (shape .entry)) (28 * i) (shapeOf (triangleAt (now (table .entry)) i)) ⌝ }
     ensures { λ r. ⌜ now (offsets .exit) ≡ sets (now (offsets .entry)) (3 * i) (offsetsOf (triangleAt (now (table .entry)) i)) ⌝ }
 {
-    let a = numbers::point_at(table, 6 * i);
-    let b = numbers::point_at(table, 6 * i + 2);
-    let c = numbers::point_at(table, 6 * i + 4);
+    let a = tables::point_at(table, tables::TRIANGLE_NUMBERS * i);
+    let b = tables::point_at(table, tables::TRIANGLE_NUMBERS * i + 2);
+    let c = tables::point_at(table, tables::TRIANGLE_NUMBERS * i + 4);
     put_shape(shape, 28 * i, a, b, c);
     put_offsets(offsets, 3 * i, a, b, c);
 }
 
 // The numbers of the first n triangles of a table.
 pub fn prepare(table: &[u16], n: usize, shape: &mut [u16], offsets: &mut [u64])
-    requires { ⌜ (6 * n ≤ length (now table)) × ((28 * n ≤ length (now shape)) × (3 * n ≤ length (now offsets))) ⌝ }
+    requires { ⌜ (numbersPerTriangle * n ≤ length (now table)) × ((28 * n ≤ length (now shape)) × (3 * n ≤ length (now offsets))) ⌝ }
     ensures { λ r. ⌜ now (shape .exit) ≡ sets (now (shape .entry)) 0 (flatMap (λ t. shapeOf t) (tableOf (now (table .entry)) n)) ⌝ }
     ensures { λ r. ⌜ now (offsets .exit) ≡ sets (now (offsets .entry)) 0 (flatMap (λ t. offsetsOf t) (tableOf (now (table .entry)) n)) ⌝ }
 {

@@ -1,8 +1,8 @@
 use mathlib.Core.Path.{refl}
 use Rattle.chart_spec.specs.Table.{pointAt}
 use borrow.Author.Needs.{needs}
-use Rattle.numbers.proofs.point_at.Statement.{statement}
-use Rattle.numbers.proofs.point_at.Tie as tie
+use Rattle.tables.proofs.point_at.Statement.{statement}
+use Rattle.tables.proofs.point_at.Tie as tie
 
 mul-t3 : tie.Need-mul-t3
 mul-t3 c = search needs

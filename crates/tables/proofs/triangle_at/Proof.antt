@@ -1,8 +1,8 @@
 use mathlib.Core.List.{[], _∷_}
 use Rattle.chart_spec.specs.Table.{triangleAt}
 use borrow.Author.Needs.{needs}
-use Rattle.numbers.proofs.triangle_at.Statement.{statement}
-use Rattle.numbers.proofs.triangle_at.Tie as tie
+use Rattle.tables.proofs.triangle_at.Statement.{statement}
+use Rattle.tables.proofs.triangle_at.Tie as tie
 
 mul-k : tie.Need-mul-k
 mul-k c = search needs
