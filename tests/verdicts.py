@@ -40,6 +40,8 @@ FACTS = {
     "simp": r"give a proof of that as the last argument, `simp L t`|`simp`: no equation of the list (can be applied|has an instance)",
     "cc": r"`cc`: the equations do not join ",
 }
+# the files of computed examples
+EXAMPLES = r"\w*Examples\.antt|MarkedCases\.antt"
 KEYWORDS = "as break const continue else enum fn for ghost if impl in let loop match mut pub return struct use while".split()
 TYPES = "bool u8 u16 u32 u64 usize i8 i16 i32 i64 isize".split()
 faults = []
@@ -147,13 +149,13 @@ def replacements(label):
     folders = {file.split("/")[0] for file, _, _ in found}
     if not found or old is not None or folders == {"proofs"} or folders >= {"proofs", "src"}:
         faults.append(f"must-fail {label}: not old and new texts of src/, of specs/, or of specs/ and a proof that goes with it")
-    if any(re.match(r"proofs/.*(Example|Case)", file) for file, _, _ in found):
+    if any(re.fullmatch(EXAMPLES, os.path.basename(file)) for file, _, _ in found):
         faults.append(f"must-fail {label}: it changes an example")
     return found, proved
 
 
 def failing(label):
-    """The laws at which an edit was refused, each with the kind of its fact; none when the first is at no fact."""
+    """The places at which an edit was refused, file and law, each with the kind of its fact; none when the first is at no fact."""
     path = os.path.join(LEFT, label, ".log")
     if not os.path.isfile(path):
         faults.append(f"must-fail {label}: no log")
@@ -162,10 +164,10 @@ def failing(label):
     for line in read(path).split("\n"):
         if not re.match(r"error|\S+:\d+:\d+: error", line):
             continue
-        error = re.match(r"\S+:\d+:\d+: error: `([^`]+)`: (.*)", line)
-        kinds = [kind for kind, pattern in FACTS.items() if error and re.match(pattern, error.group(2))]
+        error = re.match(r"(\S+?):\d+:\d+: error: `([^`]+)`: (.*)", line)
+        kinds = [kind for kind, pattern in FACTS.items() if error and re.match(pattern, error.group(3))]
         if kinds:
-            found.append((error.group(1), kinds[0]))
+            found.append((os.path.basename(error.group(1)), error.group(2), kinds[0]))
         elif not found:
             faults.append(f"must-fail {label}: refused, but not at a fact: {line[:400]}")
             return []
@@ -198,12 +200,12 @@ def changed(before, after):
 
 
 def judge_edit(label):
-    (pairs, proved), laws = replacements(label), failing(label)
+    (pairs, proved), places = replacements(label), failing(label)
     if all(old == new for _, old, new in pairs):
         faults.append(f"must-fail {label}: it changes nothing")
-    if not laws:
+    if not places:
         return
-    law, kind = laws[0]
+    _, law, kind = places[0]
     before, after = collections.Counter(), collections.Counter()
     for file, old, new in pairs:
         if file.startswith("src/"):
@@ -213,7 +215,7 @@ def judge_edit(label):
         last = pairs[-1][2]
         if not proved or proved == last or code_shape(proved, False) != code_shape(last, False):
             faults.append(f"must-fail {label}: other operators or calls: {changed(before, after)} (refused at {law}: {kind})")
-    examples = [law for law, kind in laws if kind == "types" and re.search("-example$|^marked-cases$", law)]
+    examples = [law for file, law, kind in places if kind == "types" and re.fullmatch(EXAMPLES, file)]
     if any(file.startswith("specs/") for file, _, _ in pairs) and not examples:
         faults.append(f"must-fail {label}: no computed example fails (refused at {law}: {kind})")
 
