@@ -33,12 +33,12 @@ WORDS = r"functions=\d+|axioms=2|target=x86_64-unknown-linux-gnu|sum=[0-9a-f]+|n
 AXIOMS = "axioms libc: libc::read, libc::write (2 of the "
 # why a fact fails, as the first error says after its name
 FACTS = {
-    "types": r"(as printed|computed as far as they go), the two (types|values) (first differ|differ only|are) |expected type `",
+    "types": r"(as printed|computed as far as they go), the two (types|values|sides|indices) (first differ|differ only|are) |expected type `",
     "omega": r"`omega`: .*does not follow from what it read",
     "search": r"`search`: no proof of ",
     "rw": r"give a proof of that as the last argument, `rw L t`|`rw`: no occurrence of the path's (left|right) endpoint in ",
     "simp": r"give a proof of that as the last argument, `simp L t`|`simp`: no equation of the list (can be applied|has an instance)",
-    "cc": r"`cc`: the equations do not join ",
+    "cc": r"`cc`: the equations do not join |list the missing equation with its arguments, or rewrite by `rw` or `simp`",
 }
 # the files of computed examples
 EXAMPLES = r"\w*Examples\.antt|MarkedCases\.antt"
