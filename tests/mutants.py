@@ -158,7 +158,7 @@ def expressions(right):
     """(role, run of items, item before the brackets around it) of each expression, label, pattern, binder and type."""
     before = {id(i): previous for group in [right, *(g.items for g in brackets_in(right))] for previous, i in zip([None] + group, group)}
     for bracket, items in [(None, right), *((g, g.items) for g in brackets_in(right))]:
-        run, role = [], "expression"
+        run, role = [], "binder" if bracket and bracket.bracket == "(" and any(i.text == ":" for i in items) else "expression"
         for item in items + [Item(";", 0, 0)]:
             word = item.text
             if not (word in ("λ", "let", "=", "↦", ";", ",", "|", "in") or word in (".", ":") and role == "binder"):
@@ -196,7 +196,7 @@ class Names:
     """What the sources say of names: the next constructor or definition of the same type, records, Bool functions, numbers."""
 
     def __init__(self):
-        self.after, self.records, self.constructors = {}, [], {"zero", "true", "false", "none"}
+        self.after, self.records, self.constructors = {}, [], {"zero", "true", "false", "none", "some"}
         self.bools, self.numbers, self.takes = COMPARISONS | {"eqb"}, set(), {}
         for path in sources(".antt", "specs"):
             text, same = read(path), collections.defaultdict(list)
@@ -621,13 +621,13 @@ def main():
     with tempfile.TemporaryDirectory(prefix="mutants-") as work:
         places = prepare(work, crates, [c for c in chosen if any(m.crate == c for m in todo)], o.jobs)
         run.say(f"the crates are proved as they stand; {len(todo)} mutants to judge")
-        batches = []
-        for m in todo:
+        shown = [c for c in chosen if any(EXAMPLES.search(p) for p in sources(".antt", "proofs", ROOT, c))]
+        batches, left = [], [m for m in todo if m.crate not in shown]
+        for m in [m for m in todo if m.crate in shown]:
             if not batches or batches[-1][0].file != m.file or len(batches[-1]) == AT_ONCE:
                 batches.append([])
             batches[-1].append(m)
-        has_examples = lambda c: any(EXAMPLES.search(p) for p in sources(".antt", "proofs", ROOT, c))
-        left = run.each("examples", places, batches, lambda p, batch: has_examples(batch[0].crate) and p.screen(batch))
+        left += run.each("examples", places, batches, lambda p, batch: p.screen(batch))
         left = run.each("own crate", places, [[m] for m in left], lambda p, batch: p.judge(batch[0], None))
         reach, order = Reach(places[0].root, crates), list(crates)
         for p in places if left else ():
