@@ -33,6 +33,7 @@ import signal
 import subprocess
 import sys
 import tempfile
+import threading
 import time
 
 ROOT = os.path.dirname(os.path.dirname(os.path.abspath(__file__)))
@@ -546,7 +547,7 @@ def add_cases(work, places, crates):
 class Run:
     def __init__(self, out, minutes):
         self.began, self.out, self.judged = time.time(), out, []
-        self.until = self.began + 60 * minutes
+        self.until, self.lock = self.began + 60 * minutes, threading.Lock()
 
     def say(self, text):
         print(f"[{time.time() - self.began:.0f} s] {text}", flush=True)
@@ -567,14 +568,15 @@ class Run:
                 place = free.get()
                 work(place, batch)
                 free.put(place)
-                for m in batch:
-                    done.append(m)
-                    left = (time.time() - start) / len(done) * (total - len(done))
-                    verdict = f"{m.verdict} {m.where}" if m.verdict else "passes " + " ".join(m.passed)
-                    went = f"{step}, {len(done)} of {total}, about {left:.0f} s left"
-                    self.say(f"{went}: {m.file}:{m.line} {m.definition}: {m.shown}: {verdict}")
-                    self.judged += [m] if m.verdict and m not in self.judged else []
-                self.save()
+                with self.lock:
+                    for m in batch:
+                        done.append(m)
+                        left = (time.time() - start) / len(done) * (total - len(done))
+                        verdict = f"{m.verdict} {m.where}" if m.verdict else "passes " + " ".join(m.passed)
+                        went = f"{step}, {len(done)} of {total}, about {left:.0f} s left"
+                        self.say(f"{went}: {m.file}:{m.line} {m.definition}: {m.shown}: {verdict}")
+                    self.judged += [m for m in batch if m.verdict]
+                    self.save()
 
         with concurrent.futures.ThreadPoolExecutor(len(places)) as pool:
             list(pool.map(one, batches))
@@ -602,6 +604,8 @@ def main():
     if lost:
         sys.exit("tests/mutants-same.tsv has rows that name no mutant:\n" + "\n".join("\t".join(k) for k in sorted(lost)))
     chosen = o.crates.split(",") if o.crates else list(crates)
+    if not set(chosen) <= set(crates):
+        sys.exit("no such library: " + " ".join(set(chosen) - set(crates)))
     mutants = [m for m in mutants if m.crate in chosen and re.search(o.only, m.file + " " + m.definition)]
     known = [m for m in mutants if m.key in same]
     definitions = {(m.file, m.definition) for m in mutants}
