@@ -41,7 +41,7 @@ SAME = os.path.join(ROOT, "tests", "mutants-same.tsv")
 CASES = ["7", "4"]  # seed and count of the executed cases
 AT_ONCE = 24  # mutants in one check of the examples
 LIMIT = 900  # seconds for one check
-EXAMPLES = re.compile(r"/proofs/\w*(Examples|MarkedCases|Cases)\.antt")
+EXAMPLES = re.compile(r"/proofs/\w*(Examples|MarkedCases|Cases|Evaluate)\.antt")
 
 # ---- reading definitions
 
