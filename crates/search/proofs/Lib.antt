@@ -4,3 +4,4 @@ pub mod MarkLaws
 pub mod ListingLaws
 pub mod PointLaws
 pub mod PlaceLaws
+pub mod Examples
