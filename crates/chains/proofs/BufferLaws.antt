@@ -1,20 +1,22 @@
--- The chain rule of a chart from its three parts, and the lengths of buffers that are not too short.
+-- The chain rule of a chart from its two parts, and the lengths of buffers that are not too short.
 -- Assumes nothing.
-use mathlib.Core.Path.{_≡_, refl}
-use mathlib.Core.Bool.{Bool, true, false, true≢false, _&&_, _||_}
-use Prim.Native.Nat.{ℕ, _≤_}
-use borrow.Author.Tests.{ltb-false}
-use lib.Dec.{T, ltb}
+use mathlib.Core.Path.{_≡_, refl, sym, _∙_}
+use mathlib.Core.Bool.{Bool, true, false, true≢false, _&&_, _||_, and-true}
+use mathlib.Core.List.{List}
+use Prim.Native.Nat.{ℕ, zero, suc, _≤_, _<_}
+use native.Mathlib.Omega.{arith}
+use borrow.Author.Tests.{ltb-false, le-leb, lt-leb}
+use lib.Dec.{T, leb, ltb}
 use lib.ListN.{length, take}
 use Rattle.lists.specs.Lists.{all}
-use Rattle.lists.proofs.Reflects.{Reflects, reflects-and₃, reflects-leb, reflects-test, test-true}
+use Rattle.lists.proofs.Reflects.{reflects-and, reflects-leb, reflects-test, test-true}
 use Rattle.lists.proofs.ListsLaws.{Every, all-reflects}
-use Rattle.orthtree.specs.Entries.{chain}
+use Rattle.orthtree.specs.Entries.{Entry, chain}
 use Rattle.plane.specs.Triangle.{proper}
 use Rattle.squares.specs.Square.{arity, depth}
 use Rattle.chart_spec.specs.Table.{tableOf, tableLength, maxTriangles}
 use Rattle.chart_spec.specs.Cells.{maxEntries}
-use Rattle.call_spec.specs.Buffers.{Chart, tooShort, zipEntries, chartTable, chartEntries, countsFit, chainRule}
+use Rattle.call_spec.specs.Buffers.{Chart, tooShort, zipEntries, chartTable, chartEntries, tableRule, entryCountFits, entriesRule, chainRule}
 
 -- each list of the chart is long enough
 pub record LongEnough (c : Chart) : Type 0 where
@@ -44,20 +46,44 @@ long-enough c h =
       items = ltb-false (length (c .items)) maxEntries (p .1);
     }
 
-pub counts-reflects : (n m : ℕ) → Reflects (countsFit n m) ((n ≤ maxTriangles) × ((1 ≤ m) × (m ≤ maxEntries)))
-unfolding countsFit
-counts-reflects n m = reflects-and₃ (reflects-leb n maxTriangles) (reflects-leb 1 m) (reflects-leb m maxEntries)
+-- ---- the table's part of the chain rule
 
-pub rule-counts : (c : Chart) → countsFit (c .triangleCount) (c .entryCount) ≡ false → false ≡ chainRule c
+-- more than 512 triangles
+pub table-many : (ns : List ℕ) (n : ℕ) → maxTriangles < n → false ≡ tableRule ns n
+unfolding tableRule
+table-many ns n h = rw (lt-leb n maxTriangles h)
+
+-- else each triangle's D decides
+pub table-proper : (ns : List ℕ) (n : ℕ) → n ≤ maxTriangles → {b : Bool} → b ≡ all (λ t. proper t) (tableOf ns n) → b ≡ tableRule ns n
+unfolding tableRule
+table-proper ns n h e = rw (le-leb n maxTriangles h, e)
+
+-- ---- the entries' part
+
+-- more than 16,384 entries
+pub entries-many : (c : Chart) → maxEntries < c .entryCount → false ≡ entriesRule c
+unfolding entriesRule entryCountFits
+entries-many c h = rw (le-leb 1 (c .entryCount) (omega arith), lt-leb (c .entryCount) maxEntries h)
+
+-- no entries are no chain, so their number need not be looked at again
+count-chain : (n k : ℕ) (es : List Entry) → leb 1 n && chain arity depth k (take n es) ≡ chain arity depth k (take n es)
+unfolding chain
+count-chain zero k es = refl
+count-chain (suc n) k es = rw (le-leb 1 (suc n) (omega arith)) refl
+
+-- else the chain decides
+pub entries-chained : (c : Chart) → c .entryCount ≤ maxEntries → {b : Bool}
+    → b ≡ chain arity depth (c .triangleCount) (take (c .entryCount) (zipEntries (c .keys) (c .levels) (c .items))) → b ≡ entriesRule c
+unfolding entriesRule entryCountFits chartEntries
+entries-chained c h e =
+    rw (le-leb (c .entryCount) maxEntries h, and-true (leb 1 (c .entryCount)))
+    (e ∙ sym (count-chain (c .entryCount) (c .triangleCount) (zipEntries (c .keys) (c .levels) (c .items))))
+
+-- ---- both
+
+pub rule-joined : (c : Chart) → {p q : Bool} → p ≡ tableRule (c .table) (c .triangleCount) → q ≡ entriesRule c → p && q ≡ chainRule c
 unfolding chainRule
-rule-counts c h = rw h
-
-pub rule-joined : (c : Chart) → countsFit (c .triangleCount) (c .entryCount) ≡ true → {p q : Bool}
-    → p ≡ all (λ t. proper t) (tableOf (c .table) (c .triangleCount))
-    → q ≡ chain arity depth (c .triangleCount) (take (c .entryCount) (zipEntries (c .keys) (c .levels) (c .items)))
-    → p && q ≡ chainRule c
-unfolding chainRule chartTable chartEntries
-rule-joined c h p q = rw (h, p, q)
+rule-joined c p q = rw (p, q)
 
 -- what the chain rule says of a chart
 pub record Ruled (c : Chart) : Type 0 where
@@ -68,11 +94,12 @@ pub record Ruled (c : Chart) : Type 0 where
   pub chained : T (chain arity depth (c .triangleCount) (chartEntries c))
 
 pub ruled : (c : Chart) → chainRule c ≡ true → Ruled c
-unfolding chainRule
+unfolding chainRule tableRule entriesRule entryCountFits chartTable
 ruled c e =
-    let q = all-reflects (λ t. proper t) (λ t. reflects-test (proper t)) (chartTable c) in
+    let q = all-reflects (λ t. proper t) (λ t. reflects-test (proper t)) (tableOf (c .table) (c .triangleCount)) in
     let r =
-    reflects-and₃ (counts-reflects (c .triangleCount) (c .entryCount)) q
-    (reflects-test (chain arity depth (c .triangleCount) (chartEntries c))) in
+    reflects-and (reflects-and (reflects-leb (c .triangleCount) maxTriangles) q)
+    (reflects-and (reflects-and (reflects-leb 1 (c .entryCount)) (reflects-leb (c .entryCount) maxEntries))
+    (reflects-test (chain arity depth (c .triangleCount) (chartEntries c)))) in
     let p = r .to (rw e tt) in
-    record { triangles = p .0 .0; entries = p .0 .1 .1; allProper = test-true (q .from (p .1 .0)); good = p .1 .0; chained = p .1 .1 }
+    record { triangles = p .0 .0; entries = p .1 .0 .1; allProper = test-true (q .from (p .0 .1)); good = p .0 .1; chained = p .1 .1 }

@@ -5,6 +5,7 @@
 
 ghost use mathlib.Core.Path.{_≡_};
 ghost use mathlib.Core.Bool.{true, false, _||_};
+ghost use mathlib.Core.List.{List};
 ghost use Prim.Native.Nat.{ℕ, _+_, _*_, _≤_};
 ghost use lib.Dec.{leb, eqb};
 ghost use lib.ListN.{length, getD, take};
@@ -12,8 +13,9 @@ ghost use Rattle.lists.specs.Lists.{all, upTo};
 ghost use Rattle.orthtree.specs.Entries.{span, chain};
 ghost use Rattle.plane.specs.Triangle.{proper};
 ghost use Rattle.squares.specs.Square.{arity, depth};
-ghost use Rattle.chart_spec.specs.Table.{numbersPerTriangle, tableOf};
-ghost use Rattle.call_spec.specs.Buffers.{zipEntries, tooShort, chainRule, chartOf};
+ghost use Rattle.chart_spec.specs.Table.{numbersPerTriangle, tableOf, tableLength};
+ghost use Rattle.chart_spec.specs.Cells.{maxEntries};
+ghost use Rattle.call_spec.specs.Buffers.{zipEntries, tooShort, tableRule, entriesRule, chainRule, chartOf};
 ghost use Rattle.chains.specs.Links.{entry, itemFits, linked, linkedAt, endsTree};
 
 // Each of the first n triangles has D > 0.
@@ -186,6 +188,28 @@ pub fn too_short(table: &[u16], keys: &[u32], levels: &[u8], items: &[u16]) -> b
         | (items.len() < tables::MOST_ENTRIES)
 }
 
+// The table's part of the chain rule: at most 512 triangles, each with D > 0.
+pub fn table_rule(table: &[u16], count: usize) -> bool
+    requires { ⌜ tableLength ≤ length (now table) ⌝ }
+    ensures { λ o. ⌜ o ≡ tableRule (now (table .entry)) count ⌝ }
+{
+    if count > tables::MOST_TRIANGLES {
+        return false;
+    }
+    all_proper(table, count)
+}
+
+// The entries' part: 1 to 16,384 of them, which are a chain.
+pub fn entries_rule(keys: &[u32], levels: &[u8], items: &[u16], count: usize, n: usize) -> bool
+    requires { ⌜ (maxEntries ≤ length (now keys)) × ((maxEntries ≤ length (now levels)) × (maxEntries ≤ length (now items))) ⌝ }
+    ensures { λ o. ⌜ ((table : List ℕ) → o ≡ entriesRule (chartOf table (now (keys .entry)) (now (levels .entry)) (now (items .entry)) count n)) ⌝ }
+{
+    if n > tables::MOST_ENTRIES {
+        return false;
+    }
+    chain_holds(keys, levels, items, count, n)
+}
+
 // The chain rule, for any counts.
 pub fn chain_rule(
     table: &[u16],
@@ -198,14 +222,5 @@ pub fn chain_rule(
     requires { ⌜ tooShort (chartOf (now table) (now keys) (now levels) (now items) count n) ≡ false ⌝ }
     ensures { λ o. ⌜ o ≡ chainRule (chartOf (now (table .entry)) (now (keys .entry)) (now (levels .entry)) (now (items .entry)) count n) ⌝ }
 {
-    if count > tables::MOST_TRIANGLES {
-        return false;
-    }
-    if n == 0 {
-        return false;
-    }
-    if n > tables::MOST_ENTRIES {
-        return false;
-    }
-    all_proper(table, count) & chain_holds(keys, levels, items, count, n)
+    table_rule(table, count) & entries_rule(keys, levels, items, count, n)
 }

@@ -14,14 +14,14 @@ use Rattle.orthtree.specs.Entries.{chain}
 use Rattle.plane.specs.declared.Point.{Point}
 use Rattle.plane.specs.Triangle.{holds}
 use Rattle.squares.specs.Square.{arity, depth}
-use Rattle.chart_spec.specs.Table.{triangleAt, numbered}
+use Rattle.chart_spec.specs.Table.{triangleAt, numbered, numbersPerTriangle}
 use Rattle.chart_spec.specs.Refusals.{shortBuffer, brokenChain, done, refuseIf, outcomeNumber, doneOr}
 use Rattle.chart_spec.specs.Reading.{listing, located}
 use Rattle.chart_laws.proofs.TableLaws.{numbered-at}
 use Rattle.chart_laws.proofs.LocateOfChain.{listed-below}
 use Rattle.call_spec.specs.Buffers.{Chart, tooShort, zipEntries, chainRule, chartTable, chartEntries}
 use Rattle.call_spec.specs.Calls as Calls
-use Rattle.call_spec.specs.Calls.{reading, locateCall, listingCall}
+use Rattle.call_spec.specs.Calls.{reading, ifLong, ifChained, locateCall, listingCall}
 use Rattle.chains.proofs.BufferLaws.{long-enough, ruled}
 use Rattle.search.specs.Place.{listedPlaces}
 use Rattle.answers.specs.declared.Located.{Located}
@@ -68,7 +68,7 @@ found-of (some i) = refl
 module _ (c : Chart) (p : Point) where
   -- a list that is read is empty at both refusals
   read-refused : (l : List ℕ) → readable c ≡ false → [] ≡ doneOr [] (reading c l)
-  unfolding readable reading refuseIf doneOr
+  unfolding readable reading ifChained ifLong refuseIf doneOr
   read-refused l h = go (tooShort c) (chainRule c) h
     where
       go : (s r : Bool) → not s && r ≡ false → [] ≡ doneOr [] (refuseIf s shortBuffer (refuseIf (not r) brokenChain (done l)))
@@ -88,19 +88,19 @@ module _ (c : Chart) (p : Point) where
 
   -- locate at refusal 1
   pub locate-short : tooShort c ≡ true → _≡_ {A = Calls.Located} (locatedOf locations.ShortBuffer) (locateCall c p)
-  unfolding locateCall reading refuseIf doneOr outcomeNumber
+  unfolding locateCall reading ifChained ifLong refuseIf doneOr outcomeNumber
   locate-short s = rw s
 
   module _ (s : tooShort c ≡ false) where
     -- locate at refusal 2
     pub locate-broken : chainRule c ≡ false → _≡_ {A = Calls.Located} (locatedOf locations.BrokenChain) (locateCall c p)
-    unfolding locateCall reading refuseIf doneOr outcomeNumber
+    unfolding locateCall reading ifChained ifLong refuseIf doneOr outcomeNumber
     locate-broken r = rw (s, r)
 
     module _ (r : chainRule c ≡ true) where
       -- the table has the listed triangles
       pub table-holds : {l : List ℕ} → l ≡ listing (chartEntries c) p
-          → (6 * c .triangleCount ≤ length (c .table)) × ((k : ℕ) → k < length l → getD l k 0 < c .triangleCount)
+          → (numbersPerTriangle * c .triangleCount ≤ length (c .table)) × ((k : ℕ) → k < length l → getD l k 0 < c .triangleCount)
       table-holds {l} e =
           let long = long-enough c s in
           let rule = ruled c r in
@@ -109,12 +109,12 @@ module _ (c : Chart) (p : Point) where
 
       -- cell listing gives the cell's numbers
       pub listing-done : listing (chartEntries c) p ≡ listingCall c p
-      unfolding listingCall reading refuseIf doneOr
+      unfolding listingCall reading ifChained ifLong refuseIf doneOr
       listing-done = rw (s, r)
 
       -- from the places of the cell's entries
       pub places-done : listedPlaces (chartEntries c) p ≡ placesCall c p
-      unfolding placesCall reading refuseIf doneOr
+      unfolding placesCall reading ifChained ifLong refuseIf doneOr
       places-done = rw (s, r)
 
       -- the triangles tested are read from the table's numbers
@@ -126,7 +126,7 @@ module _ (c : Chart) (p : Point) where
 
       -- locate gives the number 0 and what the definition finds
       pub located-done : _≡_ {A = Calls.Located} (record { number = 0; found = located (chartTable c) (chartEntries c) p }) (locateCall c p)
-      unfolding locateCall reading refuseIf doneOr outcomeNumber
+      unfolding locateCall reading ifChained ifLong refuseIf doneOr outcomeNumber
       located-done = rw (s, r)
 
       -- so does the first listed triangle that holds the point

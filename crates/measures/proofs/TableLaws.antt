@@ -10,7 +10,7 @@ use Rattle.lists.specs.Lists.{all, upTo}
 use Rattle.lists.proofs.Reflects.{test-true}
 use Rattle.lists.proofs.IndexLaws.{all-map, all-below-at, all-below-fewer}
 use Rattle.plane.specs.Triangle.{proper}
-use Rattle.chart_spec.specs.Table.{triangleAt, tableOf}
+use Rattle.chart_spec.specs.Table.{triangleAt, tableOf, maxTriangles, numbersPerTriangle}
 use Rattle.call_spec.specs.Buffers.{Chart, tooShort, chartTable, chainRule}
 use Rattle.chains.proofs.BufferLaws.{long-enough, ruled}
 
@@ -29,8 +29,8 @@ proper-fewer ns m n h l = all-proper ns m ∙ all-below-fewer (λ k. proper (tri
 
 -- the table of a chart whose buffers are long enough and hold to the chain rule
 pub record Held (c : Chart) : Type 0 where
-  pub few : c .triangleCount ≤ 512
-  pub room : 6 * c .triangleCount ≤ length (c .table)
+  pub few : c .triangleCount ≤ maxTriangles
+  pub room : numbersPerTriangle * c .triangleCount ≤ length (c .table)
   pub good : all (λ t. proper t) (chartTable c) ≡ true
 
 -- it follows from refusals 1 and 2

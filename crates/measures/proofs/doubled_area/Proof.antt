@@ -3,7 +3,7 @@ use borrow.Author.Needs.{needs}
 use borrow.Author.Tests.{not-true, not-false}
 use Rattle.chart_spec.specs.Refusals.{refuseIf}
 use Rattle.call_spec.specs.Buffers.{chartOf, chartTable}
-use Rattle.call_spec.specs.Calls.{reading, areaCall}
+use Rattle.call_spec.specs.Calls.{reading, ifLong, ifChained, areaCall}
 use Rattle.measures.proofs.TableLaws.{rule-held}
 use Rattle.measures.proofs.doubled_area.Statement.{statement}
 use Rattle.measures.proofs.doubled_area.Tie as tie
@@ -12,7 +12,7 @@ too-short-requires : tie.Need-too-short-requires
 too-short-requires c κs = search needs
 
 returns : tie.Need-returns
-unfolding areaCall reading refuseIf
+unfolding areaCall reading ifChained ifLong refuseIf
 returns c =
     let a = c .before .before .before .before .before .before .args in
     rw (sym (c .before .too-short .ensures (a .triangles) (a .entries)) ∙ c .if1 .taken)
@@ -23,7 +23,7 @@ chain-rule-requires c κs =
     sym (c .before .too-short .ensures (a .triangles) (a .entries)) ∙ c .if1 .left
 
 returns-2 : tie.Need-returns-2
-unfolding areaCall reading refuseIf
+unfolding areaCall reading ifChained ifLong refuseIf
 returns-2 c =
     let a = c .before .before .before .before .before .before .before .before .args in
     let call = c .before .chain-rule in
@@ -43,7 +43,7 @@ sum-requires c κs =
     ((h .few, h .room), h .good)
 
 returns-3 : tie.Need-returns-3
-unfolding areaCall reading refuseIf chartTable
+unfolding areaCall reading ifChained ifLong refuseIf chartTable
 returns-3 c =
     let a = c .before .before .before .before .before .before .before .before .before .args in
     let call = c .before .before .chain-rule in

@@ -3,7 +3,7 @@ use borrow.Author.Needs.{needs}
 use borrow.Author.Tests.{not-true, not-false}
 use Rattle.chart_spec.specs.Refusals.{refuseIf}
 use Rattle.call_spec.specs.Buffers.{chartOf, chartTable}
-use Rattle.call_spec.specs.Calls.{reading, soundCall}
+use Rattle.call_spec.specs.Calls.{reading, ifLong, ifChained, soundCall}
 use Rattle.measures.proofs.TableLaws.{rule-held}
 use Rattle.measures.proofs.soundness.Statement.{statement}
 use Rattle.measures.proofs.soundness.Tie as tie
@@ -12,7 +12,7 @@ too-short-requires : tie.Need-too-short-requires
 too-short-requires c κs = search needs
 
 returns : tie.Need-returns
-unfolding soundCall reading refuseIf
+unfolding soundCall reading ifChained ifLong refuseIf
 returns c =
     let a = c .before .before .before .before .before .before .args in
     rw (sym (c .before .too-short .ensures (a .triangles) (a .entries)) ∙ c .if1 .taken)
@@ -23,7 +23,7 @@ chain-rule-requires c κs =
     sym (c .before .too-short .ensures (a .triangles) (a .entries)) ∙ c .if1 .left
 
 returns-2 : tie.Need-returns-2
-unfolding soundCall reading refuseIf
+unfolding soundCall reading ifChained ifLong refuseIf
 returns-2 c =
     let a = c .before .before .before .before .before .before .before .before .args in
     let call = c .before .chain-rule in
@@ -43,7 +43,7 @@ all-apart-requires c κs =
     (h .room, h .good)
 
 returns-3 : tie.Need-returns-3
-unfolding soundCall reading refuseIf chartTable
+unfolding soundCall reading ifChained ifLong refuseIf chartTable
 returns-3 c =
     let a = c .before .before .before .before .before .before .before .before .before .before .args in
     let call = c .before .before .before .chain-rule in
@@ -54,7 +54,7 @@ returns-3 c =
     )
 
 returns-4 : tie.Need-returns-4
-unfolding soundCall reading refuseIf chartTable
+unfolding soundCall reading ifChained ifLong refuseIf chartTable
 returns-4 c =
     let a = c .before .before .before .before .before .before .before .before .before .before .args in
     let call = c .before .before .before .chain-rule in
