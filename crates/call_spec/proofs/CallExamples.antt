@@ -1,23 +1,22 @@
--- Examples of Calls.antt and History.antt: every refusal, the order in which they are judged, accepted edits of each kind, and
--- overlays of two different charts. What an example does not depend on is any list, chart, edit or event.
+-- Examples of Calls.antt and History.antt beside those in Examples.antt: every refusal, the order in which they are judged,
+-- accepted edits of each kind, and overlays of two different charts. What an example does not depend on is any list, chart, edit or event.
 -- Assumes nothing.
 use mathlib.Core.Path.{_≡_, refl}
 use mathlib.Core.Bool.{Bool, true, false}
 use mathlib.Core.List.{List, [], _∷_, _++_, map}
-use mathlib.Core.Option.{Option, none, some}
 use Prim.Native.Nat.{ℕ}
 use lib.ListN.{take, replicate}
 use Rattle.plane.specs.declared.Point.{Point}
 use Rattle.plane.specs.Triangle.{Triangle}
 use Rattle.chart_spec.specs.Table.{Table}
-use Rattle.chart_spec.specs.Refusals.{Refusal, shortBuffer, brokenChain, staleEntries, noFlip, Outcome, refused, done, tooManyPairs, andThen}
+use Rattle.chart_spec.specs.Refusals.{Refusal, shortBuffer, brokenChain, staleEntries, Outcome, refused, done, tooManyPairs, andThen}
 use Rattle.chart_spec.specs.Edits.{Event, load, split, takeOut, flip, eventOn, withinLimit}
 use Rattle.chart_spec.specs.Overlay.{OverlayAnswer}
 use Rattle.chart_spec.proofs.MarkedCases.{at}
 use Rattle.chart_spec.proofs.RefusalsExamples.{rows}
 use Rattle.chart_spec.proofs.EditExamples.{tri}
 use Rattle.call_spec.specs.Buffers.{Chart, chartOf, indexedChart}
-use Rattle.call_spec.specs.Calls.{Changed, Overlaid, changedBy, loadCall, editCall, splitCall, takeOutCall, flipCall, reading, locateCall, listingCall, soundCall, areaCall, pairsRefused, overlaidBy, overlayCall}
+use Rattle.call_spec.specs.Calls.{Changed, Overlaid, changedBy, loadCall, editCall, splitCall, takeOutCall, flipCall, reading, soundCall, pairsRefused, overlaidBy, overlayCall}
 use Rattle.call_spec.specs.History.{eventCall, chartAfter}
 use Rattle.call_spec.proofs.Evaluate.{evaluate}
 
@@ -118,7 +117,7 @@ editCall-example : (edit : Table → Outcome Table)
 unfolding evaluate
 editCall-example edit = refl
 
--- a split: the new table and its entries; then the point is taken out again
+-- a split: the numbers and the new table
 abbrev splitU : Changed
 unfolding evaluate
 splitU = splitCall 0 (at 20000 10000) chartU
@@ -127,10 +126,6 @@ splitCall-example : splitU .number ∷ splitU .value ∷ splitU .chart .triangle
     ≡ 0 ∷ 0 ∷ 3 ∷ 0 ∷ 0 ∷ 65535 ∷ 0 ∷ 20000 ∷ 10000 ∷ 65535 ∷ 0 ∷ 0 ∷ 65535 ∷ 20000 ∷ 10000 ∷ 0 ∷ 65535 ∷ 0 ∷ 0 ∷ 20000 ∷ 10000 ∷ 0 ∷ []
 unfolding evaluate
 splitCall-example = refl
-
-takeOutCall-example : takeOutCall (at 20000 10000) (splitU .chart) ≡ record { number = 0; value = 0; chart = chartU }
-unfolding evaluate
-takeOutCall-example = refl
 
 -- flips of 0 and 1 and of 1 and 0 differ
 abbrev flipped : Changed → List ℕ
@@ -150,26 +145,11 @@ reading-example : (a : ℕ) → map (λ c. reading c a) (short ∷ broken ∷ st
 unfolding evaluate
 reading-example a = refl
 
--- a stale chart is read as it stands: the point is in V, but in a cell that lists nothing
-locateCall-example : map (λ c. locateCall c (at 60000 50000)) (stale ∷ chartUV ∷ short ∷ broken ∷ [])
-    ≡ record { number = 0; found = none } ∷ record { number = 0; found = some 1 } ∷ record { number = 1; found = none } ∷ record { number = 2; found = none } ∷ []
-unfolding evaluate
-locateCall-example = refl
-
-listingCall-example : map (λ c. listingCall c (at 1 65535)) (chartUV ∷ stale ∷ short ∷ broken ∷ []) ≡ (0 ∷ 1 ∷ []) ∷ (0 ∷ []) ∷ [] ∷ [] ∷ []
-unfolding evaluate
-listingCall-example = refl
-
 -- U twice, in one cell, is not sound
 soundCall-example : map (λ c. soundCall c) (chartUV ∷ filled (numbersU ++ numbersU) (0 ∷ []) (0 ∷ []) (65535 ∷ []) 2 1 ∷ short ∷ broken ∷ [])
     ≡ record { number = 0; isSound = true } ∷ record { number = 0; isSound = false } ∷ record { number = 1; isSound = false } ∷ record { number = 2; isSound = false } ∷ []
 unfolding evaluate
 soundCall-example = refl
-
-areaCall-example : map (λ c. areaCall c) (chartUV ∷ chartU ∷ short ∷ broken ∷ [])
-    ≡ record { number = 0; area = 8589672450 } ∷ record { number = 0; area = 4294836225 } ∷ record { number = 1; area = 0 } ∷ record { number = 2; area = 0 } ∷ []
-unfolding evaluate
-areaCall-example = refl
 
 -- Overlay
 
@@ -207,22 +187,6 @@ overlayCall-example :
     ≡ (0 ∷ 1 ∷ 7 ∷ 0 ∷ 0 ∷ 0 ∷ 0 ∷ 0 ∷ []) ∷ (0 ∷ 1 ∷ 7 ∷ 0 ∷ 1 ∷ 0 ∷ 0 ∷ 0 ∷ []) ∷ (0 ∷ 1 ∷ 7 ∷ 1 ∷ 0 ∷ 0 ∷ 0 ∷ 0 ∷ []) ∷ []
 unfolding evaluate
 overlayCall-example = refl
-
--- a short chart on either side, short pairs; then a broken chart on either side; 1 before 2
-overlayCall-refused-example :
-    map (λ r. r .number)
-    (overlayCall short chartU (replicate 8192 7)
-    ∷ overlayCall chartU short (replicate 8192 7)
-    ∷ overlayCall chartU chartU (replicate 8191 7)
-    ∷ overlayCall broken chartU (replicate 8192 7)
-    ∷ overlayCall chartU broken (replicate 8192 7)
-    ∷ overlayCall broken short (replicate 8192 7)
-    ∷ overlayCall short broken (replicate 8192 7)
-    ∷ overlayCall broken broken (replicate 8191 7)
-    ∷ [])
-    ≡ 1 ∷ 1 ∷ 1 ∷ 2 ∷ 2 ∷ 1 ∷ 1 ∷ 1 ∷ []
-unfolding evaluate
-overlayCall-refused-example = refl
 
 -- Lists of events
 
