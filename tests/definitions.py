@@ -59,7 +59,7 @@ def triangle(rng, kind):
             return t
 
 
-def filed(ts):
+def entries_of(ts):
     """Key, level and triangle of each entry of the table; none above 16,384."""
     text = "".join(" ".join(map(str, t)) + "\n" for t in ts)
     lines = model("entries", text.encode()).decode().split("\n")
@@ -73,7 +73,7 @@ def table(rng, most, entries):
         ts = [triangle(rng, kind) for _ in range(rng.randint(1, most))]
         if rng.random() < 0.2:
             ts.append(list(rng.choice(ts)))
-        found = filed(ts)
+        found = entries_of(ts)
         if found is not None and len(found) <= 3 * entries:
             return ts, found
 
@@ -115,7 +115,7 @@ def mesh(rng, entries):
         two = list(sharing(rng, kind))
         ts = [(rotated(t, rng.randrange(3)), k) for k, t in enumerate(three + two)]
         rng.shuffle(ts)
-        found = filed([t for t, _ in ts])
+        found = entries_of([t for t, _ in ts])
         if found is not None and len(found) <= 3 * entries:
             places = {k: n for n, (_, k) in enumerate(ts)}
             return [t for t, _ in ts], p, [places[3], places[4]], found
@@ -252,7 +252,7 @@ def fixed_events(rng):
     while True:
         (p, three), two = around(rng, "coarse"), list(sharing(rng, "coarse"))
         rest = [triangle(rng, "coarse"), triangle(rng, "coarse")]
-        found = [filed(three + rest), filed(rest[:1] + two)]
+        found = [entries_of(three + rest), entries_of(rest[:1] + two)]
         if all(f is not None and len(f) <= 3 * 60 for f in found):
             break
     for k in range(3):
