@@ -8,8 +8,8 @@ COUNT of each kind of drawn case: the entries of a table; the log of a command s
 them damaged; an event on a plain table; the overlay of two different tables. With them the fixed ones: take-outs with the
 point at each corner and flips in every rotation, both ways, and the worked streams of tests/cases.txt but those that load
 over 500 triangles, which are named. That accepted take-outs at each corner, accepted flips of the nine pairs of rotations both
-ways and pairs with i and j different are among them is asserted. The cases are facts of a crate that is written below target/ and checked there;
-nothing of it is kept."""
+ways and pairs with i and j different are among them is asserted. The cases are facts of a crate that is written below
+target/ and checked there; nothing of it is kept."""
 
 import collections
 import os
@@ -460,24 +460,18 @@ EXPECTED += [f"flip of sides {k} {l}{way}" for k in range(3) for l in range(3) f
 EXPECTED += ["overlay pairs with i and j different", "worked streams"]
 
 
-def without_examples(folder):
-    """Takes the crate's own examples away: they are checked where they stand."""
-    lib = os.path.join(folder, "Lib.antt")
-    mods = [m for m in open(lib).read().split("\n") if not m.endswith("Examples")]
-    open(lib, "w").write("\n".join(mods))
-    for f in os.listdir(folder):
-        if f.endswith("Examples.antt"):
-            os.remove(os.path.join(folder, f))
-
-
 def main():
     seed, count = int(sys.argv[1]), int(sys.argv[2])
     rng = random.Random(seed)
     shutil.rmtree(SCRATCH, ignore_errors=True)
     for c in CRATES:
-        shutil.copytree(os.path.join(ROOT, "crates", c), os.path.join(SCRATCH, "crates", c))
-        shutil.rmtree(os.path.join(SCRATCH, "crates", c, "must-fail"), ignore_errors=True)
-        without_examples(os.path.join(SCRATCH, "crates", c, "proofs"))
+        for part in (f"crates/{c}", f"target/rlib/{c}.rlib", f"target/stamp/{c}"):  # what is proved is not proved again
+            source, copy = os.path.join(ROOT, part), os.path.join(SCRATCH, part)
+            os.makedirs(os.path.dirname(copy), exist_ok=True)
+            if os.path.isdir(source):
+                shutil.copytree(source, copy)
+            elif os.path.isfile(source):
+                shutil.copyfile(source, copy)
     trial = os.path.join(SCRATCH, "crates", "trial")
     os.makedirs(os.path.join(trial, "src"))
     os.makedirs(os.path.join(trial, "proofs"))
