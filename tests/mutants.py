@@ -41,7 +41,8 @@ SAME = os.path.join(ROOT, "tests", "mutants-same.tsv")
 CASES = ["7", "4"]  # seed and count of the executed cases
 AT_ONCE = 24  # mutants in one check of the examples
 LIMIT = 900  # seconds for one check
-EXAMPLES = re.compile(r"/proofs/\w*(Examples|MarkedCases|Cases|Evaluate)\.antt")
+EXAMPLES = re.compile(r"/proofs/\w*(Examples|MarkedCases|Cases)\.antt")
+COPIED = re.compile(r"/proofs/\w*(Examples|MarkedCases|Cases|Evaluate)\.antt")  # the examples, and what they unfold together
 
 # ---- reading definitions
 
@@ -420,14 +421,11 @@ class Place:
         words += ["--antt-project", os.path.join(self.home, "logic", "antt-project.json")]
         words += ["--logic-built", os.path.join(self.own, "logic-built"), *more]
         pipes = dict(stdout=subprocess.PIPE, stderr=subprocess.STDOUT, text=True, errors="replace")
-        p = subprocess.Popen(words, start_new_session=True, **pipes)
         try:
-            out = p.communicate(timeout=LIMIT)[0]
+            p = subprocess.run(words, timeout=LIMIT, **pipes)
         except subprocess.TimeoutExpired:
-            os.killpg(p.pid, signal.SIGKILL)  # the session that was started here
-            p.communicate()
             return "no verdict"
-        return None if p.returncode == 0 else out if p.returncode == 1 else "no verdict"
+        return None if p.returncode == 0 else p.stdout if p.returncode == 1 else "no verdict"
 
     def prove(self, crates):
         words = ["rt", "check", *crates]
@@ -448,7 +446,7 @@ class Place:
         copied = [os.path.join(self.root, "crates", batch[0].file)]
         for _ in texts:
             named = re.compile(r"(Rattle·%s·(?:specs\.specs|proofs\.proofs)\.)(%s)\b" % (crate, "|".join(map(module, copied))))
-            may = [p for p in texts if p not in copied and (folder(p) == folder(copied[0]) or EXAMPLES.search(p))]
+            may = [p for p in texts if p not in copied and (folder(p) == folder(copied[0]) or COPIED.search(p))]
             copied += [p for p in may if named.search(texts[p])]
         made, failed = [], collections.defaultdict(list)
         for k, m in enumerate([None] + batch):
@@ -579,7 +577,11 @@ class Run:
                     self.save()
 
         with concurrent.futures.ThreadPoolExecutor(len(places)) as pool:
-            list(pool.map(one, batches))
+            try:
+                list(pool.map(one, batches))
+            except BaseException:  # an interruption: what waits is not begun
+                self.until = 0
+                raise
         return [m for m in done if not m.verdict]
 
 
