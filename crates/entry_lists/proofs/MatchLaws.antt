@@ -18,7 +18,6 @@ use Rattle.orthtree.specs.Entries.{Entry}
 use Rattle.chart_spec.specs.Cells.{maxEntries}
 use Rattle.call_spec.specs.Buffers.{zipEntries, sameEntries}
 use Rattle.call_spec.proofs.BuffersLaws.{sameEntries-reflects, first-count, first-at}
-use Rattle.chains.specs.Links.{entry, entryAt}
 use Rattle.quadtree.specs.Build.{packed}
 use Rattle.entry_lists.specs.Lists.{packedAt}
 use Rattle.entry_lists.proofs.PackLaws.{Packable, packed-injective}
@@ -30,7 +29,7 @@ module _ {es : List Entry} {r : ℕ} {l l′ : List ℕ} (p : Packed es r l l′
   given = take m (zipEntries ks ls is)
 
   abbrev none : Entry
-  none = entry 0 0 0
+  none = record { key = 0; level = 0; item = 0 }
 
   -- another count
   pub match-count : (r ≡ m → ⊥) → false ≡ sameEntries given es
@@ -53,17 +52,15 @@ module _ {es : List Entry} {r : ℕ} {l l′ : List ℕ} (p : Packed es r l l′
     sameAt i = eqb (getD l′ i 0) (packedAt ks ls is i)
 
     same-to : ((i : ℕ) → i < m → T (sameAt i)) → given ≡ es
-    unfolding entryAt
     same-to t =
         ext-getD none given es (first-count ks ls is m a b c ∙ sym e ∙ packed-count p (omega arith)) (λ i h.
         let j : i < m = omega (arith, first-count ks ls is m a b c) in
         first-at ks ls is m a b c none i j
-        ∙ packed-injective (entryAt ks ls is i) (getD es i none) (record { level = levels i; item = items i })
+        ∙ packed-injective (record { key = getD ks i 0; level = getD ls i 0; item = getD is i 0 }) (getD es i none) (record { level = levels i; item = items i })
         (q (getD es i none) (getD-member es i none (omega (arith, packed-count p (omega arith)))))
         (sym (eqb→eq (getD l′ i 0) (packedAt ks ls is i) (t i j)) ∙ packed-at i j))
 
     same-from : given ≡ es → (i : ℕ) → i < m → T (sameAt i)
-    unfolding entryAt
     same-from g i h =
         reflects-eqb (getD l′ i 0) (packedAt ks ls is i) .from
         (packed-at i h ∙ ap (λ x. packed (getD x i none)) (sym g) ∙ ap (λ d. packed d) (first-at ks ls is m a b c none i h))

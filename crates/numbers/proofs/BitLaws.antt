@@ -1,11 +1,11 @@
--- Numbers that are joined by "or": the result is 0 when both are.
--- The idea: "or" and "and" add up to the sum of the two.
+-- Numbers that are joined by "or" or by "xor": when the result is 0.
+-- The idea: "or" and "and" add up to the sum of the two, and so do "xor" and twice "and".
 -- Assumes nothing.
-use mathlib.Core.Path.{_≡_}
+use mathlib.Core.Path.{_≡_, sym, _∙_, ap}
 use mathlib.Core.Bool.{_&&_}
 use Prim.Native.Nat.{ℕ}
 use native.Mathlib.Omega.{arith}
-use lib.Bits.{bitOr, and-le-l, and-le-r, or-add-and}
+use lib.Bits.{bitOr, bitXor, and-le-l, and-le-r, or-add-and, xor-add-and, xor-self}
 use lib.Dec.{eqb}
 use Rattle.lists.proofs.Reflects.{reflects-and, reflects-eqb, reflects-iff}
 use Rattle.lists.proofs.IndexLaws.{reflects-same}
@@ -21,3 +21,13 @@ or-zero a b =
 
     from : bitOr a b ≡ 0 → (a ≡ 0) × (b ≡ 0)
     from e = (omega (arith, or-add-and a b, and-le-l a b, and-le-r a b), omega (arith, or-add-and a b, and-le-l a b, and-le-r a b))
+
+-- "xor" is 0 when the two are equal
+pub xor-zero : (a b : ℕ) → eqb (bitXor a b) 0 ≡ eqb a b
+xor-zero a b = reflects-same (reflects-eqb (bitXor a b) 0) (reflects-iff to from (reflects-eqb a b))
+  where
+    to : a ≡ b → bitXor a b ≡ 0
+    to e = ap (bitXor a) (sym e) ∙ xor-self a
+
+    from : bitXor a b ≡ 0 → a ≡ b
+    from e = omega (arith, xor-add-and a b, and-le-l a b, and-le-r a b)

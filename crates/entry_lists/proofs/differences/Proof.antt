@@ -6,8 +6,7 @@ use lib.Dec.{eqb}
 use lib.ListN.{getD}
 use Rattle.lists.specs.Lists.{all, upTo}
 use Rattle.lists.proofs.IndexLaws.{all-below-none, all-below-step}
-use Rattle.numbers.proofs.BitLaws.{or-zero}
-use Rattle.chains.proofs.MaskLaws.{xor-zero}
+use Rattle.numbers.proofs.BitLaws.{or-zero, xor-zero}
 use Rattle.entry_lists.specs.Lists.{packedAt}
 use Rattle.entry_lists.proofs.differences.Statement.{statement}
 use Rattle.entry_lists.proofs.differences.Tie as tie
