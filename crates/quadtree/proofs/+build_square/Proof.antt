@@ -39,16 +39,9 @@ abbrev build-square-below : ℕ → In 5 build-square-kinds.ps
 build-square-below t =
     and 5 build-square-kinds.ps (falls 5 build-square-kinds.ps _<_ μ-build-square t) build-square.Pre
 
-abbrev build-square-Inv-loop : build-square-lts.InvT-loop
-build-square-Inv-loop table n shape offsets stack₀ from to s key out₀ at top step first₀ next₀ k₀ stack out first next k =
-    (k ≤ 4) × ((first ≡ squareKey s + k * span 4 16 (suc (s .level)))
-    × Built (flatMap (λ x. entriesIn (tableOf table n) x) (take k (quarters s))) at next top out₀ out stack₀ stack)
-
-abbrev build-square-μ-loop : build-square-lts.MeasureT-loop
-build-square-μ-loop table n shape offsets stack₀ from to s key out₀ at top step first₀ next₀ k₀ stack out first next k =
-    4 - k
-
-build-square-returns : (t : ℕ) → build-square-lts.Need-returns (
+-- what each function that the body calls asks and gives
+abbrev calls : ℕ → build-square-lts.Claims
+calls t = (
   frame-of-reads.Asked,
   frame-of-reads.Learnt,
   narrow-reads.Asked,
@@ -65,7 +58,18 @@ build-square-returns : (t : ℕ) → build-square-lts.Need-returns (
   quarter-reads.Learnt,
   build-square-below t,
   build-square.Post,
-) (build-square-at t) build-square.Post build-square-Inv-loop build-square-μ-loop
+)
+
+abbrev build-square-Inv-loop : build-square-lts.InvT-loop
+build-square-Inv-loop table n shape offsets stack₀ from to s key out₀ at top step first₀ next₀ k₀ stack out first next k =
+    (k ≤ 4) × ((first ≡ squareKey s + k * span 4 16 (suc (s .level)))
+    × Built (flatMap (λ x. entriesIn (tableOf table n) x) (take k (quarters s))) at next top out₀ out stack₀ stack)
+
+abbrev build-square-μ-loop : build-square-lts.MeasureT-loop
+build-square-μ-loop table n shape offsets stack₀ from to s key out₀ at top step first₀ next₀ k₀ stack out first next k =
+    4 - k
+
+build-square-returns : (t : ℕ) → build-square-lts.Need-returns (calls t) (build-square-at t) build-square.Post build-square-Inv-loop build-square-μ-loop
 build-square-returns t c =
     let a = c .before .before .before .before .before .before .args in
     let pre = c .before .before .before .before .before .before .pre .1 in
@@ -80,45 +84,11 @@ build-square-returns t c =
       end = omega arith;
     }
 
-build-square-frame-of-requires : (t : ℕ) → build-square-lts.Need-frame-of-requires (
-  frame-of-reads.Asked,
-  frame-of-reads.Learnt,
-  narrow-reads.Asked,
-  narrow-reads.Learnt,
-  is-stopped-reads.Asked,
-  is-stopped-reads.Learnt,
-  head-of-reads.Asked,
-  head-of-reads.Learnt,
-  put-leaf-reads.Asked,
-  put-leaf-reads.Learnt,
-  key-step-reads.Asked,
-  key-step-reads.Learnt,
-  quarter-reads.Asked,
-  quarter-reads.Learnt,
-  build-square-below t,
-  build-square.Post,
-) (build-square-at t) build-square.Post build-square-Inv-loop build-square-μ-loop
+build-square-frame-of-requires : (t : ℕ) → build-square-lts.Need-frame-of-requires (calls t) (build-square-at t) build-square.Post build-square-Inv-loop build-square-μ-loop
 build-square-frame-of-requires t c κs =
     c .before .before .before .before .before .before .pre .1 .0 .1 .1 .1
 
-build-square-narrow-requires : (t : ℕ) → build-square-lts.Need-narrow-requires (
-  frame-of-reads.Asked,
-  frame-of-reads.Learnt,
-  narrow-reads.Asked,
-  narrow-reads.Learnt,
-  is-stopped-reads.Asked,
-  is-stopped-reads.Learnt,
-  head-of-reads.Asked,
-  head-of-reads.Learnt,
-  put-leaf-reads.Asked,
-  put-leaf-reads.Learnt,
-  key-step-reads.Asked,
-  key-step-reads.Learnt,
-  quarter-reads.Asked,
-  quarter-reads.Learnt,
-  build-square-below t,
-  build-square.Post,
-) (build-square-at t) build-square.Post build-square-Inv-loop build-square-μ-loop
+build-square-narrow-requires : (t : ℕ) → build-square-lts.Need-narrow-requires (calls t) (build-square-at t) build-square.Post build-square-Inv-loop build-square-μ-loop
 build-square-narrow-requires t c κs =
     let a = c .before .before .before .before .before .before .before .before .args in
     let pre = c .before .before .before .before .before .before .before .before .pre .1 in
@@ -126,24 +96,7 @@ build-square-narrow-requires t c κs =
     let tr = pre .0 .1 .1 .1 in
     (pre .0 .0, (narrow-room (a .n) (a .table .now) (a .shape .now) (a .offsets .now) h (a .s) tr (a .from) (a .to) (a .stack .now) (pre .0 .1 .1 .0) (pre .1 .1 .0), c .before .frame-of .ensures .1))
 
-build-square-is-stopped-requires : (t : ℕ) → build-square-lts.Need-is-stopped-requires (
-  frame-of-reads.Asked,
-  frame-of-reads.Learnt,
-  narrow-reads.Asked,
-  narrow-reads.Learnt,
-  is-stopped-reads.Asked,
-  is-stopped-reads.Learnt,
-  head-of-reads.Asked,
-  head-of-reads.Learnt,
-  put-leaf-reads.Asked,
-  put-leaf-reads.Learnt,
-  key-step-reads.Asked,
-  key-step-reads.Learnt,
-  quarter-reads.Asked,
-  quarter-reads.Learnt,
-  build-square-below t,
-  build-square.Post,
-) (build-square-at t) build-square.Post build-square-Inv-loop build-square-μ-loop
+build-square-is-stopped-requires : (t : ℕ) → build-square-lts.Need-is-stopped-requires (calls t) (build-square-at t) build-square.Post build-square-Inv-loop build-square-μ-loop
 build-square-is-stopped-requires t c κs =
     let a = c .before .before .before .before .before .before .before .before .before .before .before .before .args in
     let pre = c .before .before .before .before .before .before .before .before .before .before .before .before .pre .1 in
@@ -152,24 +105,7 @@ build-square-is-stopped-requires t c κs =
     let w = after-narrow (a .n) (a .table .now) (a .shape .now) (a .offsets .now) h (a .s) tr (a .from) (a .to) _ (a .stack .now) _ _ (pre .0 .0) (pre .0 .1 .1 .0) (c .before .before .before .before .before .frame-of .ensures .0) (pre .1 .1 .0) (c .before .before .before .narrow .ensures .0) (c .before .before .before .narrow .ensures .1) in
     ((w .ready, (h, (tr, (c .before .before .before .before .before .frame-of .ensures .0, c .before .before .before .before .before .frame-of .ensures .1)))), w .triangles)
 
-build-square-head-of-requires : (t : ℕ) → build-square-lts.Need-head-of-requires (
-  frame-of-reads.Asked,
-  frame-of-reads.Learnt,
-  narrow-reads.Asked,
-  narrow-reads.Learnt,
-  is-stopped-reads.Asked,
-  is-stopped-reads.Learnt,
-  head-of-reads.Asked,
-  head-of-reads.Learnt,
-  put-leaf-reads.Asked,
-  put-leaf-reads.Learnt,
-  key-step-reads.Asked,
-  key-step-reads.Learnt,
-  quarter-reads.Asked,
-  quarter-reads.Learnt,
-  build-square-below t,
-  build-square.Post,
-) (build-square-at t) build-square.Post build-square-Inv-loop build-square-μ-loop
+build-square-head-of-requires : (t : ℕ) → build-square-lts.Need-head-of-requires (calls t) (build-square-at t) build-square.Post build-square-Inv-loop build-square-μ-loop
 build-square-head-of-requires t c κs =
     let a = c .before .before .before .before .before .before .before .before .before .before .before .before .before .before .before .args in
     let pre = c .before .before .before .before .before .before .before .before .before .before .before .before .before .before .before .pre .1 in
@@ -177,24 +113,7 @@ build-square-head-of-requires t c κs =
     let tr = pre .0 .1 .1 .1 in
     (rw (pre .1 .0) (key-small (a .n) (a .table .now) (a .shape .now) (a .offsets .now) h (a .s) tr), tr .deep)
 
-build-square-put-leaf-requires : (t : ℕ) → build-square-lts.Need-put-leaf-requires (
-  frame-of-reads.Asked,
-  frame-of-reads.Learnt,
-  narrow-reads.Asked,
-  narrow-reads.Learnt,
-  is-stopped-reads.Asked,
-  is-stopped-reads.Learnt,
-  head-of-reads.Asked,
-  head-of-reads.Learnt,
-  put-leaf-reads.Asked,
-  put-leaf-reads.Learnt,
-  key-step-reads.Asked,
-  key-step-reads.Learnt,
-  quarter-reads.Asked,
-  quarter-reads.Learnt,
-  build-square-below t,
-  build-square.Post,
-) (build-square-at t) build-square.Post build-square-Inv-loop build-square-μ-loop
+build-square-put-leaf-requires : (t : ℕ) → build-square-lts.Need-put-leaf-requires (calls t) (build-square-at t) build-square.Post build-square-Inv-loop build-square-μ-loop
 build-square-put-leaf-requires t c κs =
     let a = c .before .before .before .before .before .before .before .before .before .before .before .before .before .before .before .before .before .args in
     let pre = c .before .before .before .before .before .before .before .before .before .before .before .before .before .before .before .before .before .pre .1 in
@@ -203,66 +122,15 @@ build-square-put-leaf-requires t c κs =
     let w = after-narrow (a .n) (a .table .now) (a .shape .now) (a .offsets .now) h (a .s) tr (a .from) (a .to) _ (a .stack .now) _ _ (pre .0 .0) (pre .0 .1 .1 .0) (c .before .before .before .before .before .before .before .before .before .before .frame-of .ensures .0) (pre .1 .1 .0) (c .before .before .before .before .before .before .before .before .narrow .ensures .0) (c .before .before .before .before .before .before .before .before .narrow .ensures .1) in
     ((w .ready .order, w .ready .within), (pre .1 .1 .1 .0, (c .before .before .before .before .before .before .before .before .before .before .before .if1 .left, c .before .head-of .ensures .1)))
 
-build-square-same-length : (t : ℕ) → build-square-lts.Need-same-length (
-  frame-of-reads.Asked,
-  frame-of-reads.Learnt,
-  narrow-reads.Asked,
-  narrow-reads.Learnt,
-  is-stopped-reads.Asked,
-  is-stopped-reads.Learnt,
-  head-of-reads.Asked,
-  head-of-reads.Learnt,
-  put-leaf-reads.Asked,
-  put-leaf-reads.Learnt,
-  key-step-reads.Asked,
-  key-step-reads.Learnt,
-  quarter-reads.Asked,
-  quarter-reads.Learnt,
-  build-square-below t,
-  build-square.Post,
-) (build-square-at t) build-square.Post build-square-Inv-loop build-square-μ-loop
+build-square-same-length : (t : ℕ) → build-square-lts.Need-same-length (calls t) (build-square-at t) build-square.Post build-square-Inv-loop build-square-μ-loop
 build-square-same-length t c =
     search needs
 
-build-square-same-length-2 : (t : ℕ) → build-square-lts.Need-same-length-2 (
-  frame-of-reads.Asked,
-  frame-of-reads.Learnt,
-  narrow-reads.Asked,
-  narrow-reads.Learnt,
-  is-stopped-reads.Asked,
-  is-stopped-reads.Learnt,
-  head-of-reads.Asked,
-  head-of-reads.Learnt,
-  put-leaf-reads.Asked,
-  put-leaf-reads.Learnt,
-  key-step-reads.Asked,
-  key-step-reads.Learnt,
-  quarter-reads.Asked,
-  quarter-reads.Learnt,
-  build-square-below t,
-  build-square.Post,
-) (build-square-at t) build-square.Post build-square-Inv-loop build-square-μ-loop
+build-square-same-length-2 : (t : ℕ) → build-square-lts.Need-same-length-2 (calls t) (build-square-at t) build-square.Post build-square-Inv-loop build-square-μ-loop
 build-square-same-length-2 t c =
     search needs
 
-build-square-returns-2 : (t : ℕ) → build-square-lts.Need-returns-2 (
-  frame-of-reads.Asked,
-  frame-of-reads.Learnt,
-  narrow-reads.Asked,
-  narrow-reads.Learnt,
-  is-stopped-reads.Asked,
-  is-stopped-reads.Learnt,
-  head-of-reads.Asked,
-  head-of-reads.Learnt,
-  put-leaf-reads.Asked,
-  put-leaf-reads.Learnt,
-  key-step-reads.Asked,
-  key-step-reads.Learnt,
-  quarter-reads.Asked,
-  quarter-reads.Learnt,
-  build-square-below t,
-  build-square.Post,
-) (build-square-at t) build-square.Post build-square-Inv-loop build-square-μ-loop
+build-square-returns-2 : (t : ℕ) → build-square-lts.Need-returns-2 (calls t) (build-square-at t) build-square.Post build-square-Inv-loop build-square-μ-loop
 build-square-returns-2 t c =
     let a = c .before .before .before .before .before .before .before .before .before .before .before .before .before .before .before .before .before .before .before .before .args in
     let pre = c .before .before .before .before .before .before .before .before .before .before .before .before .before .before .before .before .before .before .before .before .pre .1 in
@@ -274,24 +142,7 @@ build-square-returns-2 t c =
     (c .before .before .before .before .head-of .ensures .0 ∙ ap (λ x. x * 4294967296 + a .s .level * 65536) (pre .1 .0))
     (c .before .before .put-leaf .ensures .0) (c .before .before .put-leaf .ensures .1) (w .kept) (search needs) (w .same)
 
-build-square-key-step-requires : (t : ℕ) → build-square-lts.Need-key-step-requires (
-  frame-of-reads.Asked,
-  frame-of-reads.Learnt,
-  narrow-reads.Asked,
-  narrow-reads.Learnt,
-  is-stopped-reads.Asked,
-  is-stopped-reads.Learnt,
-  head-of-reads.Asked,
-  head-of-reads.Learnt,
-  put-leaf-reads.Asked,
-  put-leaf-reads.Learnt,
-  key-step-reads.Asked,
-  key-step-reads.Learnt,
-  quarter-reads.Asked,
-  quarter-reads.Learnt,
-  build-square-below t,
-  build-square.Post,
-) (build-square-at t) build-square.Post build-square-Inv-loop build-square-μ-loop
+build-square-key-step-requires : (t : ℕ) → build-square-lts.Need-key-step-requires (calls t) (build-square-at t) build-square.Post build-square-Inv-loop build-square-μ-loop
 build-square-key-step-requires t c κs =
     let a = c .before .before .before .before .before .before .before .before .before .before .before .before .before .before .args in
     let pre = c .before .before .before .before .before .before .before .before .before .before .before .before .before .before .pre .1 in
@@ -301,24 +152,7 @@ build-square-key-step-requires t c κs =
     let lev = level-below (a .n) (a .table .now) (a .shape .now) (a .offsets .now) h (a .s) tr st in
     lev
 
-build-square-loop-holds : (t : ℕ) → build-square-lts.Need-loop-holds (
-  frame-of-reads.Asked,
-  frame-of-reads.Learnt,
-  narrow-reads.Asked,
-  narrow-reads.Learnt,
-  is-stopped-reads.Asked,
-  is-stopped-reads.Learnt,
-  head-of-reads.Asked,
-  head-of-reads.Learnt,
-  put-leaf-reads.Asked,
-  put-leaf-reads.Learnt,
-  key-step-reads.Asked,
-  key-step-reads.Learnt,
-  quarter-reads.Asked,
-  quarter-reads.Learnt,
-  build-square-below t,
-  build-square.Post,
-) (build-square-at t) build-square.Post build-square-Inv-loop build-square-μ-loop
+build-square-loop-holds : (t : ℕ) → build-square-lts.Need-loop-holds (calls t) (build-square-at t) build-square.Post build-square-Inv-loop build-square-μ-loop
 unfolding flatMap
 build-square-loop-holds t c =
     let a = c .before .before .before .before .before .before .before .before .before .before .before .before .before .before .before .args in
@@ -327,24 +161,7 @@ build-square-loop-holds t c =
     let tr = pre .0 .1 .1 .1 in
     (omega arith, (omega (arith, pre .1 .0), built-none (a .at) (a .out .now) _ (c .before .before .before .before .before .before .before .before .before .if1 .left)))
 
-build-square-quarter-requires : (t : ℕ) → build-square-lts.Need-quarter-requires (
-  frame-of-reads.Asked,
-  frame-of-reads.Learnt,
-  narrow-reads.Asked,
-  narrow-reads.Learnt,
-  is-stopped-reads.Asked,
-  is-stopped-reads.Learnt,
-  head-of-reads.Asked,
-  head-of-reads.Learnt,
-  put-leaf-reads.Asked,
-  put-leaf-reads.Learnt,
-  key-step-reads.Asked,
-  key-step-reads.Learnt,
-  quarter-reads.Asked,
-  quarter-reads.Learnt,
-  build-square-below t,
-  build-square.Post,
-) (build-square-at t) build-square.Post build-square-Inv-loop build-square-μ-loop
+build-square-quarter-requires : (t : ℕ) → build-square-lts.Need-quarter-requires (calls t) (build-square-at t) build-square.Post build-square-Inv-loop build-square-μ-loop
 build-square-quarter-requires t c κs =
     let a = c .before .before .before .before .before .before .before .before .before .before .before .before .before .before .before .before .before .before .args in
     let pre = c .before .before .before .before .before .before .before .before .before .before .before .before .before .before .before .before .before .before .pre .1 in
@@ -354,24 +171,7 @@ build-square-quarter-requires t c κs =
     let lev = level-below (a .n) (a .table .now) (a .shape .now) (a .offsets .now) h (a .s) tr st in
     (c .before .loop-test .taken, (lev, (omega (arith, tr .right), omega (arith, tr .bottom))))
 
-build-square-build-square-requires : (t : ℕ) → build-square-lts.Need-build-square-requires (
-  frame-of-reads.Asked,
-  frame-of-reads.Learnt,
-  narrow-reads.Asked,
-  narrow-reads.Learnt,
-  is-stopped-reads.Asked,
-  is-stopped-reads.Learnt,
-  head-of-reads.Asked,
-  head-of-reads.Learnt,
-  put-leaf-reads.Asked,
-  put-leaf-reads.Learnt,
-  key-step-reads.Asked,
-  key-step-reads.Learnt,
-  quarter-reads.Asked,
-  quarter-reads.Learnt,
-  build-square-below t,
-  build-square.Post,
-) (build-square-at t) build-square.Post build-square-Inv-loop build-square-μ-loop
+build-square-build-square-requires : (t : ℕ) → build-square-lts.Need-build-square-requires (calls t) (build-square-at t) build-square.Post build-square-Inv-loop build-square-μ-loop
 build-square-build-square-requires t c κs =
     let a = c .before .before .before .before .before .before .before .before .before .before .before .before .before .before .before .before .before .before .before .before .args in
     let pre = c .before .before .before .before .before .before .before .before .before .before .before .before .before .before .before .before .before .before .before .before .pre .1 in
@@ -411,24 +211,7 @@ build-square-build-square-requires t c κs =
       ),
     )
 
-build-square-add-first : (t : ℕ) → build-square-lts.Need-add-first (
-  frame-of-reads.Asked,
-  frame-of-reads.Learnt,
-  narrow-reads.Asked,
-  narrow-reads.Learnt,
-  is-stopped-reads.Asked,
-  is-stopped-reads.Learnt,
-  head-of-reads.Asked,
-  head-of-reads.Learnt,
-  put-leaf-reads.Asked,
-  put-leaf-reads.Learnt,
-  key-step-reads.Asked,
-  key-step-reads.Learnt,
-  quarter-reads.Asked,
-  quarter-reads.Learnt,
-  build-square-below t,
-  build-square.Post,
-) (build-square-at t) build-square.Post build-square-Inv-loop build-square-μ-loop
+build-square-add-first : (t : ℕ) → build-square-lts.Need-add-first (calls t) (build-square-at t) build-square.Post build-square-Inv-loop build-square-μ-loop
 build-square-add-first t c =
     let a = c .before .before .before .before .before .before .before .before .before .before .before .before .before .before .before .before .before .before .before .before .before .before .before .before .before .args in
     let pre = c .before .before .before .before .before .before .before .before .before .before .before .before .before .before .before .before .before .before .before .before .before .before .before .before .before .pre .1 in
@@ -440,66 +223,15 @@ build-square-add-first t c =
     let m : k * span 4 16 (suc (a .s .level)) ≤ 4 * 1073741824 = mul-le-mul {n₂ = 4} {m₂ = 1073741824} (omega (arith, lt)) (rw (st .0) at (st .1)) in
     omega (arith, m, st .1, key-small (a .n) (a .table .now) (a .shape .now) (a .offsets .now) h (a .s) tr, c .before .before .before .before .before .before .before .before .before .loop .inv .1 .0)
 
-build-square-add-k : (t : ℕ) → build-square-lts.Need-add-k (
-  frame-of-reads.Asked,
-  frame-of-reads.Learnt,
-  narrow-reads.Asked,
-  narrow-reads.Learnt,
-  is-stopped-reads.Asked,
-  is-stopped-reads.Learnt,
-  head-of-reads.Asked,
-  head-of-reads.Learnt,
-  put-leaf-reads.Asked,
-  put-leaf-reads.Learnt,
-  key-step-reads.Asked,
-  key-step-reads.Learnt,
-  quarter-reads.Asked,
-  quarter-reads.Learnt,
-  build-square-below t,
-  build-square.Post,
-) (build-square-at t) build-square.Post build-square-Inv-loop build-square-μ-loop
+build-square-add-k : (t : ℕ) → build-square-lts.Need-add-k (calls t) (build-square-at t) build-square.Post build-square-Inv-loop build-square-μ-loop
 build-square-add-k t c =
     search needs
 
-build-square-loop-less : (t : ℕ) → build-square-lts.Need-loop-less (
-  frame-of-reads.Asked,
-  frame-of-reads.Learnt,
-  narrow-reads.Asked,
-  narrow-reads.Learnt,
-  is-stopped-reads.Asked,
-  is-stopped-reads.Learnt,
-  head-of-reads.Asked,
-  head-of-reads.Learnt,
-  put-leaf-reads.Asked,
-  put-leaf-reads.Learnt,
-  key-step-reads.Asked,
-  key-step-reads.Learnt,
-  quarter-reads.Asked,
-  quarter-reads.Learnt,
-  build-square-below t,
-  build-square.Post,
-) (build-square-at t) build-square.Post build-square-Inv-loop build-square-μ-loop
+build-square-loop-less : (t : ℕ) → build-square-lts.Need-loop-less (calls t) (build-square-at t) build-square.Post build-square-Inv-loop build-square-μ-loop
 build-square-loop-less t c =
     omega (arith, c .before .before .before .before .before .before .before .before .loop-test .taken)
 
-build-square-loop-again : (t : ℕ) → build-square-lts.Need-loop-again (
-  frame-of-reads.Asked,
-  frame-of-reads.Learnt,
-  narrow-reads.Asked,
-  narrow-reads.Learnt,
-  is-stopped-reads.Asked,
-  is-stopped-reads.Learnt,
-  head-of-reads.Asked,
-  head-of-reads.Learnt,
-  put-leaf-reads.Asked,
-  put-leaf-reads.Learnt,
-  key-step-reads.Asked,
-  key-step-reads.Learnt,
-  quarter-reads.Asked,
-  quarter-reads.Learnt,
-  build-square-below t,
-  build-square.Post,
-) (build-square-at t) build-square.Post build-square-Inv-loop build-square-μ-loop
+build-square-loop-again : (t : ℕ) → build-square-lts.Need-loop-again (calls t) (build-square-at t) build-square.Post build-square-Inv-loop build-square-μ-loop
 build-square-loop-again t c =
     let a = c .before .before .before .before .before .before .before .before .before .before .before .before .before .before .before .before .before .before .before .before .before .before .before .before .before .args in
     let pre = c .before .before .before .before .before .before .before .before .before .before .before .before .before .before .before .before .before .before .before .before .before .before .before .before .before .pre .1 in
@@ -520,66 +252,15 @@ build-square-loop-again t c =
       ),
     )
 
-build-square-same-length-3 : (t : ℕ) → build-square-lts.Need-same-length-3 (
-  frame-of-reads.Asked,
-  frame-of-reads.Learnt,
-  narrow-reads.Asked,
-  narrow-reads.Learnt,
-  is-stopped-reads.Asked,
-  is-stopped-reads.Learnt,
-  head-of-reads.Asked,
-  head-of-reads.Learnt,
-  put-leaf-reads.Asked,
-  put-leaf-reads.Learnt,
-  key-step-reads.Asked,
-  key-step-reads.Learnt,
-  quarter-reads.Asked,
-  quarter-reads.Learnt,
-  build-square-below t,
-  build-square.Post,
-) (build-square-at t) build-square.Post build-square-Inv-loop build-square-μ-loop
+build-square-same-length-3 : (t : ℕ) → build-square-lts.Need-same-length-3 (calls t) (build-square-at t) build-square.Post build-square-Inv-loop build-square-μ-loop
 build-square-same-length-3 t c =
     search needs
 
-build-square-same-length-4 : (t : ℕ) → build-square-lts.Need-same-length-4 (
-  frame-of-reads.Asked,
-  frame-of-reads.Learnt,
-  narrow-reads.Asked,
-  narrow-reads.Learnt,
-  is-stopped-reads.Asked,
-  is-stopped-reads.Learnt,
-  head-of-reads.Asked,
-  head-of-reads.Learnt,
-  put-leaf-reads.Asked,
-  put-leaf-reads.Learnt,
-  key-step-reads.Asked,
-  key-step-reads.Learnt,
-  quarter-reads.Asked,
-  quarter-reads.Learnt,
-  build-square-below t,
-  build-square.Post,
-) (build-square-at t) build-square.Post build-square-Inv-loop build-square-μ-loop
+build-square-same-length-4 : (t : ℕ) → build-square-lts.Need-same-length-4 (calls t) (build-square-at t) build-square.Post build-square-Inv-loop build-square-μ-loop
 build-square-same-length-4 t c =
     search needs
 
-build-square-returns-3 : (t : ℕ) → build-square-lts.Need-returns-3 (
-  frame-of-reads.Asked,
-  frame-of-reads.Learnt,
-  narrow-reads.Asked,
-  narrow-reads.Learnt,
-  is-stopped-reads.Asked,
-  is-stopped-reads.Learnt,
-  head-of-reads.Asked,
-  head-of-reads.Learnt,
-  put-leaf-reads.Asked,
-  put-leaf-reads.Learnt,
-  key-step-reads.Asked,
-  key-step-reads.Learnt,
-  quarter-reads.Asked,
-  quarter-reads.Learnt,
-  build-square-below t,
-  build-square.Post,
-) (build-square-at t) build-square.Post build-square-Inv-loop build-square-μ-loop
+build-square-returns-3 : (t : ℕ) → build-square-lts.Need-returns-3 (calls t) (build-square-at t) build-square.Post build-square-Inv-loop build-square-μ-loop
 build-square-returns-3 t c =
     let a = c .before .before .before .before .before .before .before .before .before .before .before .before .before .before .before .before .before .args in
     let pre = c .before .before .before .before .before .before .before .before .before .before .before .before .before .before .before .before .before .pre .1 in
@@ -601,24 +282,7 @@ build-square-returns-3 t c =
     }
 
 pub +build-square-spec : {M : Type 1} → statement M
-+build-square-spec = close μ-build-square λ t. build-square-lts.spec (
-  frame-of-reads.Asked,
-  frame-of-reads.Learnt,
-  narrow-reads.Asked,
-  narrow-reads.Learnt,
-  is-stopped-reads.Asked,
-  is-stopped-reads.Learnt,
-  head-of-reads.Asked,
-  head-of-reads.Learnt,
-  put-leaf-reads.Asked,
-  put-leaf-reads.Learnt,
-  key-step-reads.Asked,
-  key-step-reads.Learnt,
-  quarter-reads.Asked,
-  quarter-reads.Learnt,
-  build-square-below t,
-  build-square.Post,
-)
++build-square-spec = close μ-build-square λ t. build-square-lts.spec (calls t)
     (build-square-at t)
     build-square.Post
     build-square-Inv-loop
