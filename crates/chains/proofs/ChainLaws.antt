@@ -11,7 +11,7 @@ use lib.ListN.{length, getD, take}
 use Rattle.lists.proofs.Reflects.{Reflects, reflects-and, reflects-then, reflects-iff, reflects-eqb, reflects-test}
 use Rattle.orthtree.specs.Entries.{Entry, span, rangeEnd, entryFits, follows, chainAfter, chain}
 use Rattle.call_spec.specs.Buffers.{zipEntries}
-use Rattle.call_spec.proofs.BuffersLaws.{first-count, first-at}
+use Rattle.call_laws.proofs.EntriesLaws.{first-count, first-at}
 use Rattle.chains.specs.Links.{entry, entryAt}
 
 -- what holds at 0, and at one more than each number below n, holds at each number below n + 1

@@ -3,4 +3,3 @@ pub mod MaskLaws
 pub mod LinkLaws
 pub mod ChainLaws
 pub mod PartLaws
-pub mod BufferLaws

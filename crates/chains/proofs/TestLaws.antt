@@ -7,19 +7,10 @@ use Prim.Native.Nat.{ℕ, suc, _+_, _≤_, _<_, max}
 use native.Mathlib.Omega.{arith}
 use borrow.Author.Tests.{ltb-true, le-leb, eq-eqb, ne-eqb}
 use lib.Dec.{leb, ltb, eqb}
-use Rattle.lists.proofs.Reflects.{Reflects, reflects-and, reflects-leb, reflects-eqb, reflects-iff}
+use Rattle.lists.proofs.Reflects.{reflects-and, reflects-leb, reflects-eqb, reflects-iff}
 use Rattle.lists.proofs.IndexLaws.{reflects-same}
 use Rattle.orthtree.specs.Entries.{emptyMark}
 use Rattle.chains.specs.Links.{itemFits}
-
--- a test from what it decides
-pub reflects-true : {b : Bool} {P : Type 0} → Reflects b P → P → b ≡ true
-reflects-true {b = true} r p = refl
-reflects-true {b = false} r p = absurd (r .from p)
-
-pub reflects-false : {b : Bool} {P : Type 0} → Reflects b P → (P → ⊥) → b ≡ false
-reflects-false {b = true} r n = absurd (n (r .to tt))
-reflects-false {b = false} r n = refl
 
 -- the second test counts only where the first passes
 pub and-then : (a : Bool) {b c : Bool} → (a ≡ true → b ≡ c) → a && b ≡ a && c

@@ -6,11 +6,11 @@ use mathlib.Core.Path.{_≡_, refl, sym, _∙_, ap, ap₂}
 use mathlib.Core.Bool.{Bool, true, false}
 use mathlib.Core.List.{List, [], _∷_, _++_, map, flatMap, append-assoc}
 use mathlib.Core.Option.{some}
-use Prim.Native.Nat.{ℕ, zero, suc, _+_, _<_}
+use Prim.Native.Nat.{ℕ, zero, suc, _+_, _*_, _<_}
 use native.Mathlib.Nat.{add-zero, zero-add}
 use native.Mathlib.Omega.{arith}
 use lib.Dec.{T}
-use lib.ListN.{length, getD}
+use lib.ListN.{length, getD, length-append}
 use Rattle.lists.specs.Lists.{filter, first, placesFrom, countFrom, upTo}
 use Rattle.lists.proofs.ListsLaws.{Every, every-uncons}
 use Rattle.lists.proofs.FilterLaws.{filter-pass, filter-fail, filter-append}
@@ -40,6 +40,14 @@ module _ {A B : Type 0} (f : A → List B) where
           → flatMap f (filter p (x ∷ xs)) ≡ f x ++ flatMap f xs
       go true e h r = ap (flatMap f) (filter-pass p x xs e) ∙ ap (λ l. f x ++ l) r
       go false e h r = ap (flatMap f) (filter-fail p x xs e) ∙ r ∙ ap (λ l. l ++ flatMap f xs) (sym (h e))
+
+-- lists of one length
+pub flatMap-length : {A B : Type 0} (f : A → List B) (c : ℕ) → ((a : A) → length (f a) ≡ c) → (l : List A)
+    → length (flatMap f l) ≡ c * length l
+unfolding flatMap
+flatMap-length f c size [] = omega arith
+flatMap-length f c size (x ∷ xs) =
+    length-append (f x) (flatMap f xs) ∙ ap₂ _+_ (size x) (flatMap-length f c size xs) ∙ omega arith
 
 -- joined twice
 pub flatMap-flatMap : {A B C : Type 0} (g : B → List C) (f : A → List B) (l : List A)

@@ -15,3 +15,5 @@ pub mod Examples
 pub mod PartLaws
 pub mod LentLaws
 pub mod EditedLists
+pub mod FirstLaws
+pub mod FoldLaws

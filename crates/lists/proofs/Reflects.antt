@@ -2,7 +2,7 @@
 -- does not. It goes through "and", "or" and "not", so the test of a definition is read off part by part.
 -- Assumes nothing.
 use mathlib.Core.Path.{_≡_, refl}
-use mathlib.Core.Bool.{Bool, true, false, not, _&&_, _||_}
+use mathlib.Core.Bool.{Bool, true, false, true≢false, not, _&&_, _||_}
 use mathlib.Core.Logic.{_⊎_, inl, inr}
 use Prim.Native.Nat.{ℕ, _≤_, _<_}
 use lib.IntN.{ℤ}
@@ -93,3 +93,17 @@ test-true {b = false} t = absurd t
 pub test-false : {b : Bool} → (T b → ⊥) → b ≡ false
 test-false {b = true} n = absurd (n tt)
 test-false {b = false} n = refl
+
+-- a test from what it decides
+pub reflects-true : {b : Bool} {P : Type 0} → Reflects b P → P → b ≡ true
+reflects-true {b = true} r p = refl
+reflects-true {b = false} r p = absurd (r .from p)
+
+pub reflects-false : {b : Bool} {P : Type 0} → Reflects b P → (P → ⊥) → b ≡ false
+reflects-false {b = true} r n = absurd (n (r .to tt))
+reflects-false {b = false} r n = refl
+
+-- neither of two tests holds where "or" fails
+pub or-neither : (a b : Bool) → a || b ≡ false → (a ≡ false) × (b ≡ false)
+or-neither true b h = absurd (true≢false h)
+or-neither false b h = (refl, h)

@@ -1,4 +1,3 @@
 pub mod FaultyLaws
 pub mod LoadLaws
-pub mod IndexedLaws
 pub mod LoadIndexed

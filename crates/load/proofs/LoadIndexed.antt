@@ -15,7 +15,7 @@ use Rattle.call_spec.specs.Buffers.{Chart, tooShort}
 use Rattle.call_spec.specs.Calls.{changedBy, loadCall}
 use Rattle.load.specs.Faulty.{firstFaulty}
 use Rattle.load.proofs.LoadLaws.{lengthTest, length-few, given, given-proper, load-short, load-length, load-faulty, load-over, load-accepted}
-use Rattle.load.proofs.IndexedLaws.{Editable, indexed-editable}
+use Rattle.call_laws.proofs.IndexedLaws.{Editable, indexed-editable}
 
 module _ (ns : List ℕ) (c : Chart) (z : loadCall ns c .number ≡ 0) where
   -- 0 is the number of no refusal

@@ -22,7 +22,7 @@ use Rattle.call_spec.specs.Buffers.{Chart, chartOf, tooShort, padded, chartWith
 use Rattle.call_spec.specs.Calls.{Changed, changedBy, loadCall}
 use Rattle.entry_lists.specs.Lists.{Listed}
 use Rattle.load.specs.Faulty.{firstFaulty}
-use Rattle.chains.proofs.BufferLaws.{or-neither}
+use Rattle.lists.proofs.Reflects.{or-neither}
 use Rattle.load.proofs.FaultyLaws.{faulty-none, faulty-done, faulty-refused}
 
 -- ---- the count that building gave says whether the entries fit

@@ -22,23 +22,14 @@ use Rattle.chart_laws.proofs.LocateOfChain.{listed-below}
 use Rattle.call_spec.specs.Buffers.{Chart, tooShort, zipEntries, chainRule, chartTable, chartEntries}
 use Rattle.call_spec.specs.Calls as Calls
 use Rattle.call_spec.specs.Calls.{reading, ifLong, ifChained, locateCall, listingCall}
-use Rattle.chains.proofs.BufferLaws.{long-enough, ruled}
+use Rattle.call_laws.proofs.BufferLaws.{long-enough, ruled}
 use Rattle.search.specs.Place.{listedPlaces}
 use Rattle.answers.specs.declared.Located.{Located}
 use Rattle.answers.specs.declared.Located.the-variants as locations
 use Rattle.answers.specs.Outcomes.{locatedOf}
 use Rattle.locating.specs.Holding.{readable, foundOf}
 use Rattle.locating.specs.Places.{placesCall}
-use Rattle.locating.proofs.FirstLaws.{first-agree}
-
--- then the lists may be searched
-pub searchable : (c : Chart) → tooShort c ≡ false → chainRule c ≡ true
-    → ((c .entryCount ≤ length (c .keys)) × ((c .entryCount ≤ length (c .levels)) × (c .entryCount ≤ length (c .items))))
-    × (chain arity depth (c .triangleCount) (take (c .entryCount) (zipEntries (c .keys) (c .levels) (c .items))) ≡ true)
-unfolding chartEntries
-searchable c s e =
-    let long = long-enough c s in
-    let rule = ruled c e in ((omega arith, (omega arith, omega arith)), test-true (rule .chained))
+use Rattle.lists.proofs.FirstLaws.{first-agree}
 
 -- refusal 1
 pub readable-short : (c : Chart) → tooShort c ≡ true → false ≡ readable c

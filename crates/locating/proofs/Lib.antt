@@ -1,3 +1,2 @@
-pub mod FirstLaws
 pub mod CallLaws
 pub mod LocateLaws

@@ -20,8 +20,8 @@ use Rattle.chart_laws.proofs.LocateOfTable.{first-of-table}
 use Rattle.chart_laws.proofs.TableLaws.{tableOf-length}
 use Rattle.call_spec.specs.Buffers.{Chart, tooShort, chainRule, indexed, chartTable, chartEntries}
 use Rattle.call_spec.specs.Calls.{locateCall}
-use Rattle.call_spec.proofs.BuffersLaws.{sameEntries-reflects}
-use Rattle.chains.proofs.BufferLaws.{ruled}
+use Rattle.call_laws.proofs.EntriesLaws.{sameEntries-reflects}
+use Rattle.call_laws.proofs.BufferLaws.{ruled}
 use Rattle.locating.proofs.CallLaws.{located-done}
 
 -- a table has as many triangles as its count says

@@ -16,7 +16,7 @@ use Rattle.plane.specs.Interior.{noSideSeparates, interiorsMeet}
 use Rattle.chart_spec.specs.Table.{triangleAt, tableOf, numbered}
 use Rattle.chart_spec.specs.Reading.{sound}
 use Rattle.chart_laws.proofs.TableLaws.{numbered-at, tableOf-length}
-use Rattle.chains.proofs.TestLaws.{reflects-false}
+use Rattle.lists.proofs.Reflects.{reflects-false}
 
 -- sharing ground does not depend on the order
 interiorsMeet-sym : (s t : Triangle) → interiorsMeet s t ≡ interiorsMeet t s

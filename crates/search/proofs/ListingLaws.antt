@@ -15,7 +15,7 @@ use Rattle.lists.proofs.PartLaws.{part-map, part-places}
 use Rattle.orthtree.specs.Entries.{Entry, emptyMark, isMark, span, covers, chain}
 use Rattle.orthtree.proofs.ChainLaws.{isMark-reflects}
 use Rattle.call_spec.specs.Buffers.{zipEntries}
-use Rattle.call_spec.proofs.BuffersLaws.{first-count, first-at}
+use Rattle.call_laws.proofs.EntriesLaws.{first-count, first-at}
 use Rattle.search.specs.Passes.{Rises, Passes}
 use Rattle.search.proofs.BlockLaws.{CellPart, keys-rise, to-positive, cell-part}
 use Rattle.search.proofs.MarkLaws.{all-items, all-marks, items-kept, mark-dropped}

@@ -1,5 +1,5 @@
 use Rattle.call_spec.specs.Buffers.{chartOf}
-use Rattle.chains.proofs.BufferLaws.{long-enough, rule-joined}
+use Rattle.call_laws.proofs.BufferLaws.{long-enough, rule-joined}
 use Rattle.chains.proofs.chain_rule.Statement.{statement}
 use Rattle.chains.proofs.chain_rule.Tie as tie
 

@@ -1,6 +1,6 @@
 use native.Mathlib.Omega.{arith}
 use Rattle.call_spec.specs.Buffers.{chartOf}
-use Rattle.chains.proofs.BufferLaws.{entries-many, entries-chained}
+use Rattle.call_laws.proofs.BufferLaws.{entries-many, entries-chained}
 use Rattle.chains.proofs.entries_rule.Statement.{statement}
 use Rattle.chains.proofs.entries_rule.Tie as tie
 

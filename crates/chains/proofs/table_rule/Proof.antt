@@ -1,5 +1,5 @@
 use native.Mathlib.Omega.{arith}
-use Rattle.chains.proofs.BufferLaws.{table-many, table-proper}
+use Rattle.call_laws.proofs.BufferLaws.{table-many, table-proper}
 use Rattle.chains.proofs.table_rule.Statement.{statement}
 use Rattle.chains.proofs.table_rule.Tie as tie
 

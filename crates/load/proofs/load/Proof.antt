@@ -4,7 +4,7 @@ use borrow.Author.Needs.{needs}
 use Rattle.chart_spec.specs.Refusals.{numberOf, valueOf, outcomeNumber, outcomeValue}
 use Rattle.call_spec.specs.Buffers.{chartOf}
 use Rattle.call_spec.specs.Calls.{changedBy}
-use Rattle.chains.proofs.BufferLaws.{long-enough}
+use Rattle.call_laws.proofs.BufferLaws.{long-enough}
 use Rattle.load.proofs.LoadLaws.{length-few, given-proper, load-short, load-length, load-faulty, load-many, load-done}
 use Rattle.load.proofs.load.Statement.{statement}
 use Rattle.load.proofs.load.Tie as tie

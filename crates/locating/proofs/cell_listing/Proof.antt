@@ -7,7 +7,8 @@ use Rattle.call_spec.specs.Buffers.{Chart, chartOf, chartEntries, tooShort, cha
 use Rattle.lists.specs.Lists.{countFrom}
 use Rattle.search.specs.Place.{OwnPart}
 use Rattle.search.proofs.PlaceLaws.{own-part}
-use Rattle.locating.proofs.CallLaws.{readable-both, listing-refused, listing-done, places-refused, places-done, searchable}
+use Rattle.call_laws.proofs.BufferLaws.{searchable}
+use Rattle.locating.proofs.CallLaws.{readable-both, listing-refused, listing-done, places-refused, places-done}
 use Rattle.locating.proofs.cell_listing.Statement.{statement}
 use Rattle.locating.proofs.cell_listing.Tie as tie
 

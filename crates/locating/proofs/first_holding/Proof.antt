@@ -6,7 +6,7 @@ use Rattle.lists.specs.Lists.{first}
 use Rattle.plane.specs.Triangle.{holds, triangleOf, cornerAt}
 use Rattle.chart_spec.specs.Table.{triangleAt}
 use Rattle.locating.specs.Holding.{foundOf}
-use Rattle.locating.proofs.FirstLaws.{first-over, first-here, first-later}
+use Rattle.lists.proofs.FirstLaws.{first-over, first-here, first-later}
 use borrow.Author.Needs.{needs}
 use Rattle.locating.proofs.first_holding.Statement.{statement}
 use Rattle.locating.proofs.first_holding.Tie as tie

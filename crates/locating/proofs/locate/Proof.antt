@@ -3,7 +3,8 @@ use mathlib.Core.Bool.{true, false}
 use borrow.Author.Needs.{needs}
 use borrow.Author.Tests.{not-true, not-false}
 use Rattle.call_spec.specs.Buffers.{Chart, chartOf, chartEntries, tooShort, chainRule}
-use Rattle.locating.proofs.CallLaws.{locate-short, locate-broken, locate-done, searchable, table-holds}
+use Rattle.call_laws.proofs.BufferLaws.{searchable}
+use Rattle.locating.proofs.CallLaws.{locate-short, locate-broken, locate-done, table-holds}
 use Rattle.locating.proofs.locate.Statement.{statement}
 use Rattle.locating.proofs.locate.Tie as tie
 

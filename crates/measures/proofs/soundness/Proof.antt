@@ -4,7 +4,7 @@ use borrow.Author.Tests.{not-true, not-false}
 use Rattle.chart_spec.specs.Refusals.{refuseIf}
 use Rattle.call_spec.specs.Buffers.{chartOf, chartTable}
 use Rattle.call_spec.specs.Calls.{reading, ifLong, ifChained, soundCall}
-use Rattle.measures.proofs.TableLaws.{rule-held}
+use Rattle.call_laws.proofs.BufferLaws.{rule-held}
 use Rattle.measures.proofs.soundness.Statement.{statement}
 use Rattle.measures.proofs.soundness.Tie as tie
 

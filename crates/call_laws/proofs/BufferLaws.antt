@@ -1,20 +1,20 @@
 -- The chain rule of a chart from its two parts, and the lengths of buffers that are not too short.
 -- Assumes nothing.
 use mathlib.Core.Path.{_≡_, refl, sym, _∙_}
-use mathlib.Core.Bool.{Bool, true, false, true≢false, _&&_, _||_, and-true}
+use mathlib.Core.Bool.{Bool, true, false, _&&_, _||_, and-true}
 use mathlib.Core.List.{List}
-use Prim.Native.Nat.{ℕ, zero, suc, _≤_, _<_}
+use Prim.Native.Nat.{ℕ, zero, suc, _*_, _≤_, _<_}
 use native.Mathlib.Omega.{arith}
 use borrow.Author.Tests.{ltb-false, le-leb, lt-leb}
 use lib.Dec.{T, leb, ltb}
 use lib.ListN.{length, take}
 use Rattle.lists.specs.Lists.{all}
-use Rattle.lists.proofs.Reflects.{reflects-and, reflects-leb, reflects-test, test-true}
+use Rattle.lists.proofs.Reflects.{reflects-and, reflects-leb, reflects-test, test-true, or-neither}
 use Rattle.lists.proofs.ListsLaws.{Every, all-reflects}
 use Rattle.orthtree.specs.Entries.{Entry, chain}
 use Rattle.plane.specs.Triangle.{proper}
 use Rattle.squares.specs.Square.{arity, depth}
-use Rattle.chart_spec.specs.Table.{tableOf, tableLength, maxTriangles}
+use Rattle.chart_spec.specs.Table.{tableOf, tableLength, maxTriangles, numbersPerTriangle}
 use Rattle.chart_spec.specs.Cells.{maxEntries}
 use Rattle.call_spec.specs.Buffers.{Chart, tooShort, zipEntries, chartTable, chartEntries, tableRule, entryCountFits, entriesRule, chainRule}
 
@@ -24,11 +24,6 @@ pub record LongEnough (c : Chart) : Type 0 where
   pub keys : maxEntries ≤ length (c .keys)
   pub levels : maxEntries ≤ length (c .levels)
   pub items : maxEntries ≤ length (c .items)
-
--- neither of two tests holds where "or" fails
-pub or-neither : (a b : Bool) → a || b ≡ false → (a ≡ false) × (b ≡ false)
-or-neither true b h = absurd (true≢false h)
-or-neither false b h = (refl, h)
 
 pub long-enough : (c : Chart) → tooShort c ≡ false → LongEnough c
 unfolding tooShort
@@ -103,3 +98,25 @@ ruled c e =
     (reflects-test (chain arity depth (c .triangleCount) (chartEntries c)))) in
     let p = r .to (rw e tt) in
     record { triangles = p .0 .0; entries = p .1 .0 .1; allProper = test-true (q .from (p .0 .1)); good = p .0 .1; chained = p .1 .1 }
+
+-- the table of a chart whose buffers are long enough and hold to the chain rule
+pub record Held (c : Chart) : Type 0 where
+  pub few : c .triangleCount ≤ maxTriangles
+  pub room : numbersPerTriangle * c .triangleCount ≤ length (c .table)
+  pub good : all (λ t. proper t) (chartTable c) ≡ true
+
+-- it follows from refusals 1 and 2
+pub rule-held : (c : Chart) → tooShort c ≡ false → chainRule c ≡ true → Held c
+rule-held c s h =
+    let r = ruled c h in
+    let long = long-enough c s in
+    record { few = r .triangles; room = omega (arith, r .triangles, long .table); good = r .allProper }
+
+-- then the lists may be searched
+pub searchable : (c : Chart) → tooShort c ≡ false → chainRule c ≡ true
+    → ((c .entryCount ≤ length (c .keys)) × ((c .entryCount ≤ length (c .levels)) × (c .entryCount ≤ length (c .items))))
+    × (chain arity depth (c .triangleCount) (take (c .entryCount) (zipEntries (c .keys) (c .levels) (c .items))) ≡ true)
+unfolding chartEntries
+searchable c s e =
+    let long = long-enough c s in
+    let rule = ruled c e in ((omega arith, (omega arith, omega arith)), test-true (rule .chained))

@@ -12,19 +12,17 @@ use lib.Seq.{ext-getD}
 use Rattle.lists.specs.Lists.{all}
 use Rattle.lists.proofs.Reflects.{test-true}
 use Rattle.lists.proofs.ListsLaws.{getD-stride}
+use Rattle.lists.proofs.FlatMapLaws.{flatMap-length}
 use Rattle.orthtree.specs.Entries.{Entry, chain}
 use Rattle.plane.specs.Triangle.{Triangle, proper}
-use Rattle.squares.specs.Square.{arity, depth, wholeSquare}
+use Rattle.squares.specs.Square.{arity, depth}
 use Rattle.chart_spec.specs.Table.{Table, pointAt, triangleAt, tableOf, triangleNumbers, tableNumbers, numbered, noTriangle, tableLength, maxTriangles}
 use Rattle.chart_spec.specs.Cells.{entriesOf, maxEntries}
-use Rattle.chart_laws.proofs.EntriesOfTable.{entriesIn-whole}
-use Rattle.chart_laws.proofs.ChainOfTable.{entriesIn-positive, entries-chain}
+use Rattle.chart_laws.proofs.ChainOfTable.{entries-chain}
 use Rattle.chart_laws.proofs.TableLaws.{numbered-at, tableOf-length}
 use Rattle.call_spec.specs.Buffers.{Chart, tooShort, padded, zipEntries, chartTable, chartEntries, chainRule, indexed, chartWith, indexedChart}
-use Rattle.call_spec.proofs.BuffersLaws.{sameEntries-reflects}
-use Rattle.chains.proofs.TestLaws.{reflects-true}
-use Rattle.chains.proofs.BufferLaws.{long-enough, counts-reflects, rule-joined}
-use Rattle.shapes.proofs.PutLaws.{flatMap-length}
+use Rattle.call_laws.proofs.EntriesLaws.{sameEntries-reflects}
+use Rattle.call_laws.proofs.BufferLaws.{long-enough, table-proper, entries-chained, rule-joined}
 
 -- ---- the table
 
@@ -33,12 +31,17 @@ six : (t : Triangle) → length (triangleNumbers t) ≡ 6
 unfolding triangleNumbers
 six t = refl
 
+-- so a table has six for each of its triangles
+pub table-length : (t : Table) → length (tableNumbers t) ≡ 6 * length t
+unfolding tableNumbers
+table-length t = flatMap-length (λ s. triangleNumbers s) 6 six t
+
 module _ (t : Table) (rest : List ℕ) (i : ℕ) (h : i < length t) where
   -- number m of triangle i stands at place k
   number-at : (k m : ℕ) → k ≡ 6 * i + m → m < 6 → getD (tableNumbers t ++ rest) k 0 ≡ getD (triangleNumbers (numbered t i)) m 0
   unfolding tableNumbers numbered
   number-at k m e l =
-      List·getD-append (tableNumbers t) rest 0 k (omega (arith, flatMap-length (λ s. triangleNumbers s) 6 six t))
+      List·getD-append (tableNumbers t) rest 0 k (omega (arith, table-length t))
       ∙ ap (λ j. getD (tableNumbers t) j 0) e
       ∙ getD-stride (λ s. triangleNumbers s) 6 six t i m noTriangle h l
 
@@ -130,12 +133,12 @@ module _ (c : Chart) (t : Table) where
   module _ (few : length t ≤ maxTriangles) (small : length (entriesOf t) ≤ maxEntries) where
     -- not refusal 1
     indexed-long : tooShort c ≡ false → tooShort (indexedChart c t) ≡ false
-    unfolding indexedChart chartWith tableNumbers
+    unfolding indexedChart chartWith
     indexed-long s =
         let long = long-enough c s in
         let es = entriesOf t in
         short-same c (indexedChart c t)
-        (padded-length tableLength (tableNumbers t) (c .table) (omega (arith, flatMap-length (λ s. triangleNumbers s) 6 six t)) (long .table))
+        (padded-length tableLength (tableNumbers t) (c .table) (omega (arith, table-length t)) (long .table))
         (padded-length maxEntries (map (λ e. e .key) es) (c .keys) (omega (arith, length-map es (λ e. e .key))) (long .keys))
         (padded-length maxEntries (map (λ e. e .level) es) (c .levels) (omega (arith, length-map es (λ e. e .level))) (long .levels))
         (padded-length maxEntries (map (λ e. e .item) es) (c .items) (omega (arith, length-map es (λ e. e .item))) (long .items))
@@ -145,10 +148,10 @@ module _ (c : Chart) (t : Table) where
     indexed-chain : all (λ s. proper s) t ≡ true → chainRule (indexedChart c t) ≡ true
     unfolding chartTable chartEntries indexedChart chartWith
     indexed-chain p =
-        let some = rw (entriesIn-whole t) at (entriesIn-positive t wholeSquare) in
-        sym (rule-joined (indexedChart c t) (reflects-true (counts-reflects (length t) (length (entriesOf t))) (few, (some, small)))
-        (sym (ap (all (λ s. proper s)) (indexed-table c t) ∙ p))
-        (sym (ap (chain arity depth (length t)) (indexed-entries c t) ∙ test-true (entries-chain t few))))
+        let d = indexedChart c t in
+        sym (rule-joined d
+        (table-proper (d .table) (length t) few (sym (ap (all (λ s. proper s)) (indexed-table c t) ∙ p)))
+        (entries-chained d small (sym (ap (chain arity depth (length t)) (indexed-entries c t) ∙ test-true (entries-chain t few)))))
 
     -- the chart of a table within the limits whose triangles have D > 0, in buffers that are long enough
     pub indexed-editable : tooShort c ≡ false → all (λ s. proper s) t ≡ true → Editable (indexedChart c t)

@@ -1,0 +1,3 @@
+pub mod EntriesLaws
+pub mod BufferLaws
+pub mod IndexedLaws
