@@ -9,7 +9,7 @@ use native.Mathlib.Decide.{decLe}
 use native.Mathlib.Omega.{arith}
 use lib.ListN.{length}
 use Rattle.chart_spec.specs.Cells.{entriesOf, maxEntries}
-use Rattle.chart_spec.specs.Refusals.{Refusal, refused, numberOf}
+use Rattle.chart_spec.specs.Refusals.{Refusal, shortBuffer, badLength, faultyTriangle, tooManyEntries, refused}
 use Rattle.chart_laws.proofs.TableLaws.{tableOf-length}
 use Rattle.call_spec.specs.Buffers.{Chart, tooShort}
 use Rattle.call_spec.specs.Calls.{changedBy, loadCall}
@@ -19,14 +19,13 @@ use Rattle.call_laws.proofs.IndexedLaws.{Editable, indexed-editable}
 
 module _ (ns : List ℕ) (c : Chart) (z : loadCall ns c .number ≡ 0) where
   -- 0 is the number of no refusal
-  not-refused : (r : Refusal) → 0 < numberOf r → changedBy c (refused r) ≡ loadCall ns c → ⊥
+  not-refused : (r : Refusal) → 0 < r .number → changedBy c (refused r) ≡ loadCall ns c → ⊥
   unfolding changedBy
   not-refused r p e = let n = ap (λ d. d .number) e in omega arith
 
   -- so not 1
   long : (b : Bool) → tooShort c ≡ b → tooShort c ≡ false
-  unfolding numberOf
-  long true s = absurd (not-refused Refusal.shortBuffer (omega arith) (load-short ns c s))
+  long true s = absurd (not-refused shortBuffer (omega arith) (load-short ns c s))
   long false s = s
 
   abbrev isLong : tooShort c ≡ false
@@ -34,8 +33,7 @@ module _ (ns : List ℕ) (c : Chart) (z : loadCall ns c .number ≡ 0) where
 
   -- nor 4
   whole : (b : Bool) → lengthTest ns ≡ b → lengthTest ns ≡ false
-  unfolding numberOf
-  whole true e = absurd (not-refused Refusal.badLength (omega arith) (load-length ns c isLong e))
+  whole true e = absurd (not-refused badLength (omega arith) (load-length ns c isLong e))
   whole false e = e
 
   abbrev isWhole : lengthTest ns ≡ false
@@ -43,18 +41,16 @@ module _ (ns : List ℕ) (c : Chart) (z : loadCall ns c .number ≡ 0) where
 
   -- nor 5
   none-faulty : length ns / 6 ≤ firstFaulty (given ns)
-  unfolding numberOf
   none-faulty = elim (decLe (length ns / 6) (firstFaulty (given ns))) [
     | yes h ↦ h
-    | no n ↦ absurd (not-refused (Refusal.faultyTriangle (firstFaulty (given ns))) (omega arith) (load-faulty ns c isLong isWhole refl (omega arith)))
+    | no n ↦ absurd (not-refused (faultyTriangle (firstFaulty (given ns))) (omega arith) (load-faulty ns c isLong isWhole refl (omega arith)))
   ]
 
   -- nor 11
   few-entries : length (entriesOf (given ns)) ≤ maxEntries
-  unfolding numberOf
   few-entries = elim (decLe (length (entriesOf (given ns))) maxEntries) [
     | yes h ↦ h
-    | no n ↦ absurd (not-refused Refusal.tooManyEntries (omega arith) (load-over ns c isLong isWhole refl none-faulty (omega arith)))
+    | no n ↦ absurd (not-refused tooManyEntries (omega arith) (load-over ns c isLong isWhole refl none-faulty (omega arith)))
   ]
 
   editable : Editable (loadCall ns c .chart)

@@ -19,7 +19,7 @@ use Rattle.chart_spec.specs.Refusals.{shortBuffer, badLength, faultyTriangle, t
 use Rattle.chart_spec.specs.Edits.{eventOn, proposed, loadTable, givenTable, withinLimit, limited}
 use Rattle.chart_laws.proofs.TableLaws.{tableNumbers-take, tableOf-length}
 use Rattle.call_spec.specs.Buffers.{Chart, chartOf, tooShort, padded, chartWith, indexedChart}
-use Rattle.call_spec.specs.Calls.{Changed, changedBy, loadCall}
+use Rattle.call_spec.specs.Calls.{Changed, changedBy, loadCall, ifLong}
 use Rattle.entry_lists.specs.Lists.{Listed}
 use Rattle.load.specs.Faulty.{firstFaulty}
 use Rattle.lists.proofs.Reflects.{or-neither}
@@ -67,30 +67,30 @@ module _ (ns : List ℕ) {f : ℕ} (e : f ≡ firstFaulty (given ns)) where
 module _ (ns : List ℕ) (c : Chart) where
   -- refusal 1
   pub load-short : tooShort c ≡ true → changedBy c (refused shortBuffer) ≡ loadCall ns c
-  unfolding loadCall refuseIf
+  unfolding loadCall ifLong refuseIf
   load-short s = rw s
 
   module _ (s : tooShort c ≡ false) where
     -- refusal 4
     pub load-length : lengthTest ns ≡ true → changedBy c (refused badLength) ≡ loadCall ns c
-    unfolding loadCall refuseIf eventOn andThen proposed loadTable
+    unfolding loadCall ifLong refuseIf eventOn andThen proposed loadTable
     load-length b = rw (s, b)
 
     module _ (b : lengthTest ns ≡ false) {f : ℕ} (e : f ≡ firstFaulty (given ns)) where
       -- refusal 5
       pub load-faulty : f < length ns / 6 → changedBy c (refused (faultyTriangle f)) ≡ loadCall ns c
-      unfolding loadCall refuseIf eventOn andThen proposed loadTable givenTable
+      unfolding loadCall ifLong refuseIf eventOn andThen proposed loadTable givenTable
       load-faulty h = rw (s, b, faulty-refused (given ns) (omega (arith, tableOf-length ns (length ns / 6))), e)
 
       module _ (h : length ns / 6 ≤ f) where
         -- refusal 11
         pub load-over : maxEntries < length (entriesOf (given ns)) → changedBy c (refused tooManyEntries) ≡ loadCall ns c
-        unfolding loadCall refuseIf eventOn andThen proposed loadTable givenTable withinLimit limited
+        unfolding loadCall ifLong refuseIf eventOn andThen proposed loadTable givenTable withinLimit limited
         load-over m = rw (s, b, faulty-done (given ns) (past-last ns e h), lt-ltb maxEntries (length (entriesOf (given ns))) m)
 
         -- accepted
         pub load-accepted : length (entriesOf (given ns)) ≤ maxEntries → changedBy c (done (given ns)) ≡ loadCall ns c
-        unfolding loadCall refuseIf eventOn andThen proposed loadTable givenTable withinLimit limited
+        unfolding loadCall ifLong refuseIf eventOn andThen proposed loadTable givenTable withinLimit limited
         load-accepted m = rw (s, b, faulty-done (given ns) (past-last ns e h), le-ltb maxEntries (length (entriesOf (given ns))) m)
 
         module _ {m : ℕ} {ks ls is : List ℕ} (l : Listed (entriesOf (given ns)) m (c .keys) ks (c .levels) ls (c .items) is) where

@@ -1,7 +1,7 @@
 use mathlib.Core.Path.{sym, _∙_}
 use native.Mathlib.Omega.{arith}
 use borrow.Author.Needs.{needs}
-use Rattle.chart_spec.specs.Refusals.{numberOf, valueOf, outcomeNumber, outcomeValue}
+use Rattle.chart_spec.specs.Refusals.{outcomeNumber, outcomeValue}
 use Rattle.call_spec.specs.Buffers.{chartOf}
 use Rattle.call_spec.specs.Calls.{changedBy}
 use Rattle.call_laws.proofs.BufferLaws.{long-enough}
@@ -25,7 +25,7 @@ same-length-4 : tie.Need-same-length-4
 same-length-4 c = search needs
 
 returns : tie.Need-returns
-unfolding changedBy numberOf valueOf outcomeNumber outcomeValue
+unfolding changedBy outcomeNumber outcomeValue
 returns c =
     let a = c .before .before .before .before .before .before .before .before .before .before .before .args in
     let chart = chartOf (a .table .now) (a .keys .now) (a .levels .now) (a .items .now) (a .triangles) (a .entries) in
@@ -45,7 +45,7 @@ same-length-8 : tie.Need-same-length-8
 same-length-8 c = search needs
 
 returns-2 : tie.Need-returns-2
-unfolding changedBy numberOf valueOf outcomeNumber outcomeValue
+unfolding changedBy outcomeNumber outcomeValue
 returns-2 c =
     let a = c .before .before .before .before .before .before .before .before .before .before .before .before .args in
     let chart = chartOf (a .table .now) (a .keys .now) (a .levels .now) (a .items .now) (a .triangles) (a .entries) in
@@ -68,7 +68,7 @@ same-length-12 : tie.Need-same-length-12
 same-length-12 c = search needs
 
 returns-3 : tie.Need-returns-3
-unfolding changedBy numberOf valueOf outcomeNumber outcomeValue
+unfolding changedBy outcomeNumber outcomeValue
 returns-3 c =
     let a = c .before .before .before .before .before .before .before .before .before .before .before .before .before .before .args in
     let chart = chartOf (a .table .now) (a .keys .now) (a .levels .now) (a .items .now) (a .triangles) (a .entries) in
@@ -98,7 +98,7 @@ same-length-16 : tie.Need-same-length-16
 same-length-16 c = search needs
 
 returns-4 : tie.Need-returns-4
-unfolding changedBy numberOf valueOf outcomeNumber outcomeValue
+unfolding changedBy outcomeNumber outcomeValue
 returns-4 c =
     let a = c .before .before .before .before .before .before .before .before .before .before .before .before .before .before .before .before .before .before .before .before .before .before .before .before .before .args in
     let chart = chartOf (a .table .now) (a .keys .now) (a .levels .now) (a .items .now) (a .triangles) (a .entries) in
@@ -131,7 +131,7 @@ same-length-20 : tie.Need-same-length-20
 same-length-20 c = search needs
 
 returns-5 : tie.Need-returns-5
-unfolding changedBy numberOf valueOf outcomeNumber outcomeValue
+unfolding changedBy outcomeNumber outcomeValue
 returns-5 c =
     let a = c .before .before .before .before .before .before .before .before .before .before .before .before .before .before .before .before .before .before .before .before .before .before .before .before .before .before .before .before .before .args in
     let chart = chartOf (a .table .now) (a .keys .now) (a .levels .now) (a .items .now) (a .triangles) (a .entries) in
