@@ -1,4 +1,7 @@
 pub mod TableLaws
+pub mod ProperLaws
+pub mod SoundLaws
+pub mod AreaLaws
 pub mod TriangleLaws
 pub mod OutcomeLaws
 pub mod RotationLaws

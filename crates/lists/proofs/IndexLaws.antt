@@ -9,7 +9,7 @@ use native.Mathlib.Numerals.{add-one}
 use lib.Dec.{T}
 use lib.ListN.{length}
 use Rattle.lists.specs.Lists.{all, countFrom, upTo}
-use Rattle.lists.proofs.Reflects.{Reflects, reflects-test, reflects-iff}
+use Rattle.lists.proofs.Reflects.{Reflects, reflects-test, reflects-iff, test-false}
 use Rattle.lists.proofs.ListsLaws.{Every, all-reflects, upTo-to, upTo-from}
 
 -- two tests that decide the same claim are equal
@@ -101,3 +101,11 @@ pub all-below-fewer : (f : ℕ → Bool) {m n : ℕ} → m ≤ n → all f (upTo
 all-below-fewer f {m} {n} h e =
     reflects-same (all-below-reflects f m)
     (record { to = λ t i l. all-below-at f e (lt-of-lt-of-le l h); from = λ g. tt })
+
+-- one test that fails below the bound
+pub all-below-fails : (f : ℕ → Bool) (n i : ℕ) → i < n → f i ≡ false → false ≡ all f (upTo n)
+all-below-fails f n i l e = sym (test-false λ h. rw e at (all-below-reflects f n .to h i l))
+
+-- one more test that passes
+pub all-below-passes : (f : ℕ → Bool) (i : ℕ) → all f (upTo i) ≡ true → f i ≡ true → all f (upTo (i + 1)) ≡ true
+all-below-passes f i h e = sym (all-below-step f i (sym h) (sym e))

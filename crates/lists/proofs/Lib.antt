@@ -11,6 +11,7 @@ pub mod SumLaws
 pub mod LowestLaws
 pub mod Runs
 pub mod IndexLaws
+pub mod TestedRuns
 pub mod Examples
 pub mod PartLaws
 pub mod LentLaws

@@ -3,4 +3,5 @@ pub mod Difference
 pub mod OrientLaws
 pub mod SideLaws
 pub mod ExtremeLaws
+pub mod InteriorLaws
 pub mod Examples

@@ -17,3 +17,4 @@ pub mod Parts
 pub mod Segment
 pub mod SideTouch
 pub mod SideMeets
+pub mod BoxLaws
