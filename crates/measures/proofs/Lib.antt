@@ -1,4 +1,1 @@
-pub mod TableLaws
-pub mod SoundLaws
 pub mod AreaLaws
-pub mod BoxLaws

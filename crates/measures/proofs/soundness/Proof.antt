@@ -40,7 +40,7 @@ all-apart-requires c κs =
     let h = rule-held (chartOf (a .table .now) (a .keys .now) (a .levels .now) (a .items .now) (a .triangles) (a .entries))
     (sym (c .before .before .before .too-short .ensures (a .triangles) (a .entries)) ∙ c .before .before .if1 .left)
     (sym (call .ensures) ∙ not-false (call .result) (c .if2 .left)) in
-    (h .room, h .good)
+    ((h .few, h .room), h .good)
 
 returns-3 : tie.Need-returns-3
 unfolding soundCall reading ifChained ifLong refuseIf chartTable

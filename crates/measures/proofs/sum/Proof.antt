@@ -5,8 +5,8 @@ use borrow.Author.Needs.{needs}
 use Rattle.plane.specs.Triangle.{triangleOf, cornerAt, proper, doubledArea}
 use Rattle.chart_spec.specs.Table.{tableOf}
 use Rattle.chart_spec.specs.Reading.{totalArea}
-use Rattle.measures.proofs.TableLaws.{proper-at}
-use Rattle.measures.proofs.AreaLaws.{totalArea-none, totalArea-more}
+use Rattle.chart_laws.proofs.ProperLaws.{proper-at}
+use Rattle.chart_laws.proofs.AreaLaws.{totalArea-none, totalArea-more}
 use Rattle.measures.proofs.sum.Statement.{statement}
 use Rattle.measures.proofs.sum.Tie as tie
 

@@ -5,32 +5,33 @@ use native.Mathlib.Omega.{arith}
 use borrow.Author.Needs.{needs}
 use borrow.Author.Tests.{not-true, not-false}
 use Rattle.lists.specs.Lists.{all, upTo}
-use Rattle.lists.proofs.IndexLaws.{all-below-none}
-use Rattle.measures.proofs.TableLaws.{proper-fewer}
-use Rattle.measures.proofs.SoundLaws.{apart, all-below-fails, all-below-passes, sound-below}
-use Rattle.measures.proofs.all_apart.Statement.{statement}
-use Rattle.measures.proofs.all_apart.Tie as tie
+use Rattle.lists.proofs.IndexLaws.{all-below-none, all-below-fails, all-below-passes}
+use Rattle.chart_laws.proofs.SoundLaws.{apart, sound-below}
+use Rattle.apart.proofs.BoxesLaws.{prepared-fewer}
+use Rattle.apart.proofs.pairs_apart.Statement.{statement}
+use Rattle.apart.proofs.pairs_apart.Tie as tie
 
 abbrev Inv-loop : tie.InvT-loop
-Inv-loop table n i₀ i = (i ≤ n) × (all (λ k. all (λ j. apart table k j) (upTo k)) (upTo i) ≡ true)
+Inv-loop table lefts tops rights bottoms n i₀ i = (i ≤ n) × (all (λ k. all (λ j. apart table k j) (upTo k)) (upTo i) ≡ true)
 
 abbrev μ-loop : tie.MeasureT-loop
-μ-loop table n i₀ i = n - i
+μ-loop table lefts tops rights bottoms n i₀ i = n - i
 
 loop-holds : tie.Need-loop-holds Inv-loop μ-loop
 loop-holds c =
-    let table = c .before .args .table .now in
-    (search needs, all-below-none (λ i. all (λ j. apart table i j) (upTo i)))
+    let table = c .before .before .before .before .before .args .table .now in
+    (omega arith, all-below-none (λ i. all (λ j. apart table i j) (upTo i)))
 
 is-apart-requires : tie.Need-is-apart-requires Inv-loop μ-loop
 is-apart-requires c κs =
-    let top = c .before .before .before in
+    let top = c .before .before .before .before .before .before .before in
     let a = top .args in
-    (omega arith, proper-fewer (a .table .now) (c .before .loop .i + 1) (a .n) (top .pre .1) (omega arith))
+    prepared-fewer (a .table .now) (a .lefts .now) (a .tops .now) (a .rights .now) (a .bottoms .now) (c .before .loop .i + 1) (a .n)
+    (omega arith) (top .pre)
 
 returns : tie.Need-returns Inv-loop μ-loop
 returns c =
-    let a = c .before .before .before .before .before .args in
+    let a = c .before .before .before .before .before .before .before .before .before .args in
     let table = a .table .now in
     let call = c .before .is-apart in
     all-below-fails (λ i. all (λ j. apart table i j) (upTo i)) (a .n) (c .before .before .before .loop .i) (omega arith)
@@ -45,7 +46,7 @@ loop-less c = search needs
 
 loop-again : tie.Need-loop-again Inv-loop μ-loop
 loop-again c =
-    let table = c .before .before .before .before .before .args .table .now in
+    let table = c .before .before .before .before .before .before .before .before .before .args .table .now in
     let l = c .before .before .before .loop in
     let call = c .before .is-apart in (
       omega arith,
@@ -55,13 +56,13 @@ loop-again c =
 
 returns-2 : tie.Need-returns-2 Inv-loop μ-loop
 returns-2 c =
-    let a = c .before .before .before .args in
+    let a = c .before .before .before .before .before .before .before .args in
     let table = a .table .now in
     sym (c .before .loop .inv .1) ∙ ap (λ k. all (λ i. all (λ j. apart table i j) (upTo i)) (upTo k)) (omega arith)
     ∙ sound-below table (a .n)
 
-pub all-apart-spec : {M : Type 1} → statement M
-all-apart-spec =
+pub pairs-apart-spec : {M : Type 1} → statement M
+pairs-apart-spec =
     tie.close
     (tie.spec
     Inv-loop
