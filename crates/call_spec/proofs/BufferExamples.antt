@@ -2,11 +2,13 @@
 -- Assumes nothing.
 use mathlib.Core.Path.{_≡_, refl}
 use mathlib.Core.Bool.{Bool, true, false}
-use mathlib.Core.List.{List, [], _∷_, _++_, map, flatMap}
+use mathlib.Core.List.{List, [], _∷_, _++_, map}
 use Prim.Native.Nat.{ℕ}
 use lib.ListN.{replicate}
+use Rattle.lists.specs.Lists.{all}
 use Rattle.orthtree.specs.Entries.{Entry}
-use Rattle.plane.specs.Triangle.{Triangle}
+use Rattle.plane.specs.Triangle.{Triangle, proper}
+use Rattle.chart_spec.specs.Table.{tableOf}
 use Rattle.chart_spec.proofs.MarkedCases.{at}
 use Rattle.chart_spec.proofs.EditExamples.{tri, pa, pb, pc}
 use Rattle.chart_spec.proofs.OverlayExamples.{entry}
@@ -76,19 +78,18 @@ entryCountFits-example : map (λ m. entryCountFits m) (0 ∷ 1 ∷ 16384 ∷ 163
 unfolding evaluate
 entryCountFits-example = refl
 
--- 512 triangles pass, 513 do not; the third triangle has D = 0
-abbrev many : ℕ → List ℕ
-many n = flatMap {A = ℕ} (λ k. 0 ∷ 0 ∷ 9 ∷ 1 ∷ 0 ∷ 5 ∷ []) (replicate n 0)
+-- the third triangle has D = 0
+abbrev three : List ℕ
+three = 0 ∷ 0 ∷ 9 ∷ 1 ∷ 0 ∷ 5 ∷ 0 ∷ 0 ∷ 9 ∷ 1 ∷ 0 ∷ 5 ∷ 0 ∷ 0 ∷ 9 ∷ 3 ∷ 3 ∷ 1 ∷ []
 
-tableRule-example :
-    tableRule (many 513) 512
-    ∷ tableRule (many 513) 513
-    ∷ tableRule (many 2 ++ (0 ∷ 0 ∷ 9 ∷ 3 ∷ 3 ∷ 1 ∷ [])) 2
-    ∷ tableRule (many 2 ++ (0 ∷ 0 ∷ 9 ∷ 3 ∷ 3 ∷ 1 ∷ [])) 3
-    ∷ []
-    ≡ true ∷ false ∷ true ∷ false ∷ []
+tableRule-example : map (λ n. tableRule three n) (0 ∷ 2 ∷ 3 ∷ []) ≡ true ∷ true ∷ false ∷ []
 unfolding evaluate
 tableRule-example = refl
+
+-- 512 triangles are judged, 513 are too many, whatever the numbers
+tableRule-most-example : (ns : List ℕ) → (tableRule ns 512 ≡ all (λ t. proper t) (tableOf ns 512)) × (tableRule ns 513 ≡ false)
+unfolding tableRule
+tableRule-most-example ns = (refl, refl)
 
 -- one triangle in one cell: the counts, the triangle and the chain each wrong alone
 abbrev whole : List ℕ → ℕ → ℕ → Chart
