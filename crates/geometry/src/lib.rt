@@ -96,14 +96,21 @@ fn some_corner_inner(p: Point, q: Point, t: [Point; 3]) -> bool
 fn no_side_separates(s: [Point; 3], t: [Point; 3]) -> bool
     ensures { λ o. ⌜ o ≡ noSideSeparates (triangleOf s) (triangleOf t) ⌝ }
 {
-    some_corner_inner(s[0], s[1], t)
-        & some_corner_inner(s[1], s[2], t)
-        & some_corner_inner(s[2], s[0], t)
+    if !some_corner_inner(s[0], s[1], t) {
+        return false;
+    }
+    if !some_corner_inner(s[1], s[2], t) {
+        return false;
+    }
+    some_corner_inner(s[2], s[0], t)
 }
 
 // Some point is strictly inside both triangles, where both have D > 0: no side of either separates them.
 pub fn interiors_meet(s: [Point; 3], t: [Point; 3]) -> bool
     ensures { λ o. ⌜ o ≡ interiorsMeet (triangleOf s) (triangleOf t) ⌝ }
 {
-    no_side_separates(s, t) & no_side_separates(t, s)
+    if !no_side_separates(s, t) {
+        return false;
+    }
+    no_side_separates(t, s)
 }
