@@ -1,3 +1,5 @@
 pub mod EntriesLaws
 pub mod BufferLaws
 pub mod IndexedLaws
+pub mod JudgeLaws
+pub mod EditCalls
