@@ -7,6 +7,8 @@ use Prim.Native.Nat.{ℕ}
 use Rattle.chart_spec.specs.Refusals.{shortBuffer, brokenChain, staleEntries, badLength, faultyTriangle, noSuchTriangle, notInside, notThreeAround, noFlip, tableFull, tooManyEntries, Outcome, refused, done, outcomeNumber, outcomeValue, doneOr}
 use Rattle.call_spec.specs.Buffers.{chartOf}
 use Rattle.call_spec.specs.Calls as Calls
+use Rattle.answers.specs.declared.Judged.{Judged}
+use Rattle.answers.specs.declared.Judged.the-variants as judgements
 use Rattle.answers.specs.declared.Change.{Change}
 use Rattle.answers.specs.declared.Change.the-variants as changes
 use Rattle.answers.specs.declared.Changed.{Changed}
@@ -16,6 +18,13 @@ use Rattle.answers.specs.declared.Soundness.{Soundness}
 use Rattle.answers.specs.declared.Soundness.the-variants as soundnesses
 use Rattle.answers.specs.declared.Area.{Area}
 use Rattle.answers.specs.declared.Area.the-variants as areas
+
+-- a chart before a call: nothing against it, or refusal 1, 2 or 3
+abbrev pub judgedOutcome : Judged → Outcome Bool
+judgedOutcome judgements.Fine = done true
+judgedOutcome judgements.ShortBuffer = refused shortBuffer
+judgedOutcome judgements.BrokenChain = refused brokenChain
+judgedOutcome judgements.StaleEntries = refused staleEntries
 
 -- a load or an edit: done with nothing more to say than the chart, or refused
 abbrev pub changeOutcome : Change → Outcome Bool

@@ -1,5 +1,13 @@
 // What the public calls answer. Document 01's number and value for each case are definitions in specs/.
 
+// What judging a chart before a call finds.
+pub enum Judged {
+    Fine,
+    ShortBuffer,
+    BrokenChain,
+    StaleEntries,
+}
+
 // How a load or an edit went.
 pub enum Change {
     Done,

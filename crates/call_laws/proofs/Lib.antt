@@ -2,4 +2,5 @@ pub mod EntriesLaws
 pub mod BufferLaws
 pub mod IndexedLaws
 pub mod JudgeLaws
+pub mod ReaderLaws
 pub mod EditCalls

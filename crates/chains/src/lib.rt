@@ -3,8 +3,9 @@
 // time; an `if` between two numbers makes no branch. Levels and items, which are narrower than keys, have loops of their own:
 // more of them fit into one step.
 
+use answers::Judged;
 ghost use mathlib.Core.Path.{_≡_};
-ghost use mathlib.Core.Bool.{true, false, _||_};
+ghost use mathlib.Core.Bool.{Bool, true, false, _||_};
 ghost use mathlib.Core.List.{List};
 ghost use Prim.Native.Nat.{ℕ, _+_, _*_, _≤_};
 ghost use lib.Dec.{leb, eqb};
@@ -15,7 +16,10 @@ ghost use Rattle.plane.specs.Triangle.{proper};
 ghost use Rattle.squares.specs.Square.{arity, depth};
 ghost use Rattle.chart_spec.specs.Table.{numbersPerTriangle, tableOf, tableLength};
 ghost use Rattle.chart_spec.specs.Cells.{maxEntries};
+ghost use Rattle.chart_spec.specs.Refusals.{Outcome, done};
 ghost use Rattle.call_spec.specs.Buffers.{zipEntries, tooShort, tableRule, entriesRule, chainRule, chartOf};
+ghost use Rattle.call_spec.specs.Calls.{ifChained};
+ghost use Rattle.answers.specs.Outcomes.{judgedOutcome};
 ghost use Rattle.chains.specs.Links.{entry, itemFits, linked, linkedAt, endsTree};
 
 // Each of the first n triangles has D > 0.
@@ -223,4 +227,24 @@ pub fn chain_rule(
     ensures { λ o. ⌜ o ≡ chainRule (chartOf (now (table .entry)) (now (keys .entry)) (now (levels .entry)) (now (items .entry)) count n) ⌝ }
 {
     table_rule(table, count) & entries_rule(keys, levels, items, count, n)
+}
+
+// Refusals 1 and 2 of a chart, in their order.
+pub fn judge(
+    table: &[u16],
+    keys: &[u32],
+    levels: &[u8],
+    items: &[u16],
+    triangles: usize,
+    entries: usize,
+) -> Judged
+    ensures { λ r. ⌜ _≡_ {A = Outcome Bool} (judgedOutcome r) (ifChained (chartOf (now (table .entry)) (now (keys .entry)) (now (levels .entry)) (now (items .entry)) triangles entries) (done true)) ⌝ }
+{
+    if too_short(table, keys, levels, items) {
+        return Judged::ShortBuffer;
+    }
+    if !chain_rule(table, keys, levels, items, triangles, entries) {
+        return Judged::BrokenChain;
+    }
+    Judged::Fine
 }

@@ -22,7 +22,7 @@ use Rattle.call_spec.specs.Buffers.{Chart, tooShort, chainRule, indexed, chartT
 use Rattle.call_spec.specs.Calls.{locateCall}
 use Rattle.call_laws.proofs.EntriesLaws.{sameEntries-reflects}
 use Rattle.call_laws.proofs.BufferLaws.{ruled}
-use Rattle.locating.proofs.CallLaws.{located-done}
+use Rattle.call_laws.proofs.ReaderLaws.{located-done}
 
 -- a table has as many triangles as its count says
 table-length : (c : Chart) → length (chartTable c) ≡ c .triangleCount
@@ -50,7 +50,7 @@ module _ (c : Chart) (p : Point) (r : chainRule c ≡ true) where
   module _ (s : tooShort c ≡ false) where
     found-first : locateCall c p .found ≡ first (λ i. holds (numbered (chartTable c) i) p) (listing (chartEntries c) p)
     unfolding located
-    found-first = sym (ap (λ a. a .found) (located-done c p s r))
+    found-first = sym (ap (λ a. a .found) (located-done c s r p))
 
     -- the triangle found is the lowest numbered of those listed that hold the point; nowhere is answered only if none of them holds it
     pub locate-lowest-listed : Lowest (λ i. holds (numbered (chartTable c) i) p) (listing (chartEntries c) p) (locateCall c p .found)

@@ -1,5 +1,6 @@
 // Locate and cell listing.
 
+use answers::Judged;
 use answers::Located;
 use plane::Point;
 ghost use mathlib.Core.Path.{_≡_};
@@ -13,7 +14,7 @@ ghost use Rattle.call_spec.specs.Calls.{locateCall, listingCall};
 ghost use Rattle.call_spec.specs.Calls.{Located as Calls·Located};
 ghost use Rattle.search.specs.Place.{OwnPart};
 ghost use Rattle.answers.specs.Outcomes.{locatedOf};
-ghost use Rattle.locating.specs.Holding.{foundOf, readable};
+ghost use Rattle.locating.specs.Holding.{foundOf};
 ghost use Rattle.locating.specs.Places.{placesCall};
 
 // The first of the listed triangles that holds p.
@@ -32,23 +33,6 @@ fn first_holding(table: &[u16], n: usize, list: &[u16], p: Point) -> Located
     Located::Nowhere
 }
 
-// Neither refusal 1 nor refusal 2 is met.
-fn is_readable(
-    table: &[u16],
-    keys: &[u32],
-    levels: &[u8],
-    items: &[u16],
-    triangles: usize,
-    entries: usize,
-) -> bool
-    ensures { λ o. ⌜ o ≡ readable (chartOf (now (table .entry)) (now (keys .entry)) (now (levels .entry)) (now (items .entry)) triangles entries) ⌝ }
-{
-    if chains::too_short(table, keys, levels, items) {
-        return false;
-    }
-    chains::chain_rule(table, keys, levels, items, triangles, entries)
-}
-
 // Cell listing of p: the triangle numbers of the cell whose key range has Z(p), as a part of the caller's own list; an empty
 // part for the mark and at a refusal.
 pub fn cell_listing<'a, 'b, 'c, 'd>(
@@ -63,9 +47,9 @@ pub fn cell_listing<'a, 'b, 'c, 'd>(
     ensures { λ r. ⌜ now r ≡ listingCall (chartOf (now (table .entry)) (now (keys .entry)) (now (levels .entry)) (now (items .entry)) triangles entries) p ⌝ }
     ensures { λ r. ⌜ OwnPart (items .entry) r (placesCall (chartOf (now (table .entry)) (now (keys .entry)) (now (levels .entry)) (now (items .entry)) triangles entries) p) ⌝ }
 {
-    if !is_readable(table, keys, levels, items, triangles, entries) {
+    let Judged::Fine = chains::judge(table, keys, levels, items, triangles, entries) else {
         return &items[0..0];
-    }
+    };
     search::listing(keys, levels, items, triangles, entries, p)
 }
 
@@ -81,16 +65,15 @@ pub fn locate(
 ) -> Located
     ensures { λ r. ⌜ _≡_ {A = Calls·Located} (locatedOf r) (locateCall (chartOf (now (table .entry)) (now (keys .entry)) (now (levels .entry)) (now (items .entry)) triangles entries) p) ⌝ }
 {
-    if chains::too_short(table, keys, levels, items) {
-        return Located::ShortBuffer;
+    match chains::judge(table, keys, levels, items, triangles, entries) {
+        Judged::Fine => first_holding(
+            table,
+            triangles,
+            search::listing(keys, levels, items, triangles, entries, p),
+            p,
+        ),
+        Judged::ShortBuffer => Located::ShortBuffer,
+        Judged::BrokenChain => Located::BrokenChain,
+        Judged::StaleEntries => Located::BrokenChain,
     }
-    if !chains::chain_rule(table, keys, levels, items, triangles, entries) {
-        return Located::BrokenChain;
-    }
-    first_holding(
-        table,
-        triangles,
-        search::listing(keys, levels, items, triangles, entries, p),
-        p,
-    )
 }

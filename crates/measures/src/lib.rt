@@ -1,6 +1,7 @@
 // Soundness and doubled area.
 
 use answers::Area;
+use answers::Judged;
 use answers::Soundness;
 use plane::Point;
 ghost use mathlib.Core.Path.{_≡_};
@@ -28,16 +29,18 @@ pub fn soundness(
 ) -> Soundness
     ensures { λ r. ⌜ _≡_ {A = Calls·Soundness} (soundnessOf r) (soundCall (chartOf (now (table .entry)) (now (keys .entry)) (now (levels .entry)) (now (items .entry)) triangles entries)) ⌝ }
 {
-    if chains::too_short(table, keys, levels, items) {
-        return Soundness::ShortBuffer;
+    match chains::judge(table, keys, levels, items, triangles, entries) {
+        Judged::Fine => {
+            if apart::all_apart(table, triangles) {
+                Soundness::Sound
+            } else {
+                Soundness::Unsound
+            }
+        }
+        Judged::ShortBuffer => Soundness::ShortBuffer,
+        Judged::BrokenChain => Soundness::BrokenChain,
+        Judged::StaleEntries => Soundness::BrokenChain,
     }
-    if !chains::chain_rule(table, keys, levels, items, triangles, entries) {
-        return Soundness::BrokenChain;
-    }
-    if apart::all_apart(table, triangles) {
-        return Soundness::Sound;
-    }
-    Soundness::Unsound
 }
 
 // The doubled area of a triangle with D > 0.
@@ -74,11 +77,10 @@ pub fn doubled_area(
 ) -> Area
     ensures { λ r. ⌜ _≡_ {A = Calls·Area} (areaOf r) (areaCall (chartOf (now (table .entry)) (now (keys .entry)) (now (levels .entry)) (now (items .entry)) triangles entries)) ⌝ }
 {
-    if chains::too_short(table, keys, levels, items) {
-        return Area::ShortBuffer;
+    match chains::judge(table, keys, levels, items, triangles, entries) {
+        Judged::Fine => Area::Sum(sum(table, triangles)),
+        Judged::ShortBuffer => Area::ShortBuffer,
+        Judged::BrokenChain => Area::BrokenChain,
+        Judged::StaleEntries => Area::BrokenChain,
     }
-    if !chains::chain_rule(table, keys, levels, items, triangles, entries) {
-        return Area::BrokenChain;
-    }
-    Area::Sum(sum(table, triangles))
 }

@@ -1,10 +1,13 @@
-use mathlib.Core.Path.{_≡_, sym, _∙_}
+use mathlib.Core.Path.{_≡_, sym, _∙_, ap}
 use mathlib.Core.Bool.{true, false}
 use borrow.Author.Needs.{needs}
-use borrow.Author.Tests.{not-true, not-false}
+use Rattle.chart_spec.specs.Refusals.{outcomeNumber, doneOr}
 use Rattle.call_spec.specs.Buffers.{Chart, chartOf, chartEntries, tooShort, chainRule}
 use Rattle.call_laws.proofs.BufferLaws.{searchable}
-use Rattle.locating.proofs.CallLaws.{locate-short, locate-broken, locate-done, table-holds}
+use Rattle.call_laws.proofs.JudgeLaws.{chained-passed, chained-not-stale}
+use Rattle.call_laws.proofs.ReaderLaws.{locate-refused, table-holds}
+use Rattle.answers.specs.Outcomes.{judgedOutcome}
+use Rattle.locating.proofs.CallLaws.{locate-done}
 use Rattle.locating.proofs.locate.Statement.{statement}
 use Rattle.locating.proofs.locate.Tie as tie
 
@@ -13,62 +16,77 @@ abbrev chart : tie.Start → Chart
 chart c =
     let a = c .args in chartOf (a .table .now) (a .keys .now) (a .levels .now) (a .items .now) (a .triangles) (a .entries)
 
-too-short-requires : tie.Need-too-short-requires
-too-short-requires c κs = search needs
+judge-requires : tie.Need-judge-requires
+judge-requires c κs = search needs
 
-returns : tie.Need-returns
-returns c =
-    let s = c .before in
-    let top = s .before .before .before .before .before in
-    locate-short (chart top) (top .args .p) (sym (s .too-short .ensures (top .args .triangles) (top .args .entries)) ∙ c .if1 .taken)
+enum-told : tie.Need-enum-told
+enum-told c = search needs
 
--- no buffer is too short
-long : (c : tie.Else1) → tooShort (chart (c .before .before .before .before .before .before)) ≡ false
-long c =
-    let top = c .before .before .before .before .before .before in
-    sym (c .before .too-short .ensures (top .args .triangles) (top .args .entries)) ∙ c .if1 .left
-
-chain-rule-requires : tie.Need-chain-rule-requires
-chain-rule-requires c κs = long c
-
-returns-2 : tie.Need-returns-2
-returns-2 c =
-    let r = c .before in
-    let top = r .before .before .before .before .before .before .before in
-    locate-broken (chart top) (top .args .p) (long (r .before)) (sym (r .chain-rule .ensures) ∙ not-true (r .chain-rule .result) (c .if2 .taken))
-
--- the chain rule holds
-rule : (c : tie.Else2) → chainRule (chart (c .before .before .before .before .before .before .before .before)) ≡ true
-rule c = sym (c .before .chain-rule .ensures) ∙ not-false (c .before .chain-rule .result) (c .if2 .left)
+-- where nothing is against the chart
+fine : (c : tie.After-enum-told) → let chart = chart (c .before .before .before .before .before .before .before) in (tooShort chart ≡ false) × (chainRule chart ≡ true)
+fine c =
+    let j = c .before .before in
+    chained-passed (chart (j .before .before .before .before .before)) (sym (ap judgedOutcome (c .enum-told .given .1)) ∙ j .judge .ensures)
 
 listing-requires : tie.Need-listing-requires
 listing-requires c κs =
-    let top = c .before .before .before .before .before .before .before .before in
-    searchable (chart top) (long (c .before .before)) (rule c)
+    searchable (chart (c .before .before .before .before .before .before .before)) (fine c .0) (fine c .1)
 
 first-holding-requires : tie.Need-first-holding-requires
 unfolding chartEntries
 first-holding-requires c κs =
     let b = c .before in
-    let top = b .before .before .before .before .before .before .before .before in
-    table-holds (chart top) (top .args .p) (long (b .before .before)) (rule b) (c .listing .ensures .0)
+    let top = b .before .before .before .before .before .before .before in
+    table-holds (chart top) (fine b .0) (fine b .1) (top .args .p) (c .listing .ensures .0)
 
-returns-3 : tie.Need-returns-3
+enum-told-2 : tie.Need-enum-told-2
+enum-told-2 c = search needs
+
+enum-told-3 : tie.Need-enum-told-3
+enum-told-3 c = search needs
+
+enum-told-4 : tie.Need-enum-told-4
+enum-told-4 c = search needs
+
+returns : tie.Need-returns
 unfolding chartEntries
-returns-3 c =
+returns c =
     let l = c .before in
     let b = l .before in
-    let top = b .before .before .before .before .before .before .before .before in
-    locate-done (chart top) (top .args .p) (long (b .before .before)) (rule b) (l .listing .ensures .0) (c .first-holding .ensures)
+    let top = b .before .before .before .before .before .before .before in
+    locate-done (chart top) (top .args .p) (fine b .0) (fine b .1) (l .listing .ensures .0) (c .first-holding .ensures)
+
+returns-2 : tie.Need-returns-2
+unfolding outcomeNumber doneOr
+returns-2 c =
+    let j = c .before .before in
+    let top = j .before .before .before .before .before in
+    locate-refused (chart top) (sym (ap judgedOutcome (c .enum-told2 .given .1)) ∙ j .judge .ensures) (top .args .p)
+
+returns-3 : tie.Need-returns-3
+unfolding outcomeNumber doneOr
+returns-3 c =
+    let j = c .before .before in
+    let top = j .before .before .before .before .before in
+    locate-refused (chart top) (sym (ap judgedOutcome (c .enum-told3 .given .1)) ∙ j .judge .ensures) (top .args .p)
+
+returns-4 : tie.Need-returns-4
+returns-4 c =
+    let j = c .before .before in
+    absurd (chained-not-stale (chart (j .before .before .before .before .before)) (sym (ap judgedOutcome (c .enum-told4 .given .1)) ∙ j .judge .ensures))
 
 pub locate-spec : {M : Type 1} → statement M
 locate-spec =
     tie.close
     (tie.spec
-    too-short-requires
-    returns
-    chain-rule-requires
-    returns-2
+    judge-requires
+    enum-told
     listing-requires
     first-holding-requires
-    returns-3)
+    enum-told-2
+    enum-told-3
+    enum-told-4
+    returns
+    returns-2
+    returns-3
+    returns-4)

@@ -1,77 +1,89 @@
-use mathlib.Core.Path.{sym, _∙_}
+use mathlib.Core.Path.{_≡_, sym, _∙_, ap}
+use mathlib.Core.Bool.{true, false}
 use borrow.Author.Needs.{needs}
-use borrow.Author.Tests.{not-true, not-false}
-use Rattle.chart_spec.specs.Refusals.{refuseIf}
-use Rattle.call_spec.specs.Buffers.{chartOf, chartTable}
-use Rattle.call_spec.specs.Calls.{reading, ifLong, ifChained, soundCall}
+use Rattle.chart_spec.specs.Refusals.{outcomeNumber, doneOr}
+use Rattle.call_spec.specs.Buffers.{Chart, chartOf, chartTable, tooShort, chainRule}
 use Rattle.call_laws.proofs.BufferLaws.{rule-held}
+use Rattle.call_laws.proofs.JudgeLaws.{chained-passed, chained-not-stale}
+use Rattle.call_laws.proofs.ReaderLaws.{sound-refused, sound-done}
+use Rattle.answers.specs.Outcomes.{judgedOutcome}
 use Rattle.measures.proofs.soundness.Statement.{statement}
 use Rattle.measures.proofs.soundness.Tie as tie
 
-too-short-requires : tie.Need-too-short-requires
-too-short-requires c κs = search needs
+-- the chart lent
+abbrev chart : tie.Start → Chart
+chart c =
+    let a = c .args in chartOf (a .table .now) (a .keys .now) (a .levels .now) (a .items .now) (a .triangles) (a .entries)
 
-returns : tie.Need-returns
-unfolding soundCall reading ifChained ifLong refuseIf
-returns c =
-    let a = c .before .before .before .before .before .before .args in
-    rw (sym (c .before .too-short .ensures (a .triangles) (a .entries)) ∙ c .if1 .taken)
+judge-requires : tie.Need-judge-requires
+judge-requires c κs = search needs
 
-chain-rule-requires : tie.Need-chain-rule-requires
-chain-rule-requires c κs =
-    let a = c .before .before .before .before .before .before .args in
-    sym (c .before .too-short .ensures (a .triangles) (a .entries)) ∙ c .if1 .left
+enum-told : tie.Need-enum-told
+enum-told c = search needs
 
-returns-2 : tie.Need-returns-2
-unfolding soundCall reading ifChained ifLong refuseIf
-returns-2 c =
-    let a = c .before .before .before .before .before .before .before .before .args in
-    let call = c .before .chain-rule in
-    rw (
-      sym (c .before .before .before .too-short .ensures (a .triangles) (a .entries)) ∙ c .before .before .if1 .left,
-      sym (call .ensures) ∙ not-true (call .result) (c .if2 .taken),
-    )
+-- where nothing is against the chart
+fine : (c : tie.After-enum-told) → let chart = chart (c .before .before .before .before .before .before .before) in (tooShort chart ≡ false) × (chainRule chart ≡ true)
+fine c =
+    let j = c .before .before in
+    chained-passed (chart (j .before .before .before .before .before)) (sym (ap judgedOutcome (c .enum-told .given .1)) ∙ j .judge .ensures)
 
 all-apart-requires : tie.Need-all-apart-requires
 unfolding chartTable
 all-apart-requires c κs =
-    let a = c .before .before .before .before .before .before .before .before .args in
-    let call = c .before .chain-rule in
-    let h = rule-held (chartOf (a .table .now) (a .keys .now) (a .levels .now) (a .items .now) (a .triangles) (a .entries))
-    (sym (c .before .before .before .too-short .ensures (a .triangles) (a .entries)) ∙ c .before .before .if1 .left)
-    (sym (call .ensures) ∙ not-false (call .result) (c .if2 .left)) in
-    ((h .few, h .room), h .good)
+    let h = rule-held (chart (c .before .before .before .before .before .before .before)) (fine c .0) (fine c .1) in ((h .few, h .room), h .good)
+
+enum-told-2 : tie.Need-enum-told-2
+enum-told-2 c = search needs
+
+enum-told-3 : tie.Need-enum-told-3
+enum-told-3 c = search needs
+
+enum-told-4 : tie.Need-enum-told-4
+enum-told-4 c = search needs
+
+returns : tie.Need-returns
+unfolding outcomeNumber doneOr chartTable
+returns c =
+    let b = c .before .before in
+    let e = sym (c .if1 .taken) ∙ c .before .all-apart .ensures in
+    (λ i. record { number = 0; isSound = e i }) ∙ sound-done (chart (b .before .before .before .before .before .before .before)) (fine b .0) (fine b .1)
+
+returns-2 : tie.Need-returns-2
+unfolding outcomeNumber doneOr chartTable
+returns-2 c =
+    let b = c .before .before in
+    let e = sym (c .if1 .left) ∙ c .before .all-apart .ensures in
+    (λ i. record { number = 0; isSound = e i }) ∙ sound-done (chart (b .before .before .before .before .before .before .before)) (fine b .0) (fine b .1)
 
 returns-3 : tie.Need-returns-3
-unfolding soundCall reading ifChained ifLong refuseIf chartTable
+unfolding outcomeNumber doneOr
 returns-3 c =
-    let a = c .before .before .before .before .before .before .before .before .before .before .args in
-    let call = c .before .before .before .chain-rule in
-    rw (
-      sym (c .before .before .before .before .before .too-short .ensures (a .triangles) (a .entries)) ∙ c .before .before .before .before .if1 .left,
-      sym (call .ensures) ∙ not-false (call .result) (c .before .before .if2 .left),
-      sym (c .before .all-apart .ensures) ∙ c .if3 .taken,
-    )
+    let j = c .before .before in
+    sound-refused (chart (j .before .before .before .before .before)) (sym (ap judgedOutcome (c .enum-told2 .given .1)) ∙ j .judge .ensures)
 
 returns-4 : tie.Need-returns-4
-unfolding soundCall reading ifChained ifLong refuseIf chartTable
+unfolding outcomeNumber doneOr
 returns-4 c =
-    let a = c .before .before .before .before .before .before .before .before .before .before .args in
-    let call = c .before .before .before .chain-rule in
-    rw (
-      sym (c .before .before .before .before .before .too-short .ensures (a .triangles) (a .entries)) ∙ c .before .before .before .before .if1 .left,
-      sym (call .ensures) ∙ not-false (call .result) (c .before .before .if2 .left),
-      sym (c .before .all-apart .ensures) ∙ c .if3 .left,
-    )
+    let j = c .before .before in
+    sound-refused (chart (j .before .before .before .before .before)) (sym (ap judgedOutcome (c .enum-told3 .given .1)) ∙ j .judge .ensures)
+
+returns-5 : tie.Need-returns-5
+returns-5 c =
+    let j = c .before .before in
+    absurd (chained-not-stale (chart (j .before .before .before .before .before)) (sym (ap judgedOutcome (c .enum-told4 .given .1)) ∙ j .judge .ensures))
 
 pub soundness-spec : {M : Type 1} → statement M
 soundness-spec =
     tie.close
     (tie.spec
-    too-short-requires
-    returns
-    chain-rule-requires
-    returns-2
+    judge-requires
+    enum-told
     all-apart-requires
+    enum-told-2
+    enum-told-3
+    enum-told-4
+    returns
+    returns-2
     returns-3
-    returns-4)
+    returns-4
+    returns-5)
