@@ -1,7 +1,7 @@
 -- After an accepted load the chart is indexed.
 -- The idea: a load that gives 0 passed every test, and those are what the chart of a table asks.
 -- Assumes nothing.
-use mathlib.Core.Path.{_≡_, refl, ap}
+use mathlib.Core.Path.{_≡_, refl, sym, _∙_, ap}
 use mathlib.Core.Bool.{Bool, true, false}
 use mathlib.Core.List.{List}
 use Prim.Native.Nat.{ℕ, _/_, _≤_, _<_}
@@ -13,8 +13,9 @@ use Rattle.chart_spec.specs.Refusals.{Refusal, shortBuffer, badLength, faultyTr
 use Rattle.chart_laws.proofs.TableLaws.{tableOf-length}
 use Rattle.call_spec.specs.Buffers.{Chart, tooShort}
 use Rattle.call_spec.specs.Calls.{changedBy, loadCall}
+use Rattle.changes.proofs.StoreLaws.{limit-over, limit-fits}
 use Rattle.load.specs.Faulty.{firstFaulty}
-use Rattle.load.proofs.LoadLaws.{lengthTest, length-few, given, given-proper, load-short, load-length, load-faulty, load-over, load-accepted}
+use Rattle.load.proofs.LoadLaws.{lengthTest, length-few, given, given-proper, load-short, load-length, load-faulty, load-rest}
 use Rattle.call_laws.proofs.IndexedLaws.{Editable, indexed-editable}
 
 module _ (ns : List ℕ) (c : Chart) (z : loadCall ns c .number ≡ 0) where
@@ -50,14 +51,14 @@ module _ (ns : List ℕ) (c : Chart) (z : loadCall ns c .number ≡ 0) where
   few-entries : length (entriesOf (given ns)) ≤ maxEntries
   few-entries = elim (decLe (length (entriesOf (given ns))) maxEntries) [
     | yes h ↦ h
-    | no n ↦ absurd (not-refused tooManyEntries (omega arith) (load-over ns c isLong isWhole refl none-faulty (omega arith)))
+    | no n ↦ absurd (not-refused tooManyEntries (omega arith) (ap (changedBy c) (sym (limit-over (given ns) (omega arith))) ∙ load-rest ns c isLong isWhole refl none-faulty))
   ]
 
   editable : Editable (loadCall ns c .chart)
   unfolding changedBy
   editable =
       let few = length-few ns isWhole in
-      rw (← load-accepted ns c isLong isWhole refl none-faulty few-entries)
+      rw (← load-rest ns c isLong isWhole refl none-faulty, limit-fits (given ns) few-entries)
       (indexed-editable c (given ns) (omega (arith, tableOf-length ns (length ns / 6))) few-entries isLong (given-proper ns refl none-faulty))
 
 -- the buffers that an accepted load leaves are long enough, follow the chain rule and hold the entries of their table

@@ -4,9 +4,9 @@ use answers::Change;
 use answers::Changed;
 ghost use mathlib.Core.Path.{_≡_};
 ghost use Prim.Native.Nat.{_*_, _≤_};
-ghost use lib.ListN.{length, take};
-ghost use Rattle.chart_spec.specs.Table.{numbersPerTriangle, tableLength, tableOf};
-ghost use Rattle.call_spec.specs.Buffers.{chartOf, padded};
+ghost use lib.ListN.{length};
+ghost use Rattle.chart_spec.specs.Table.{numbersPerTriangle, tableOf};
+ghost use Rattle.call_spec.specs.Buffers.{chartOf};
 ghost use Rattle.call_spec.specs.Calls.{loadCall};
 ghost use Rattle.call_spec.specs.Calls.{Changed as Calls·Changed};
 ghost use Rattle.answers.specs.Outcomes.{changedOf};
@@ -25,19 +25,6 @@ fn first_faulty(table: &[u16], n: usize) -> usize
         i += 1;
     }
     n
-}
-
-// The first n numbers given, then zeros up to place 3072.
-fn put_table(given: &[u16], n: usize, table: &mut [u16])
-    requires { ⌜ (n ≤ length (now given)) × ((n ≤ tableLength) × (tableLength ≤ length (now table))) ⌝ }
-    ensures { λ _. ⌜ now (table .exit) ≡ padded tableLength (take n (now (given .entry))) (now (table .entry)) ⌝ }
-{
-    let mut i = 0;
-    while i < n {
-        table[i] = given[i];
-        i += 1;
-    }
-    entry_lists::clear_items(table, n, tables::TABLE_NUMBERS);
 }
 
 // Load. It answers how it went and the counts that the chart has now; a refusal leaves lists and counts as they were.
@@ -75,18 +62,5 @@ pub fn load(
             entries,
         };
     }
-    let m = entry_lists::build_into(given, n, keys, levels, items);
-    if m > tables::MOST_ENTRIES {
-        return Changed {
-            change: Change::TooManyEntries,
-            triangles,
-            entries,
-        };
-    }
-    put_table(given, tables::TRIANGLE_NUMBERS * n, table);
-    Changed {
-        change: Change::Done,
-        triangles: n,
-        entries: m,
-    }
+    changes::store(given, n, table, keys, levels, items, triangles, entries)
 }

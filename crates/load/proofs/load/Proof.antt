@@ -1,13 +1,18 @@
-use mathlib.Core.Path.{sym, _∙_}
+use mathlib.Core.Path.{_≡_, sym, _∙_}
+use mathlib.Core.Bool.{false}
 use native.Mathlib.Omega.{arith}
 use borrow.Author.Needs.{needs}
 use Rattle.chart_spec.specs.Refusals.{outcomeNumber, outcomeValue}
-use Rattle.call_spec.specs.Buffers.{chartOf}
+use Rattle.call_spec.specs.Buffers.{Chart, chartOf, tooShort}
 use Rattle.call_spec.specs.Calls.{changedBy}
-use Rattle.call_laws.proofs.BufferLaws.{long-enough}
-use Rattle.load.proofs.LoadLaws.{length-few, given-proper, load-short, load-length, load-faulty, load-many, load-done}
+use Rattle.load.proofs.LoadLaws.{length-few, given-proper, load-short, load-length, load-faulty, load-rest}
 use Rattle.load.proofs.load.Statement.{statement}
 use Rattle.load.proofs.load.Tie as tie
+
+-- the chart lent
+abbrev chart : tie.Start → Chart
+chart c =
+    let a = c .args in chartOf (a .table .now) (a .keys .now) (a .levels .now) (a .items .now) (a .triangles) (a .entries)
 
 too-short-requires : tie.Need-too-short-requires
 too-short-requires c κs = search needs
@@ -27,10 +32,14 @@ same-length-4 c = search needs
 returns : tie.Need-returns
 unfolding changedBy outcomeNumber outcomeValue
 returns c =
-    let a = c .before .before .before .before .before .before .before .before .before .before .before .args in
-    let chart = chartOf (a .table .now) (a .keys .now) (a .levels .now) (a .items .now) (a .triangles) (a .entries) in
-    let short = sym (c .before .too-short .ensures (a .triangles) (a .entries)) ∙ c .if1 .taken in
-    load-short (a .given .now) chart short
+    let top = c .before .before .before .before .before .before .before .before .before .before .before in
+    load-short (top .args .given .now) (chart top) (sym (c .before .too-short .ensures (top .args .triangles) (top .args .entries)) ∙ c .if1 .taken)
+
+-- no buffer is too short
+long : (c : tie.Else1) → tooShort (chart (c .before .before .before .before .before .before .before .before .before .before .before)) ≡ false
+long c =
+    let top = c .before .before .before .before .before .before .before .before .before .before .before in
+    sym (c .before .too-short .ensures (top .args .triangles) (top .args .entries)) ∙ c .if1 .left
 
 same-length-5 : tie.Need-same-length-5
 same-length-5 c = search needs
@@ -47,10 +56,8 @@ same-length-8 c = search needs
 returns-2 : tie.Need-returns-2
 unfolding changedBy outcomeNumber outcomeValue
 returns-2 c =
-    let a = c .before .before .before .before .before .before .before .before .before .before .before .before .args in
-    let chart = chartOf (a .table .now) (a .keys .now) (a .levels .now) (a .items .now) (a .triangles) (a .entries) in
-    let short = sym (c .before .before .too-short .ensures (a .triangles) (a .entries)) ∙ c .before .if1 .left in
-    load-length (a .given .now) chart short (c .if2 .taken)
+    let top = c .before .before .before .before .before .before .before .before .before .before .before .before in
+    load-length (top .args .given .now) (chart top) (long (c .before)) (c .if2 .taken)
 
 first-faulty-requires : tie.Need-first-faulty-requires
 first-faulty-requires c κs = search needs
@@ -70,20 +77,17 @@ same-length-12 c = search needs
 returns-3 : tie.Need-returns-3
 unfolding changedBy outcomeNumber outcomeValue
 returns-3 c =
-    let a = c .before .before .before .before .before .before .before .before .before .before .before .before .before .before .args in
-    let chart = chartOf (a .table .now) (a .keys .now) (a .levels .now) (a .items .now) (a .triangles) (a .entries) in
-    let short = sym (c .before .before .before .before .too-short .ensures (a .triangles) (a .entries)) ∙ c .before .before .before .if1 .left in
-    load-faulty (a .given .now) chart short (c .before .before .if2 .left) (c .before .first-faulty .ensures) (omega (arith, c .if3 .taken))
+    let f = c .before in
+    let top = f .before .before .before .before .before .before .before .before .before .before .before .before .before in
+    load-faulty (top .args .given .now) (chart top) (long (f .before .before)) (f .before .if2 .left) (f .first-faulty .ensures) (omega (arith, c .if3 .taken))
 
-build-into-requires : tie.Need-build-into-requires
-build-into-requires c κs =
-    let a = c .before .before .before .before .before .before .before .before .before .before .before .before .before .before .before .before .before .args in
-    let chart = chartOf (a .table .now) (a .keys .now) (a .levels .now) (a .items .now) (a .triangles) (a .entries) in
-    let short = sym (c .before .before .before .before .before .before .before .too-short .ensures (a .triangles) (a .entries)) ∙ c .before .before .before .before .before .before .if1 .left in
-    let long = long-enough chart short in
-    let few = length-few (a .given .now) (c .before .before .before .before .before .if2 .left) in
-    let whole = given-proper (a .given .now) (c .before .before .before .before .first-faulty .ensures) (omega (arith, c .before .before .before .if3 .left)) in
-    (((omega arith, omega arith), whole), (long .keys, (long .levels, long .items)))
+store-requires : tie.Need-store-requires
+store-requires c κs =
+    let e = c .before .before .before .before in
+    let f = e .before in
+    let given = f .before .before .before .before .before .before .before .before .before .before .before .before .before .args .given .now in
+    let few = length-few given (f .before .if2 .left) in
+    (((omega arith, omega arith), given-proper given (f .first-faulty .ensures) (omega (arith, e .if3 .left))), long (f .before .before))
 
 same-length-13 : tie.Need-same-length-13
 same-length-13 c = search needs
@@ -98,46 +102,12 @@ same-length-16 : tie.Need-same-length-16
 same-length-16 c = search needs
 
 returns-4 : tie.Need-returns-4
-unfolding changedBy outcomeNumber outcomeValue
 returns-4 c =
-    let a = c .before .before .before .before .before .before .before .before .before .before .before .before .before .before .before .before .before .before .before .before .before .before .before .before .before .args in
-    let chart = chartOf (a .table .now) (a .keys .now) (a .levels .now) (a .items .now) (a .triangles) (a .entries) in
-    let short = sym (c .before .before .before .before .before .before .before .before .before .before .before .before .before .before .before .too-short .ensures (a .triangles) (a .entries)) ∙ c .before .before .before .before .before .before .before .before .before .before .before .before .before .before .if1 .left in
-    load-many (a .given .now) chart short (c .before .before .before .before .before .before .before .before .before .before .before .before .before .if2 .left) (c .before .before .before .before .before .before .before .before .before .before .before .before .first-faulty .ensures) (omega (arith, c .before .before .before .before .before .before .before .before .before .before .before .if3 .left))
-    (c .before .before .before .before .before .before .before .build-into .ensures) (omega (arith, c .if4 .taken))
-
-mul-put-table : tie.Need-mul-put-table
-mul-put-table c = search needs
-
-put-table-requires : tie.Need-put-table-requires
-put-table-requires c κs =
-    let a = c .before .before .before .before .before .before .before .before .before .before .before .before .before .before .before .before .before .before .before .before .before .before .before .before .before .before .args in
-    let chart = chartOf (a .table .now) (a .keys .now) (a .levels .now) (a .items .now) (a .triangles) (a .entries) in
-    let short = sym (c .before .before .before .before .before .before .before .before .before .before .before .before .before .before .before .before .too-short .ensures (a .triangles) (a .entries)) ∙ c .before .before .before .before .before .before .before .before .before .before .before .before .before .before .before .if1 .left in
-    let long = long-enough chart short in
-    let few = length-few (a .given .now) (c .before .before .before .before .before .before .before .before .before .before .before .before .before .before .if2 .left) in
-    (omega arith, (omega arith, long .table))
-
-same-length-17 : tie.Need-same-length-17
-same-length-17 c = search needs
-
-same-length-18 : tie.Need-same-length-18
-same-length-18 c = search needs
-
-same-length-19 : tie.Need-same-length-19
-same-length-19 c = search needs
-
-same-length-20 : tie.Need-same-length-20
-same-length-20 c = search needs
-
-returns-5 : tie.Need-returns-5
-unfolding changedBy outcomeNumber outcomeValue
-returns-5 c =
-    let a = c .before .before .before .before .before .before .before .before .before .before .before .before .before .before .before .before .before .before .before .before .before .before .before .before .before .before .before .before .before .args in
-    let chart = chartOf (a .table .now) (a .keys .now) (a .levels .now) (a .items .now) (a .triangles) (a .entries) in
-    let short = sym (c .before .before .before .before .before .before .before .before .before .before .before .before .before .before .before .before .before .before .before .too-short .ensures (a .triangles) (a .entries)) ∙ c .before .before .before .before .before .before .before .before .before .before .before .before .before .before .before .before .before .before .if1 .left in
-    load-done (a .given .now) chart short (c .before .before .before .before .before .before .before .before .before .before .before .before .before .before .before .before .before .if2 .left) (c .before .before .before .before .before .before .before .before .before .before .before .before .before .before .before .before .first-faulty .ensures) (omega (arith, c .before .before .before .before .before .before .before .before .before .before .before .before .before .before .before .if3 .left))
-    (c .before .before .before .before .before .before .before .before .before .before .before .build-into .ensures) (omega (arith, c .before .before .before .before .if4 .left)) (c .before .before .put-table .ensures)
+    let e = c .before .before .before .before .before .before .before .before .before .before .before .before .before in
+    let f = e .before in
+    let top = f .before .before .before .before .before .before .before .before .before .before .before .before .before in
+    c .before .before .before .before .before .before .before .before .store .ensures
+    ∙ load-rest (top .args .given .now) (chart top) (long (f .before .before)) (f .before .if2 .left) (f .first-faulty .ensures) (omega (arith, e .if3 .left))
 
 pub load-spec : {M : Type 1} → statement M
 load-spec =
@@ -160,16 +130,9 @@ load-spec =
     same-length-11
     same-length-12
     returns-3
-    build-into-requires
+    store-requires
     same-length-13
     same-length-14
     same-length-15
     same-length-16
-    returns-4
-    mul-put-table
-    put-table-requires
-    same-length-17
-    same-length-18
-    same-length-19
-    same-length-20
-    returns-5)
+    returns-4)

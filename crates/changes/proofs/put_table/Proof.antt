@@ -6,8 +6,8 @@ use borrow.Author.Needs.{needs}
 use lib.ListN.{take}
 use Rattle.call_spec.specs.Buffers.{padded}
 use Rattle.entry_lists.proofs.StoreLaws.{Copying, copying-start, copying-next, padded-copy}
-use Rattle.load.proofs.put_table.Statement.{statement}
-use Rattle.load.proofs.put_table.Tie as tie
+use Rattle.changes.proofs.put_table.Statement.{statement}
+use Rattle.changes.proofs.put_table.Tie as tie
 
 abbrev Inv-loop : tie.InvT-loop
 Inv-loop given n table₀ i₀ table i = Copying (λ x. x) given table₀ table i n
