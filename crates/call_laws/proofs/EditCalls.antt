@@ -10,14 +10,28 @@ use lib.ListN.{length}
 use Rattle.lists.specs.Lists.{all}
 use Rattle.plane.specs.Triangle.{proper}
 use Rattle.chart_spec.specs.Table.{Table, maxTriangles}
-use Rattle.chart_spec.specs.Refusals.{Outcome, done, refuseIf, andThen, outcomeNumber, outcomeValue, doneOr}
+use Rattle.chart_spec.specs.Refusals.{Refusal, Outcome, refused, done, refuseIf, andThen, outcomeNumber, outcomeValue, doneOr}
 use Rattle.chart_spec.specs.Edits.{Event, load, split, takeOut, flip, splitTable, takeOutTable, flipTable, proposed, withinLimit, eventOn, afterEvent}
 use Rattle.call_spec.specs.Buffers.{Chart, tooShort, chartTable, indexedChart}
-use Rattle.call_spec.specs.Calls.{changedBy, ifLong, loadCall, editCall, splitCall, takeOutCall, flipCall}
+use Rattle.call_spec.specs.Calls.{changedBy, ifLong, ifIndexed, loadCall, editCall, splitCall, takeOutCall, flipCall}
 use Rattle.call_spec.specs.History.{eventCall}
-use Rattle.call_laws.proofs.JudgeLaws.{indexed-passes}
+use Rattle.call_laws.proofs.JudgeLaws.{indexed-then, indexed-refused, indexed-passes}
 use Rattle.call_laws.proofs.IndexedLaws.{Editable, indexed-table, indexed-editable}
 use Rattle.call_laws.proofs.OverwriteLaws.{Fits, changed-number, changed-value, changed-chart, after-fits}
+
+-- an edit of any chart, by what judging the chart finds
+module _ (c : Chart) (edit : Table → Outcome Table) where
+  -- a refusal
+  pub edit-refused : {r : Refusal} → refused r ≡ ifIndexed c (done true) → changedBy c (refused r) ≡ editCall edit c
+  unfolding editCall
+  edit-refused h = ap (changedBy c) (indexed-refused c (andThen (edit (chartTable c)) (λ u. withinLimit u)) h)
+
+  -- or nothing: then the edit of the chart's table decides, and refusal 11
+  pub edit-judged : done true ≡ ifIndexed c (done true) → changedBy c (andThen (edit (chartTable c)) (λ u. withinLimit u)) ≡ editCall edit c
+  unfolding editCall andThen
+  edit-judged h =
+      let next = andThen (edit (chartTable c)) (λ u. withinLimit u) in
+      ap (λ o. changedBy c (andThen o (λ b. next))) h ∙ ap (changedBy c) (indexed-then c next)
 
 module _ (c : Chart) (s : tooShort c ≡ false) (t : Table) (h : Fits t) where
   editable : Editable (indexedChart c t)

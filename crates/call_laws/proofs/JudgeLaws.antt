@@ -81,6 +81,18 @@ module _ (c : Chart) where
       go false true h = (refl, refl)
       go false false h = absurd (refused-done (sym h))
 
+  -- a chart that 3 does not refuse either
+  pub indexed-passed : done true ≡ ifIndexed c (done true) → (tooShort c ≡ false) × ((chainRule c ≡ true) × (indexed c ≡ true))
+  unfolding ifIndexed ifChained ifLong refuseIf
+  indexed-passed h = go (tooShort c) (chainRule c) (indexed c) h
+    where
+      go : (s r i : Bool) → done true ≡ refuseIf s shortBuffer (refuseIf (not r) brokenChain (refuseIf (not i) staleEntries (done true)))
+          → (s ≡ false) × ((r ≡ true) × (i ≡ true))
+      go true r i h = absurd (refused-done (sym h))
+      go false true true h = (refl, (refl, refl))
+      go false true false h = absurd (refused-done (sym h))
+      go false false i h = absurd (refused-done (sym h))
+
   -- 3 is neither 1 nor 2
   pub chained-not-stale : refused staleEntries ≡ ifChained c (done true) → ⊥
   unfolding ifChained ifLong refuseIf
