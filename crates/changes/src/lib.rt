@@ -38,6 +38,7 @@ pub fn judge_edit(
         }
         Judged::ShortBuffer => Judged::ShortBuffer,
         Judged::BrokenChain => Judged::BrokenChain,
+        // Never found: `judge` judges 1 and 2.
         Judged::StaleEntries => Judged::StaleEntries,
     }
 }

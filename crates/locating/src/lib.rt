@@ -74,6 +74,7 @@ pub fn locate(
         ),
         Judged::ShortBuffer => Located::ShortBuffer,
         Judged::BrokenChain => Located::BrokenChain,
+        // Never found: `judge` judges 1 and 2.
         Judged::StaleEntries => Located::BrokenChain,
     }
 }

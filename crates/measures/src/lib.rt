@@ -39,6 +39,7 @@ pub fn soundness(
         }
         Judged::ShortBuffer => Soundness::ShortBuffer,
         Judged::BrokenChain => Soundness::BrokenChain,
+        // Never found: `judge` judges 1 and 2.
         Judged::StaleEntries => Soundness::BrokenChain,
     }
 }
@@ -81,6 +82,7 @@ pub fn doubled_area(
         Judged::Fine => Area::Sum(sum(table, triangles)),
         Judged::ShortBuffer => Area::ShortBuffer,
         Judged::BrokenChain => Area::BrokenChain,
+        // Never found: `judge` judges 1 and 2.
         Judged::StaleEntries => Area::BrokenChain,
     }
 }
