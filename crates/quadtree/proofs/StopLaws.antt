@@ -15,11 +15,12 @@ use Rattle.lists.specs.Lists.{filter, upTo}
 use Rattle.lists.proofs.Reflects.{reflects-test}
 use Rattle.lists.proofs.ListsLaws.{Every, all-reflects}
 use Rattle.lists.proofs.Order.{rising-members}
+use Rattle.lists.proofs.EditedLists.{places-pass}
 use Rattle.lists.proofs.EveryLaws.{every-map, flatMap-agree}
 use Rattle.plane.specs.Triangle.{Triangle, Side, sides, proper}
-use Rattle.plane.specs.Box.{Box, sideMeets}
+use Rattle.plane.specs.Box.{Box, sideMeets, triangleMeets}
 use Rattle.plane.proofs.ExtremeLaws.{Framed, OnGrid}
-use Rattle.chart_spec.specs.Table.{Table, pointAt, triangleAt, tableOf, numbered}
+use Rattle.chart_spec.specs.Table.{Table, pointAt, triangleAt, tableOf, numbered, noTriangle}
 use Rattle.squares.specs.declared.Square.{Square}
 use Rattle.squares.specs.Square.{squareBox, Aligned}
 use Rattle.chart_spec.specs.Cells.{sidesMeeting, commonEnd, stopped, trianglesMeeting}
@@ -41,26 +42,27 @@ corners-small ns n small =
     (λ i m. record { a = on (6 * i); b = on (6 * i + 2); c = on (6 * i + 4) })
 
 module _ (n : ℕ) (ns s o : List ℕ) (h : Prepared n ns s o) (b : Box) (f : Framed b) where
-  -- the sides of triangle i that meet the box
-  sides-at : (i : ℕ) → i < n → sidesAt ns s o b i ≡ filter (λ d. sideMeets d b) (sides (numbered (tableOf ns n) i))
+  -- the sides of triangle i that meet the box, where the triangle does
+  sides-at : (i : ℕ) → i < n → T (triangleMeets (numbered (tableOf ns n) i) b)
+      → sidesAt ns s o b i ≡ filter (λ d. sideMeets d b) (sides (numbered (tableOf ns n) i))
   unfolding sidesAt sidesMet triangleAt
-  sides-at i l =
+  sides-at i l t =
       let table = tableOf ns n in
       let k : i < length table = rw (tableOf-length ns n) l in
       let g = corners-small ns n (h .small) in
       let at = numbered-at ns n i l in
       let m : Side → Bool = λ d. sideMeets d b in
-      let x = rw at at (first-meets table s o (h .shaped) i k g b f (getD o (3 * i) 0) refl) in
-      let y = rw at at (second-meets table s o (h .shaped) i k g b f (getD o (3 * i + 1) 0) refl) in
-      let z = rw at at (third-meets table s o (h .shaped) i k g b f (getD o (3 * i + 2) 0) refl) in
+      let x = rw at at (first-meets table s o (h .shaped) i k g b f t (getD o (3 * i) 0) refl) in
+      let y = rw at at (second-meets table s o (h .shaped) i k g b f t (getD o (3 * i + 1) 0) refl) in
+      let z = rw at at (third-meets table s o (h .shaped) i k g b f t (getD o (3 * i + 2) 0) refl) in
       ap (λ bs. masked (maskOf bs) (sides (triangleAt ns i))) (ap₂ _∷_ x (ap₂ _∷_ y (ap (λ c. c ∷ []) z)))
       ∙ masked-filter m (sides (triangleAt ns i))
       ∙ ap (λ t. filter m (sides t)) (sym at)
 
   -- the sides of these triangles
-  pub sides-all : (is : List ℕ) → Every (λ i. i < n) is
+  pub sides-all : (is : List ℕ) → Every (λ i. i < n) is → Every (λ i. T (triangleMeets (numbered (tableOf ns n) i) b)) is
       → flatMap (λ i. sidesAt ns s o b i) is ≡ flatMap (λ i. filter (λ d. sideMeets d b) (sides (numbered (tableOf ns n) i))) is
-  sides-all is v = flatMap-agree _ _ is (λ i m. sides-at i (v i m))
+  sides-all is v w = flatMap-agree _ _ is (λ i m. sides-at i (v i m) (w i m))
 
 -- ---- squares
 
@@ -70,6 +72,11 @@ framed s p = record { wide = omega arith; tall = omega arith; right = p .right; 
 
 pub meeting-below : (table : Table) (s : Square) → Every (λ i. i < length table) (trianglesMeeting table s)
 meeting-below table s i m = rising-members (meeting-rising table s) i m .1
+
+-- the triangles that meet a square do
+meeting-meets : (table : Table) (s : Square) → Every (λ i. T (triangleMeets (numbered table i) (squareBox s))) (trianglesMeeting table s)
+unfolding trianglesMeeting numbered
+meeting-meets table s = places-pass (λ t. triangleMeets t (squareBox s)) noTriangle table
 
 module _ (n : ℕ) (ns sh o : List ℕ) (h : Prepared n ns sh o) (s : Square) where
   -- the triangles of the table have D > 0
@@ -86,7 +93,8 @@ module _ (n : ℕ) (ns sh o : List ℕ) (h : Prepared n ns sh o) (s : Square) wh
   stopped-sides d p is e =
       let table = tableOf ns n in
       let below : Every (λ i. i < n) is = λ i m. rw (tableOf-length ns n) at (meeting-below table s i (rw e at m)) in
-      ap commonEnd (sides-all n ns sh o h (squareBox s) (framed s p) is below)
+      let met : Every (λ i. T (triangleMeets (numbered table i) (squareBox s))) is = λ i m. meeting-meets table s i (rw e at m) in
+      ap commonEnd (sides-all n ns sh o h (squareBox s) (framed s p) is below met)
       ∙ ap (λ x. commonEnd (flatMap (λ i. filter (λ d. sideMeets d (squareBox s)) (sides (numbered table i))) x)) e
       ∙ ap commonEnd (sym (sides-narrow table good s))
       ∙ sym (ap (λ b. b || commonEnd (sidesMeeting table s)) (ne-eqb (s .level) 16 d))

@@ -53,7 +53,7 @@ unpackedTriangle a b c = record { a = unpacked a; b = unpacked b; c = unpacked c
 abbrev pub startOf : ℕ → ℕ → ℕ → ℕ → ℕ
 startOf m a b c = cond (eqb (m % 2) 1) a (cond (eqb (m / 2 % 2) 1) b c)
 
--- which of the sides of triangle i meet the box
+-- which of the sides of triangle i meet the box, where the triangle does
 unfoldable pub sidesMet : List ℕ → List ℕ → Box → ℕ → List Bool
 sidesMet s o b i =
     sideMeetsAt s (28 * i) (getD o (3 * i) 0) b
@@ -61,7 +61,7 @@ sidesMet s o b i =
     ∷ sideMeetsAt s (28 * i + 16) (getD o (3 * i + 2) 0) b
     ∷ []
 
--- the sides of triangle i that meet the box
+-- the sides of triangle i that meet the box, where the triangle does
 unfoldable pub sidesAt : List ℕ → List ℕ → List ℕ → Box → ℕ → List Side
 sidesAt table s o b i = masked (maskOf (sidesMet s o b i)) (sides (triangleAt table i))
 

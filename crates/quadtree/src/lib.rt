@@ -65,7 +65,7 @@ fn narrow(
     top
 }
 
-// The sides of triangle i that meet the frame, as a mask: bits 0, 1 and 2 for ab, bc and ca.
+// The sides of triangle i, which meets the frame, that meet it too, as a mask: bits 0, 1 and 2 for ab, bc and ca.
 fn sides_met(shape: &[u16], offsets: &[u64], i: usize, f: Frame) -> u32
     requires { ⌜ ((28 * i + 28 ≤ length (now shape)) × (3 * i + 3 ≤ length (now offsets))) × InGrid f ⌝ }
     ensures { λ r. ⌜ (r ≡ maskOf (sidesMet (now (shape .entry)) (now (offsets .entry)) (boxOf f) i)) × (r < 8) ⌝ }

@@ -7,7 +7,7 @@ use mathlib.Core.List.{List, flatMap, List·Memᴰ}
 use Prim.Native.Nat.{ℕ, _+_, _*_, _≤_, _<_}
 use native.Mathlib.Omega.{arith}
 use borrow.Author.Tests.{leb-true, leb-false, ltb-true, ltb-false}
-use lib.Dec.{leb, ltb, eqb}
+use lib.Dec.{T, leb, ltb, eqb}
 use lib.ListN.{length, getD}
 use lib.Seq.{getD-take}
 use Rattle.lists.proofs.ListsLaws.{getD-stride, getD-member}
@@ -51,6 +51,28 @@ not-or3 a b c = not-or (a || b) c ∙ ap (λ x. x && not c) (not-or a b)
 
 not-or4 : (a b c d : Bool) → not (a || b || c || d) ≡ (not a && not b && not c && not d)
 not-or4 a b c d = not-or (a || b || c) d ∙ ap (λ x. x && not d) (not-or3 a b c)
+
+or-false : (a : Bool) → a || false ≡ a
+or-false true = refl
+or-false false = refl
+
+-- neither of two tests passes
+neither : (a b : Bool) → T (not (a || b)) → T (not a) × (b ≡ false)
+neither true b h = absurd h
+neither false true h = absurd h
+neither false false h = (tt, refl)
+
+-- a box that a triangle meets has a corner that is not outside of each side
+reached : (t : Triangle) (b : Box) → T (triangleMeets t b)
+    → (allOuter (t .a) (t .b) b ≡ false) × ((allOuter (t .b) (t .c) b ≡ false) × (allOuter (t .c) (t .a) b ≡ false))
+unfolding triangleMeets
+reached t b h =
+    let d = apart (triangleBox t) b in
+    let x = allOuter (t .a) (t .b) b in
+    let y = allOuter (t .b) (t .c) b in
+    let ca = neither (d || x || y) (allOuter (t .c) (t .a) b) h in
+    let bc = neither (d || x) y (ca .0) in
+    (neither d x (bc .0) .1, (bc .1, ca .1))
 
 -- two boxes are not apart
 not-apart : (d b : Box)
@@ -182,39 +204,40 @@ module _ (table : Table) (s o : List ℕ) (h : Shaped table s o) (i : ℕ) (l : 
         ap₂ _&&_ (ap₂ _&&_ (ap₂ _&&_ (touches-box s (28 * i + 24) (triangleBox t) b whole-box) ab) bc) ca
         ∙ sym (not-or4 (apart (triangleBox t) b) (allOuter (t .a) (t .b) b) (allOuter (t .b) (t .c) b) (allOuter (t .c) (t .a) b))
 
-    -- the test on a side's numbers, which start at k, is the side's
+    -- the test on a side's numbers, which start at k, is the side's, where not all corners are outside
     side-meets : {p q : Point} (k v : ℕ) → SideAt s k p q → BoxAt s (k + 4) (sideBox (record { start = p; end = q })) → OnGrid p → v ≡ sideOffset p q
-        → sideMeetsAt s k v b ≡ sideMeets (record { start = p; end = q }) b
+        → allOuter p q b ≡ false → sideMeetsAt s k v b ≡ sideMeets (record { start = p; end = q }) b
     unfolding sideMeetsAt sideMeets
-    side-meets {p} {q} k v a d on e =
-        ap₂ _&&_
-        (ap₂ _&&_ (touches-box s (k + 4) (sideBox (record { start = p; end = q })) b d) (base-inner s k v a e on b f))
-        (reach-outer s k v a e on b f)
-        ∙ sym (not-or3 (apart (sideBox (record { start = p; end = q })) b) (allInner p q b) (allOuter p q b))
+    side-meets {p} {q} k v a d on e r =
+        let far = apart (sideBox (record { start = p; end = q })) b in
+        ap₂ _&&_ (touches-box s (k + 4) (sideBox (record { start = p; end = q })) b d) (base-inner s k v a e on b f)
+        ∙ sym (not-or far (allInner p q b))
+        ∙ ap not (sym (ap (λ x. far || allInner p q b || x) r ∙ or-false (far || allInner p q b)))
 
-    pub first-meets : (v : ℕ) → v ≡ getD o (3 * i) 0
+    -- so for the sides of a triangle that meets the box
+    pub first-meets : T (triangleMeets (numbered table i) b) → (v : ℕ) → v ≡ getD o (3 * i) 0
         → sideMeetsAt s (28 * i) v b ≡ sideMeets (record { start = numbered table i .a; end = numbered table i .b }) b
     unfolding offsetsOf sideBox shapeOf sideShape
-    first-meets v e =
+    first-meets m v e =
         side-meets (28 * i) v first-side
         (box-at (28 * i + 4) 4 refl (omega arith) (record { left = refl; top = refl; right = refl; bottom = refl }))
         (corners-on .a)
-        (e ∙ offset-at table s o h i l (3 * i) 0 (omega arith) (omega arith))
+        (e ∙ offset-at table s o h i l (3 * i) 0 (omega arith) (omega arith)) (reached (numbered table i) b m .0)
 
-    pub second-meets : (v : ℕ) → v ≡ getD o (3 * i + 1) 0
+    pub second-meets : T (triangleMeets (numbered table i) b) → (v : ℕ) → v ≡ getD o (3 * i + 1) 0
         → sideMeetsAt s (28 * i + 8) v b ≡ sideMeets (record { start = numbered table i .b; end = numbered table i .c }) b
     unfolding offsetsOf sideBox shapeOf sideShape
-    second-meets v e =
+    second-meets m v e =
         side-meets (28 * i + 8) v second-side
         (box-at (28 * i + 8 + 4) 12 (omega arith) (omega arith) (record { left = refl; top = refl; right = refl; bottom = refl }))
         (corners-on .b)
-        (e ∙ offset-at table s o h i l (3 * i + 1) 1 refl (omega arith))
+        (e ∙ offset-at table s o h i l (3 * i + 1) 1 refl (omega arith)) (reached (numbered table i) b m .1 .0)
 
-    pub third-meets : (v : ℕ) → v ≡ getD o (3 * i + 2) 0
+    pub third-meets : T (triangleMeets (numbered table i) b) → (v : ℕ) → v ≡ getD o (3 * i + 2) 0
         → sideMeetsAt s (28 * i + 16) v b ≡ sideMeets (record { start = numbered table i .c; end = numbered table i .a }) b
     unfolding offsetsOf sideBox shapeOf sideShape
-    third-meets v e =
+    third-meets m v e =
         side-meets (28 * i + 16) v third-side
         (box-at (28 * i + 16 + 4) 20 (omega arith) (omega arith) (record { left = refl; top = refl; right = refl; bottom = refl }))
         (corners-on .c)
-        (e ∙ offset-at table s o h i l (3 * i + 2) 2 refl (omega arith))
+        (e ∙ offset-at table s o h i l (3 * i + 2) 2 refl (omega arith)) (reached (numbered table i) b m .1 .1)

@@ -92,6 +92,6 @@ triangleMeetsAt s o i b =
     && leb (getD o (3 * i + 1) 0) (reachAt s (28 * i + 8) b)
     && leb (getD o (3 * i + 2) 0) (reachAt s (28 * i + 16) b)
 
--- the side whose numbers start at k, with the offset v, meets the box
+-- the side whose numbers start at k, with the offset v, meets the box, where its triangle does: the largest V is at least v then
 unfoldable pub sideMeetsAt : List ℕ → ℕ → ℕ → Box → Bool
-sideMeetsAt s k v b = touchesAt s (k + 4) b && leb (baseAt s k b) v && leb v (reachAt s k b)
+sideMeetsAt s k v b = touchesAt s (k + 4) b && leb (baseAt s k b) v

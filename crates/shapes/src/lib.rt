@@ -176,10 +176,10 @@ pub fn triangle_meets(shape: &[u16], offsets: &[u64], i: usize, f: Frame) -> boo
     false
 }
 
-// The side whose numbers start at k, with the offset v, meets the frame.
+// The side whose numbers start at k, with the offset v, meets the frame, where its triangle does: V reaches v then.
 pub fn side_meets(shape: &[u16], k: usize, v: u64, f: Frame) -> bool
     requires { ⌜ (k + 8 ≤ length (now shape)) × InGrid f ⌝ }
     ensures { λ o. ⌜ o ≡ sideMeetsAt (now (shape .entry)) k v (boxOf f) ⌝ }
 {
-    touches(shape, k + 4, f) & (base(shape, k, f) <= v) & (v <= reach(shape, k, f))
+    touches(shape, k + 4, f) & (base(shape, k, f) <= v)
 }

@@ -12,13 +12,10 @@ touches-requires c κs = search needs
 base-requires : tie.Need-base-requires
 base-requires c κs = search needs
 
-reach-requires : tie.Need-reach-requires
-reach-requires c κs = search needs
-
 returns : tie.Need-returns
 unfolding sideMeetsAt
 returns c = cc
 
 pub side-meets-spec : {M : Type 1} → statement M
 side-meets-spec =
-    tie.close (tie.spec add-touches touches-requires base-requires reach-requires returns)
+    tie.close (tie.spec add-touches touches-requires base-requires returns)
