@@ -13,16 +13,12 @@ use borrow.Author.Tests.{leb-true, leb-false}
 use lib.Dec.{leb, ltb}
 use Rattle.lists.proofs.Reflects.{Reflects, reflects-le, reflects-ltb, reflects-and, reflects-iff}
 use Rattle.plane.specs.declared.Point.{Point}
-use Rattle.plane.specs.Point.{orient}
-use Rattle.plane.specs.Box.{Box, allCorners, allInner, allOuter}
+use Rattle.plane.specs.Point.{orient, distance}
+use Rattle.plane.specs.Box.{Box, Framed, allCorners, allInner, allOuter}
 use Rattle.plane.proofs.Difference.{Diff, diff-shift, diff-above, diff-below}
 use Rattle.plane.proofs.OrientLaws.{orient-difference}
 
 -- ---- one coordinate
-
--- |u − v|
-abbrev pub steep : ℕ → ℕ → ℕ
-steep u v = (u - v) + (v - u)
 
 -- x where v ≤ u, and otherwise x counted from the other end
 abbrev pub mirror : ℕ → ℕ → ℕ → ℕ
@@ -43,13 +39,13 @@ falls u v k x z x′ z′ e h = omega (arith, ap (λ t. t * x) e, ap (λ t. t * 
 
 -- (u − v) (x − z) = |u − v| (x′ − z′), mirrored
 mirrored : (u v x z : ℕ) → x ≤ 65536 → z ≤ 65536
-    → u * x + v * z + steep u v * mirror u v z ≡ v * x + u * z + steep u v * mirror u v x
+    → u * x + v * z + distance u v * mirror u v z ≡ v * x + u * z + distance u v * mirror u v x
 mirrored u v x z h i = go (leb v u) refl
   where
     go : (t : Bool) → leb v u ≡ t
-        → u * x + v * z + steep u v * cond t z (65536 - z) ≡ v * x + u * z + steep u v * cond t x (65536 - x)
-    go true e = let l = leb-true v u e in grows u v (steep u v) x z (omega arith)
-    go false e = let l = leb-false v u e in falls u v (steep u v) x z _ _ (omega arith) (omega arith)
+        → u * x + v * z + distance u v * cond t z (65536 - z) ≡ v * x + u * z + distance u v * cond t x (65536 - x)
+    go true e = let l = leb-true v u e in grows u v (distance u v) x z (omega arith)
+    go false e = let l = leb-false v u e in falls u v (distance u v) x z _ _ (omega arith) (omega arith)
 
 -- k times the larger of two, and the smaller
 larger : (k m n : ℕ) → m ≤ n → (k * n ≡ max (k * m) (k * n)) × (k * n ≡ max (k * n) (k * m))
@@ -79,10 +75,10 @@ module _ (u v low high : ℕ) (h : low ≤ high) (k : ℕ) where
 
 -- |py − qy| and |qx − px|
 abbrev pub steepX : Point → Point → ℕ
-steepX p q = steep (p .y) (q .y)
+steepX p q = distance (p .y) (q .y)
 
 abbrev pub steepY : Point → Point → ℕ
-steepY p q = steep (q .x) (p .x)
+steepY p q = distance (q .x) (p .x)
 
 -- x, mirrored unless qy ≤ py, and y, mirrored unless px ≤ qx
 abbrev pub mirrorX : Point → Point → ℕ → ℕ
@@ -113,13 +109,6 @@ offset p q = steepX p q * mirrorX p q (p .x) + steepY p q * mirrorY p q (p .y)
 pub record OnGrid (p : Point) : Type 0 where
   pub x : p .x ≤ 65535
   pub y : p .y ≤ 65535
-
--- a box of the grid that has points
-pub record Framed (b : Box) : Type 0 where
-  pub wide : b .left ≤ b .right
-  pub tall : b .top ≤ b .bottom
-  pub right : b .right ≤ 65536
-  pub bottom : b .bottom ≤ 65536
 
 sum : (u v w z x y a b c d : ℕ) → u * x + v * z + a ≡ v * x + u * z + b → w * y + z * u + c ≡ z * y + w * u + d
     → w * y + v * z + u * x + (a + c) ≡ b + d + (w * u + z * y + v * x)

@@ -2,7 +2,7 @@
 -- rectangle with upright sides, of which a square with its whole border is one.
 -- Assumes nothing.
 use mathlib.Core.Bool.{Bool, not, _&&_, _||_}
-use Prim.Native.Nat.{ℕ, min, max}
+use Prim.Native.Nat.{ℕ, _≤_, min, max}
 use lib.Dec.{ltb}
 use lib.IntN.{pos}
 use lib.Signed.{ltZ}
@@ -16,6 +16,13 @@ pub record Box : Type 0 where
   pub top : ℕ
   pub right : ℕ
   pub bottom : ℕ
+
+-- a box of the grid that has points
+pub record Framed (b : Box) : Type 0 where
+  pub wide : b .left ≤ b .right
+  pub tall : b .top ≤ b .bottom
+  pub right : b .right ≤ 65536
+  pub bottom : b .bottom ≤ 65536
 
 -- "bounding boxes are strictly apart": even their borders have no point in common
 unfoldable pub apart : Box → Box → Bool

@@ -3,7 +3,7 @@
 -- since the corners of squares reach 65,536.
 -- Assumes nothing.
 use mathlib.Core.Bool.{Bool, _&&_}
-use Prim.Native.Nat.{ℕ, _*_}
+use Prim.Native.Nat.{ℕ, _+_, _*_, _-_}
 use lib.Dec.{eqb}
 use lib.IntN.{ℤ, pos, _-ℤ_, _*ℤ_}
 use Rattle.plane.specs.declared.Point.{Point}
@@ -17,6 +17,10 @@ orient p q r =
 -- the same point: equal x and equal y
 unfoldable pub samePoint : Point → Point → Bool
 samePoint p q = eqb (p .x) (q .x) && eqb (p .y) (q .y)
+
+-- |m − n|, how far apart two coordinates are
+abbrev pub distance : ℕ → ℕ → ℕ
+distance m n = (m - n) + (n - m)
 
 -- "A point in a statement may be fractional: whole X, Y, W with W > 0, meaning X/W, Y/W"; statements add W > 0
 pub record FracPoint : Type 0 where

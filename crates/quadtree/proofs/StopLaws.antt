@@ -18,8 +18,8 @@ use Rattle.lists.proofs.Order.{rising-members}
 use Rattle.lists.proofs.EditedLists.{places-pass}
 use Rattle.lists.proofs.EveryLaws.{every-map, flatMap-agree}
 use Rattle.plane.specs.Triangle.{Triangle, Side, sides, proper}
-use Rattle.plane.specs.Box.{Box, sideMeets, triangleMeets}
-use Rattle.plane.proofs.ExtremeLaws.{Framed, OnGrid}
+use Rattle.plane.specs.Box.{Box, Framed, sideMeets, triangleMeets}
+use Rattle.plane.proofs.ExtremeLaws.{OnGrid}
 use Rattle.chart_spec.specs.Table.{Table, pointAt, triangleAt, tableOf, numbered, noTriangle}
 use Rattle.squares.specs.declared.Square.{Square}
 use Rattle.squares.specs.Square.{squareBox, Aligned}

@@ -12,11 +12,12 @@ ghost use lib.ListN.{length, getD};
 ghost use lib.Seq.{sets};
 ghost use Rattle.lists.specs.Lists.{all, filter, upTo};
 ghost use Rattle.plane.specs.Triangle.{sides, proper};
+ghost use Rattle.plane.specs.Box.{Framed};
 ghost use Rattle.orthtree.specs.Entries.{span};
 ghost use Rattle.squares.specs.Square.{squareBox, squareKey, quarters, Aligned};
 ghost use Rattle.chart_spec.specs.Table.{maxTriangles, numbersPerTriangle, pointAt, tableOf};
 ghost use Rattle.chart_spec.specs.Cells.{isEnd, commonEnd, stopped, trianglesMeeting, orMark, entriesIn, entriesOf, maxEntries};
-ghost use Rattle.shapes.specs.Shape.{boxOf, InGrid, triangleMeetsAt};
+ghost use Rattle.shapes.specs.Shape.{boxOf, triangleMeetsAt};
 ghost use Rattle.quadtree.specs.Build.{packed, only, maskOf, masked, unpacked, unpackedTriangle, startOf, sidesMet, sidesAt, eitherEnd, part, Skipped, Tested, Ready, Prepared, Candidates, Built};
 
 // A candidate: its place on the stack, and the mask of its sides that meet the frame.
@@ -50,7 +51,7 @@ fn narrow(
     f: Frame,
 ) -> usize
     requires { ⌜ Ready n from to (now table) (now shape) (now offsets) (now stack) ⌝ }
-    requires { ⌜ (to + (to - from) ≤ length (now stack)) × InGrid f ⌝ }
+    requires { ⌜ (to + (to - from) ≤ length (now stack)) × Framed (boxOf f) ⌝ }
     ensures { λ r. ⌜ now (stack .exit) ≡ sets (now (stack .entry)) to (filter (λ i. triangleMeetsAt (now (shape .entry)) (now (offsets .entry)) i (boxOf f)) (part from to (now (stack .entry)))) ⌝ }
     ensures { λ r. ⌜ r ≡ to + length (filter (λ i. triangleMeetsAt (now (shape .entry)) (now (offsets .entry)) i (boxOf f)) (part from to (now (stack .entry)))) ⌝ }
 {
@@ -67,7 +68,7 @@ fn narrow(
 
 // The sides of triangle i, which meets the frame, that meet it too, as a mask: bits 0, 1 and 2 for ab, bc and ca.
 fn sides_met(shape: &[u16], offsets: &[u64], i: usize, f: Frame) -> u32
-    requires { ⌜ ((28 * i + 28 ≤ length (now shape)) × (3 * i + 3 ≤ length (now offsets))) × InGrid f ⌝ }
+    requires { ⌜ ((28 * i + 28 ≤ length (now shape)) × (3 * i + 3 ≤ length (now offsets))) × Framed (boxOf f) ⌝ }
     ensures { λ r. ⌜ (r ≡ maskOf (sidesMet (now (shape .entry)) (now (offsets .entry)) (boxOf f) i)) × (r < 8) ⌝ }
 {
     let ab = shapes::side_meets(shape, 28 * i, offsets[3 * i], f);
@@ -120,7 +121,7 @@ fn first_met(
     to: usize,
     f: Frame,
 ) -> Met
-    requires { ⌜ Ready n from to (now table) (now shape) (now offsets) (now stack) × InGrid f ⌝ }
+    requires { ⌜ Ready n from to (now table) (now shape) (now offsets) (now stack) × Framed (boxOf f) ⌝ }
     ensures { λ r. ⌜ Skipped (λ i. sidesAt (now (table .entry)) (now (shape .entry)) (now (offsets .entry)) (boxOf f) i) (now (stack .entry)) from to (r .at) ⌝ }
     ensures { λ r. ⌜ (r .at < to → (r .mask ≡ maskOf (sidesMet (now (shape .entry)) (now (offsets .entry)) (boxOf f) (getD (now (stack .entry)) (r .at) 0))) × ((0 < r .mask) × (r .mask < 8))) ⌝ }
 {
@@ -151,7 +152,7 @@ fn either_end(
     x: u32,
     y: u32,
 ) -> bool
-    requires { ⌜ Ready n from to (now table) (now shape) (now offsets) (now stack) × InGrid f ⌝ }
+    requires { ⌜ Ready n from to (now table) (now shape) (now offsets) (now stack) × Framed (boxOf f) ⌝ }
     requires { ⌜ Tested (λ i. sidesAt (now table) (now shape) (now offsets) (boxOf f) i) (now stack) (unpacked p) (unpacked q) from to (from + 1) x y ⌝ }
     ensures { λ o. ⌜ o ≡ eitherEnd (unpacked p) (unpacked q) (flatMap (λ i. sidesAt (now (table .entry)) (now (shape .entry)) (now (offsets .entry)) (boxOf f) i) (part from to (now (stack .entry)))) ⌝ }
 {
@@ -185,7 +186,7 @@ fn common_end(
     to: usize,
     f: Frame,
 ) -> bool
-    requires { ⌜ Ready n from to (now table) (now shape) (now offsets) (now stack) × InGrid f ⌝ }
+    requires { ⌜ Ready n from to (now table) (now shape) (now offsets) (now stack) × Framed (boxOf f) ⌝ }
     ensures { λ o. ⌜ o ≡ commonEnd (flatMap (λ i. sidesAt (now (table .entry)) (now (shape .entry)) (now (offsets .entry)) (boxOf f) i) (part from to (now (stack .entry)))) ⌝ }
 {
     let met = first_met(table, n, shape, offsets, stack, from, to, f);
@@ -206,7 +207,7 @@ fn common_end(
 }
 
 // One entry for each candidate from `from` up to `to`.
-fn put_items(stack: &[u16], from: usize, to: usize, head: u64, out: &mut [u64], at: usize)
+fn put_candidates(stack: &[u16], from: usize, to: usize, head: u64, out: &mut [u64], at: usize)
     requires { ⌜ ((from ≤ to) × (to ≤ length (now stack))) × ((at + (to - from) ≤ length (now out)) × (head ≤ 18446744073709486080)) ⌝ }
     ensures { λ r. ⌜ now (out .exit) ≡ sets (now (out .entry)) at (map (λ i. head + i) (part from to (now (stack .entry)))) ⌝ }
 {
@@ -227,14 +228,14 @@ fn put_cell(stack: &[u16], from: usize, to: usize, head: u64, out: &mut [u64], a
         out[at] = head + 65535;
         return at + 1;
     }
-    put_items(stack, from, to, head, out, at);
+    put_candidates(stack, from, to, head, out, at);
     at + (to - from)
 }
 
 // The square with its whole border.
 fn frame_of(s: Square) -> Frame
     requires { ⌜ Aligned s ⌝ }
-    ensures { λ f. ⌜ (boxOf f ≡ squareBox s) × InGrid f ⌝ }
+    ensures { λ f. ⌜ (boxOf f ≡ squareBox s) × Framed (boxOf f) ⌝ }
 {
     let side = s.side();
     let right = s.x + side;
@@ -259,7 +260,7 @@ fn is_stopped(
     s: Square,
     f: Frame,
 ) -> bool
-    requires { ⌜ Ready n from to (now table) (now shape) (now offsets) (now stack) × (Prepared n (now table) (now shape) (now offsets) × (Aligned s × ((boxOf f ≡ squareBox s) × InGrid f))) ⌝ }
+    requires { ⌜ Ready n from to (now table) (now shape) (now offsets) (now stack) × (Prepared n (now table) (now shape) (now offsets) × (Aligned s × ((boxOf f ≡ squareBox s) × Framed (boxOf f)))) ⌝ }
     requires { ⌜ part from to (now stack) ≡ trianglesMeeting (tableOf (now table) n) s ⌝ }
     ensures { λ o. ⌜ o ≡ stopped (tableOf (now (table .entry)) n) s ⌝ }
 {

@@ -12,11 +12,12 @@ use lib.ListN.{length, getD}
 use lib.Seq.{getD-take}
 use Rattle.lists.proofs.ListsLaws.{getD-stride, getD-member}
 use Rattle.plane.specs.declared.Point.{Point}
+use Rattle.plane.specs.Point.{distance}
 use Rattle.plane.specs.Triangle.{Triangle}
-use Rattle.plane.specs.Box.{Box, apart, sideBox, triangleBox, allInner, allOuter, sideMeets, triangleMeets}
-use Rattle.plane.proofs.ExtremeLaws.{offset, OnGrid, Framed, allOuter-extreme, allInner-extreme}
+use Rattle.plane.specs.Box.{Box, Framed, apart, sideBox, triangleBox, allInner, allOuter, sideMeets, triangleMeets}
+use Rattle.plane.proofs.ExtremeLaws.{offset, OnGrid, allOuter-extreme, allInner-extreme}
 use Rattle.chart_spec.specs.Table.{Table, numbered, noTriangle}
-use Rattle.shapes.specs.Shape.{distance, atMost, chosen, sideShape, boxShape, shapeOf, sideOffset, offsetsOf, Shaped, reachAt, baseAt, touchesAt, triangleMeetsAt, sideMeetsAt}
+use Rattle.shapes.specs.Shape.{atMost, chosen, sideShape, boxShape, shapeOf, sideOffset, offsetsOf, Shaped, reachAt, baseAt, touchesAt, triangleMeetsAt, sideMeetsAt}
 
 -- ---- one side
 

@@ -3,18 +3,15 @@
 use mathlib.Core.Path.{_≡_}
 use mathlib.Core.Bool.{Bool, cond, _&&_}
 use mathlib.Core.List.{List, [], _∷_, _++_, flatMap}
-use Prim.Native.Nat.{ℕ, _+_, _*_, _-_, _≤_, min, max}
+use Prim.Native.Nat.{ℕ, _+_, _*_, _-_, min, max}
 use lib.Dec.{leb, eqb}
 use lib.ListN.{length, getD, take}
 use Rattle.plane.specs.declared.Point.{Point}
+use Rattle.plane.specs.Point.{distance}
 use Rattle.plane.specs.Triangle.{Triangle}
 use Rattle.plane.specs.Box.{Box}
 use Rattle.chart_spec.specs.Table.{Table}
 use Rattle.shapes.specs.declared.Frame.{Frame}
-
--- |m − n|
-abbrev pub distance : ℕ → ℕ → ℕ
-distance m n = (m - n) + (n - m)
 
 -- 1 where m ≤ n, otherwise 0
 abbrev pub atMost : ℕ → ℕ → ℕ
@@ -61,13 +58,6 @@ pub record Shaped (table : Table) (shape offsets : List ℕ) : Type 0 where
 -- the box that a frame is
 abbrev pub boxOf : Frame → Box
 boxOf f = record { left = f .left; top = f .top; right = f .right; bottom = f .bottom }
-
--- within the grid of 65,536, and not empty
-pub record InGrid (f : Frame) : Type 0 where
-  pub across : f .left ≤ f .right
-  pub along : f .top ≤ f .bottom
-  pub right : f .right ≤ 65536
-  pub bottom : f .bottom ≤ 65536
 
 -- V at the corner of the box where it is largest, for the side whose numbers start at k
 unfoldable pub reachAt : List ℕ → ℕ → Box → ℕ

@@ -11,7 +11,9 @@ ghost use Prim.Native.Nat.{_+_, _*_, _≤_};
 ghost use lib.ListN.{length};
 ghost use lib.Seq.{sets};
 ghost use mathlib.Core.List.{flatMap};
-ghost use Rattle.shapes.specs.Shape.{distance, atMost, chosen, sideShape, boxShape, shapeOf, sideOffset, offsetsOf, boxOf, InGrid, reachAt, baseAt, touchesAt, triangleMeetsAt, sideMeetsAt};
+ghost use Rattle.plane.specs.Point.{distance as Point·distance};
+ghost use Rattle.plane.specs.Box.{Framed};
+ghost use Rattle.shapes.specs.Shape.{atMost, chosen, sideShape, boxShape, shapeOf, sideOffset, offsetsOf, boxOf, reachAt, baseAt, touchesAt, triangleMeetsAt, sideMeetsAt};
 ghost use Rattle.chart_spec.specs.Table.{numbersPerTriangle, triangleAt, tableOf};
 
 // A box of the grid: left ≤ right ≤ 65536 and top ≤ bottom ≤ 65536.
@@ -23,8 +25,8 @@ pub struct Frame {
 }
 
 // How far apart a and b are.
-fn gap(a: u16, b: u16) -> u16
-    ensures { λ r. ⌜ r ≡ distance a b ⌝ }
+fn distance(a: u16, b: u16) -> u16
+    ensures { λ r. ⌜ r ≡ Point·distance a b ⌝ }
 {
     if b < a { a - b } else { b - a }
 }
@@ -57,8 +59,8 @@ fn offset(p: Point, q: Point) -> u64
 {
     let x = numbers::wide(p.x);
     let y = numbers::wide(p.y);
-    times(gap(p.y, q.y), choose(flag(q.y, p.y), 65536 - x, x))
-        + times(gap(q.x, p.x), choose(flag(p.x, q.x), 65536 - y, y))
+    times(distance(p.y, q.y), choose(flag(q.y, p.y), 65536 - x, x))
+        + times(distance(q.x, p.x), choose(flag(p.x, q.x), 65536 - y, y))
 }
 
 // The eight numbers of the side from p to q, from k on.
@@ -66,8 +68,8 @@ fn put_side(shape: &mut [u16], k: usize, p: Point, q: Point)
     requires { ⌜ k + 8 ≤ length (now shape) ⌝ }
     ensures { λ r. ⌜ now (shape .exit) ≡ sets (now (shape .entry)) k (sideShape p q) ⌝ }
 {
-    shape[k] = gap(p.y, q.y);
-    shape[k + 1] = gap(q.x, p.x);
+    shape[k] = distance(p.y, q.y);
+    shape[k + 1] = distance(q.x, p.x);
     shape[k + 2] = flag(q.y, p.y);
     shape[k + 3] = flag(p.x, q.x);
     shape[k + 4] = numbers::smaller(p.x, q.x);
@@ -136,7 +138,7 @@ pub fn prepare(table: &[u16], n: usize, shape: &mut [u16], offsets: &mut [u64])
 
 // V at the corner of the frame where it is largest, for the side whose numbers start at k.
 fn reach(shape: &[u16], k: usize, f: Frame) -> u64
-    requires { ⌜ (k + 4 ≤ length (now shape)) × InGrid f ⌝ }
+    requires { ⌜ (k + 4 ≤ length (now shape)) × Framed (boxOf f) ⌝ }
     ensures { λ r. ⌜ r ≡ reachAt (now (shape .entry)) k (boxOf f) ⌝ }
 {
     times(shape[k], choose(shape[k + 2], 65536 - f.left, f.right))
@@ -145,7 +147,7 @@ fn reach(shape: &[u16], k: usize, f: Frame) -> u64
 
 // V at the corner where it is smallest.
 fn base(shape: &[u16], k: usize, f: Frame) -> u64
-    requires { ⌜ (k + 4 ≤ length (now shape)) × InGrid f ⌝ }
+    requires { ⌜ (k + 4 ≤ length (now shape)) × Framed (boxOf f) ⌝ }
     ensures { λ r. ⌜ r ≡ baseAt (now (shape .entry)) k (boxOf f) ⌝ }
 {
     times(shape[k], choose(shape[k + 2], 65536 - f.right, f.left))
@@ -165,7 +167,7 @@ fn touches(shape: &[u16], k: usize, f: Frame) -> bool
 
 // Triangle i meets the frame.
 pub fn triangle_meets(shape: &[u16], offsets: &[u64], i: usize, f: Frame) -> bool
-    requires { ⌜ (28 * i + 28 ≤ length (now shape)) × ((3 * i + 3 ≤ length (now offsets)) × InGrid f) ⌝ }
+    requires { ⌜ (28 * i + 28 ≤ length (now shape)) × ((3 * i + 3 ≤ length (now offsets)) × Framed (boxOf f)) ⌝ }
     ensures { λ o. ⌜ o ≡ triangleMeetsAt (now (shape .entry)) (now (offsets .entry)) i (boxOf f) ⌝ }
 {
     if touches(shape, 28 * i + 24, f) {
@@ -178,7 +180,7 @@ pub fn triangle_meets(shape: &[u16], offsets: &[u64], i: usize, f: Frame) -> boo
 
 // The side whose numbers start at k, with the offset v, meets the frame, where its triangle does: V reaches v then.
 pub fn side_meets(shape: &[u16], k: usize, v: u64, f: Frame) -> bool
-    requires { ⌜ (k + 8 ≤ length (now shape)) × InGrid f ⌝ }
+    requires { ⌜ (k + 8 ≤ length (now shape)) × Framed (boxOf f) ⌝ }
     ensures { λ o. ⌜ o ≡ sideMeetsAt (now (shape .entry)) k v (boxOf f) ⌝ }
 {
     touches(shape, k + 4, f) & (base(shape, k, f) <= v)

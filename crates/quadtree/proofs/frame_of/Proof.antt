@@ -33,7 +33,7 @@ returns c =
     let p = c .before .before .before .before .before .pre in
     let e = c .before .before .before .before .side .ensures .0 in (
       λ i. record { left = s .x; top = s .y; right = s .x + e i; bottom = s .y + e i },
-      record { across = omega arith; along = omega arith; right = omega (arith, p .right); bottom = omega (arith, p .bottom) },
+      record { wide = omega arith; tall = omega arith; right = omega (arith, p .right); bottom = omega (arith, p .bottom) },
     )
 
 pub frame-of-spec : {M : Type 1} → statement M

@@ -33,8 +33,8 @@ returns c =
     let m = cell-empty (a .from) (a .to) (a .stack .now) h (c .if1 .taken) in
     (rw m refl, rw m refl)
 
-put-items-requires : tie.Need-put-items-requires
-put-items-requires c κs =
+put-candidates-requires : tie.Need-put-candidates-requires
+put-candidates-requires c κs =
     let a = c .before .before .before .before .args in
     let h = c .before .before .before .before .pre .0 .1 in
     let e = cell-length (a .from) (a .to) (a .stack .now) h in
@@ -55,7 +55,7 @@ returns-2 c =
     let h = c .before .before .before .before .before .before .before .pre .0 .1 in
     let e = cell-length (a .from) (a .to) (a .stack .now) h in
     let o : a .from < a .to = omega arith in
-    (rw (cell-items (a .from) (a .to) (a .stack .now) h o) (c .before .before .put-items .ensures), omega arith)
+    (rw (cell-items (a .from) (a .to) (a .stack .now) h o) (c .before .before .put-candidates .ensures), omega arith)
 
 pub put-cell-spec : {M : Type 1} → statement M
 put-cell-spec =
@@ -67,7 +67,7 @@ put-cell-spec =
     add-result
     same-length
     returns
-    put-items-requires
+    put-candidates-requires
     sub-result
     add-result-2
     same-length-2

@@ -9,8 +9,8 @@ wide-requires c κs = search needs
 wide-requires-2 : tie.Need-wide-requires-2
 wide-requires-2 c κs = search needs
 
-gap-requires : tie.Need-gap-requires
-gap-requires c κs = search needs
+distance-requires : tie.Need-distance-requires
+distance-requires c κs = search needs
 
 flag-requires : tie.Need-flag-requires
 flag-requires c κs = search needs
@@ -24,8 +24,8 @@ choose-requires c κs = search needs
 times-requires : tie.Need-times-requires
 times-requires c κs = search needs
 
-gap-requires-2 : tie.Need-gap-requires-2
-gap-requires-2 c κs = search needs
+distance-requires-2 : tie.Need-distance-requires-2
+distance-requires-2 c κs = search needs
 
 flag-requires-2 : tie.Need-flag-requires-2
 flag-requires-2 c κs = search needs
@@ -52,12 +52,12 @@ offset-spec =
     (tie.spec
     wide-requires
     wide-requires-2
-    gap-requires
+    distance-requires
     flag-requires
     sub-choose
     choose-requires
     times-requires
-    gap-requires-2
+    distance-requires-2
     flag-requires-2
     sub-choose-2
     choose-requires-2

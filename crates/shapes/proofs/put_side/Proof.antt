@@ -6,8 +6,8 @@ use borrow.Author.Needs.{needs}
 use Rattle.shapes.proofs.put_side.Statement.{statement}
 use Rattle.shapes.proofs.put_side.Tie as tie
 
-gap-requires : tie.Need-gap-requires
-gap-requires c κs = search needs
+distance-requires : tie.Need-distance-requires
+distance-requires c κs = search needs
 
 mul-shape : tie.Need-mul-shape
 mul-shape c = search needs
@@ -15,8 +15,8 @@ mul-shape c = search needs
 slice-write-shape : tie.Need-slice-write-shape
 slice-write-shape c = search needs
 
-gap-requires-2 : tie.Need-gap-requires-2
-gap-requires-2 c κs = search needs
+distance-requires-2 : tie.Need-distance-requires-2
+distance-requires-2 c κs = search needs
 
 add-shape : tie.Need-add-shape
 add-shape c = search needs
@@ -110,10 +110,10 @@ pub put-side-spec : {M : Type 1} → statement M
 put-side-spec =
     tie.close
     (tie.spec
-    gap-requires
+    distance-requires
     mul-shape
     slice-write-shape
-    gap-requires-2
+    distance-requires-2
     add-shape
     mul-shape-2
     slice-write-shape-2

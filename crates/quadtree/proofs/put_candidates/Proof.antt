@@ -6,8 +6,8 @@ use lib.Seq.{sets}
 use Rattle.lists.proofs.ListsLaws.{sets-length}
 use Rattle.quadtree.specs.Build.{part}
 use Rattle.quadtree.proofs.StackLaws.{part-none, stored-item}
-use Rattle.quadtree.proofs.put_items.Statement.{statement}
-use Rattle.quadtree.proofs.put_items.Tie as tie
+use Rattle.quadtree.proofs.put_candidates.Statement.{statement}
+use Rattle.quadtree.proofs.put_candidates.Tie as tie
 
 abbrev Inv-loop : tie.InvT-loop
 Inv-loop stack from to head out₀ at k₀ out k =
@@ -84,8 +84,8 @@ returns c =
     let k : c .before .loop .k ≡ c .before .before .before .before .args .to = omega (arith, v .0 .1) in
     rw k at (v .1)
 
-pub put-items-spec : {M : Type 1} → statement M
-put-items-spec =
+pub put-candidates-spec : {M : Type 1} → statement M
+put-candidates-spec =
     tie.close
     (tie.spec
     Inv-loop
