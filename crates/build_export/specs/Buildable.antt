@@ -7,13 +7,13 @@ use lib.Dec.{leb, eqb}
 use lib.ListN.{length}
 use Rattle.lists.specs.Lists.{all}
 use Rattle.plane.specs.Triangle.{proper}
-use Rattle.chart_spec.specs.Table.{tableOf, tableLength}
+use Rattle.chart_spec.specs.Table.{numbersPerTriangle, tableLength, tableOf}
 use Rattle.chart_spec.specs.Cells.{maxEntries}
 
 -- the numbers are whole triangles, at most 512, and the three lists have 16,384 places
 unfoldable pub lengthsFit : List ℕ → List ℕ → List ℕ → List ℕ → Bool
 lengthsFit table keys levels items =
-    eqb (length table % 6) 0
+    eqb (length table % numbersPerTriangle) 0
     && leb (length table) tableLength
     && leb maxEntries (length keys)
     && leb maxEntries (length levels)
@@ -21,4 +21,4 @@ lengthsFit table keys levels items =
 
 -- and each triangle has D > 0
 unfoldable pub buildable : List ℕ → List ℕ → List ℕ → List ℕ → Bool
-buildable table keys levels items = lengthsFit table keys levels items && all (λ t. proper t) (tableOf table (length table / 6))
+buildable table keys levels items = lengthsFit table keys levels items && all (λ t. proper t) (tableOf table (length table / numbersPerTriangle))

@@ -14,8 +14,8 @@ use Rattle.plane.specs.Triangle.{Triangle, Side, sides, proper}
 use Rattle.plane.specs.Box.{Box, triangleMeets}
 use Rattle.squares.specs.declared.Square.{Square}
 use Rattle.squares.specs.Square.{squareBox}
-use Rattle.chart_spec.specs.Table.{triangleAt, tableOf, numbered}
-use Rattle.chart_spec.specs.Cells.{isEnd, trianglesMeeting}
+use Rattle.chart_spec.specs.Table.{numbersPerTriangle, triangleAt, tableOf, numbered}
+use Rattle.chart_spec.specs.Cells.{isEnd, trianglesMeeting, maxEntries}
 use Rattle.shapes.specs.Shape.{sideMeetsAt, Shaped}
 
 -- an entry as one number: key, level and item at places 32, 16 and 0
@@ -92,7 +92,7 @@ pub record Ready (n f t : ℕ) (table shape offsets stack : List ℕ) : Type 0 w
   pub order : f ≤ t
   pub within : t ≤ length stack
   pub held : (k : ℕ) → f ≤ k → k < t → getD stack k 0 < n
-  pub tables : 6 * n ≤ length table
+  pub tables : numbersPerTriangle * n ≤ length table
   pub shapes : 28 * n ≤ length shape
   pub offs : 3 * n ≤ length offsets
 
@@ -109,8 +109,8 @@ pub record Candidates (n f t : ℕ) (table stack : List ℕ) (s : Square) : Type
 
 -- what building a square leaves: its entries where they fit below 16,384, or 16,385; the stack is kept up to t
 pub record Built (es : List Entry) (at r t : ℕ) (out out′ stack stack′ : List ℕ) : Type 0 where
-  pub fits : at + length es ≤ 16384 → (r ≡ at + length es) × (out′ ≡ sets out at (map (λ e. packed e) es))
-  pub over : 16384 < at + length es → r ≡ 16385
+  pub fits : at + length es ≤ maxEntries → (r ≡ at + length es) × (out′ ≡ sets out at (map (λ e. packed e) es))
+  pub over : maxEntries < at + length es → r ≡ 16385
   pub kept : take t stack′ ≡ take t stack
   pub outs : length out′ ≡ length out
   pub stacks : length stack′ ≡ length stack
