@@ -121,9 +121,18 @@ pub fn build_into(
 {
     let mut shape = [0u16; 14336];
     let mut offsets = [0u64; 1536];
+    let mut corners = [0u32; 1536];
     let mut stack = [0u16; 9216];
     let mut entries = [0u64; tables::MOST_ENTRIES];
-    let m = quadtree::build(table, n, &mut shape, &mut offsets, &mut stack, &mut entries);
+    let m = quadtree::build(
+        table,
+        n,
+        &mut shape,
+        &mut offsets,
+        &mut corners,
+        &mut stack,
+        &mut entries,
+    );
     if m > tables::MOST_ENTRIES {
         return 16385;
     }
@@ -169,9 +178,18 @@ pub fn entries_match(
 {
     let mut shape = [0u16; 14336];
     let mut offsets = [0u64; 1536];
+    let mut corners = [0u32; 1536];
     let mut stack = [0u16; 9216];
     let mut entries = [0u64; tables::MOST_ENTRIES];
-    let r = quadtree::build(table, n, &mut shape, &mut offsets, &mut stack, &mut entries);
+    let r = quadtree::build(
+        table,
+        n,
+        &mut shape,
+        &mut offsets,
+        &mut corners,
+        &mut stack,
+        &mut entries,
+    );
     if r != m {
         return false;
     }

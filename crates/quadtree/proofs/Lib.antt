@@ -5,3 +5,4 @@ pub mod StopLaws
 pub mod WalkLaws
 pub mod SquareWalk
 pub mod WholeWalk
+pub mod KeptLaws

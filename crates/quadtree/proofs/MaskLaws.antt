@@ -16,7 +16,6 @@ use Rattle.lists.proofs.IndexLaws.{reflects-same, all-map, all-below-at}
 use Rattle.plane.specs.Point.{samePoint}
 use Rattle.plane.specs.Triangle.{sides}
 use Rattle.plane.proofs.PointLaws.{samePoint-reflects}
-use Rattle.chart_spec.specs.Table.{pointAt}
 use Rattle.chart_spec.specs.Cells.{isEnd}
 use Rattle.quadtree.specs.Build.{bit, maskOf, masked, unpacked, unpackedTriangle}
 
@@ -63,14 +62,6 @@ map-masked f m (x ∷ xs) = go (eqb (m % 2) 1) (map-masked f (m / 2) xs)
         → map f (cond b (x ∷ masked (m / 2) xs) (masked (m / 2) xs)) ≡ cond b (f x ∷ masked (m / 2) (map f xs)) (masked (m / 2) (map f xs))
     go true e = ap (λ l. f x ∷ l) e
     go false e = e
-
--- the number of the point at place k of a table
-pub packed-point : (t : List ℕ) (k : ℕ) → getD t k 0 < 65536 → unpacked (getD t k 0 + 65536 * getD t (k + 1) 0) ≡ pointAt t k
-unfolding unpacked pointAt
-packed-point t k h =
-    let x : (getD t k 0 + 65536 * getD t (k + 1) 0) % 65536 ≡ getD t k 0 = omega arith in
-    let y : (getD t k 0 + 65536 * getD t (k + 1) 0) / 65536 ≡ getD t (k + 1) 0 = omega arith in
-    λ i. record { x = x i; y = y i }
 
 -- numbers are equal if the points are that they stand for
 same-packed : (p q : ℕ) → samePoint (unpacked p) (unpacked q) ≡ eqb p q

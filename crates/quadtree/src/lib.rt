@@ -15,9 +15,9 @@ ghost use Rattle.plane.specs.Triangle.{sides, proper};
 ghost use Rattle.plane.specs.Box.{Framed};
 ghost use Rattle.orthtree.specs.Entries.{span};
 ghost use Rattle.squares.specs.Square.{squareBox, squareKey, quarters, Aligned};
-ghost use Rattle.chart_spec.specs.Table.{maxTriangles, numbersPerTriangle, pointAt, tableOf};
+ghost use Rattle.chart_spec.specs.Table.{maxTriangles, numbersPerTriangle, tableOf};
 ghost use Rattle.chart_spec.specs.Cells.{isEnd, commonEnd, stopped, trianglesMeeting, orMark, entriesIn, entriesOf, maxEntries};
-ghost use Rattle.shapes.specs.Shape.{boxOf, triangleMeetsAt};
+ghost use Rattle.shapes.specs.Shape.{coordinates, boxOf, triangleMeetsAt};
 ghost use Rattle.quadtree.specs.Build.{packed, only, maskOf, masked, unpacked, unpackedTriangle, startOf, sidesMet, sidesAt, eitherEnd, part, Skipped, Tested, Ready, Prepared, Candidates, Built};
 
 // A candidate: its place on the stack, and the mask of its sides that meet the frame.
@@ -41,7 +41,7 @@ fn push_when(b: bool, stack: &mut [u16], top: usize, i: u16) -> usize
 
 // The candidates from `from` up to `to` that meet the frame, stored from `to` on.
 fn narrow(
-    table: &[u16],
+    corners: &[u32],
     n: usize,
     shape: &[u16],
     offsets: &[u64],
@@ -50,7 +50,7 @@ fn narrow(
     to: usize,
     f: Frame,
 ) -> usize
-    requires { ⌜ Ready n from to (now table) (now shape) (now offsets) (now stack) ⌝ }
+    requires { ⌜ Ready n from to (coordinates (now corners)) (now shape) (now offsets) (now stack) ⌝ }
     requires { ⌜ (to + (to - from) ≤ length (now stack)) × Framed (boxOf f) ⌝ }
     ensures { λ r. ⌜ now (stack .exit) ≡ sets (now (stack .entry)) to (filter (λ i. triangleMeetsAt (now (shape .entry)) (now (offsets .entry)) i (boxOf f)) (part from to (now (stack .entry)))) ⌝ }
     ensures { λ r. ⌜ r ≡ to + length (filter (λ i. triangleMeetsAt (now (shape .entry)) (now (offsets .entry)) i (boxOf f)) (part from to (now (stack .entry)))) ⌝ }
@@ -75,14 +75,6 @@ fn sides_met(shape: &[u16], offsets: &[u64], i: usize, f: Frame) -> u32
     let bc = shapes::side_meets(shape, 28 * i + 8, offsets[3 * i + 1], f);
     let ca = shapes::side_meets(shape, 28 * i + 16, offsets[3 * i + 2], f);
     (ab as u32) + 2 * (bc as u32) + 4 * (ca as u32)
-}
-
-// The point at places k and k + 1 of a table as one number.
-fn packed_at(table: &[u16], k: usize) -> u32
-    requires { ⌜ k + 2 ≤ length (now table) ⌝ }
-    ensures { λ r. ⌜ unpacked r ≡ pointAt (now (table .entry)) k ⌝ }
-{
-    (table[k] as u32) + 65536 * (table[k + 1] as u32)
 }
 
 // Those of the sides in the mask m that have no end in p, in the triangle with the corners a, b, c.
@@ -112,7 +104,7 @@ fn start_of(m: u32, a: u32, b: u32, c: u32) -> u32
 
 // The first candidate, from `from` up to `to`, of which some side meets the frame: its place, or `to`, and its mask.
 fn first_met(
-    table: &[u16],
+    corners: &[u32],
     n: usize,
     shape: &[u16],
     offsets: &[u64],
@@ -121,8 +113,8 @@ fn first_met(
     to: usize,
     f: Frame,
 ) -> Met
-    requires { ⌜ Ready n from to (now table) (now shape) (now offsets) (now stack) × Framed (boxOf f) ⌝ }
-    ensures { λ r. ⌜ Skipped (λ i. sidesAt (now (table .entry)) (now (shape .entry)) (now (offsets .entry)) (boxOf f) i) (now (stack .entry)) from to (r .at) ⌝ }
+    requires { ⌜ Ready n from to (coordinates (now corners)) (now shape) (now offsets) (now stack) × Framed (boxOf f) ⌝ }
+    ensures { λ r. ⌜ Skipped (λ i. sidesAt (coordinates (now (corners .entry))) (now (shape .entry)) (now (offsets .entry)) (boxOf f) i) (now (stack .entry)) from to (r .at) ⌝ }
     ensures { λ r. ⌜ (r .at < to → (r .mask ≡ maskOf (sidesMet (now (shape .entry)) (now (offsets .entry)) (boxOf f) (getD (now (stack .entry)) (r .at) 0))) × ((0 < r .mask) × (r .mask < 8))) ⌝ }
 {
     let mut k = from;
@@ -139,7 +131,7 @@ fn first_met(
 // p or q is an end of every side, of the candidates from `from` up to `to`, that meets the frame; x and y are 0 if p and q
 // are ends of those of the first candidate.
 fn either_end(
-    table: &[u16],
+    corners: &[u32],
     n: usize,
     shape: &[u16],
     offsets: &[u64],
@@ -152,9 +144,9 @@ fn either_end(
     x: u32,
     y: u32,
 ) -> bool
-    requires { ⌜ Ready n from to (now table) (now shape) (now offsets) (now stack) × Framed (boxOf f) ⌝ }
-    requires { ⌜ Tested (λ i. sidesAt (now table) (now shape) (now offsets) (boxOf f) i) (now stack) (unpacked p) (unpacked q) from to (from + 1) x y ⌝ }
-    ensures { λ o. ⌜ o ≡ eitherEnd (unpacked p) (unpacked q) (flatMap (λ i. sidesAt (now (table .entry)) (now (shape .entry)) (now (offsets .entry)) (boxOf f) i) (part from to (now (stack .entry)))) ⌝ }
+    requires { ⌜ Ready n from to (coordinates (now corners)) (now shape) (now offsets) (now stack) × Framed (boxOf f) ⌝ }
+    requires { ⌜ Tested (λ i. sidesAt (coordinates (now corners)) (now shape) (now offsets) (boxOf f) i) (now stack) (unpacked p) (unpacked q) from to (from + 1) x y ⌝ }
+    ensures { λ o. ⌜ o ≡ eitherEnd (unpacked p) (unpacked q) (flatMap (λ i. sidesAt (coordinates (now (corners .entry))) (now (shape .entry)) (now (offsets .entry)) (boxOf f) i) (part from to (now (stack .entry)))) ⌝ }
 {
     let mut first = x;
     let mut second = y;
@@ -162,9 +154,9 @@ fn either_end(
     while k < to {
         let i = numbers::index(stack[k]);
         let m = sides_met(shape, offsets, i, f);
-        let a = packed_at(table, tables::TRIANGLE_NUMBERS * i);
-        let b = packed_at(table, tables::TRIANGLE_NUMBERS * i + 2);
-        let c = packed_at(table, tables::TRIANGLE_NUMBERS * i + 4);
+        let a = corners[3 * i];
+        let b = corners[3 * i + 1];
+        let c = corners[3 * i + 2];
         first = first | missed(m, p, a, b, c);
         second = second | missed(m, q, a, b, c);
         if (first != 0) & (second != 0) {
@@ -177,7 +169,7 @@ fn either_end(
 
 // Some point is an end of every side, of the candidates from `from` up to `to`, that meets the frame.
 fn common_end(
-    table: &[u16],
+    corners: &[u32],
     n: usize,
     shape: &[u16],
     offsets: &[u64],
@@ -186,22 +178,22 @@ fn common_end(
     to: usize,
     f: Frame,
 ) -> bool
-    requires { ⌜ Ready n from to (now table) (now shape) (now offsets) (now stack) × Framed (boxOf f) ⌝ }
-    ensures { λ o. ⌜ o ≡ commonEnd (flatMap (λ i. sidesAt (now (table .entry)) (now (shape .entry)) (now (offsets .entry)) (boxOf f) i) (part from to (now (stack .entry)))) ⌝ }
+    requires { ⌜ Ready n from to (coordinates (now corners)) (now shape) (now offsets) (now stack) × Framed (boxOf f) ⌝ }
+    ensures { λ o. ⌜ o ≡ commonEnd (flatMap (λ i. sidesAt (coordinates (now (corners .entry))) (now (shape .entry)) (now (offsets .entry)) (boxOf f) i) (part from to (now (stack .entry)))) ⌝ }
 {
-    let met = first_met(table, n, shape, offsets, stack, from, to, f);
+    let met = first_met(corners, n, shape, offsets, stack, from, to, f);
     let k = met.at;
     if k < to {
         let i = numbers::index(stack[k]);
         let m = met.mask;
-        let a = packed_at(table, tables::TRIANGLE_NUMBERS * i);
-        let b = packed_at(table, tables::TRIANGLE_NUMBERS * i + 2);
-        let c = packed_at(table, tables::TRIANGLE_NUMBERS * i + 4);
+        let a = corners[3 * i];
+        let b = corners[3 * i + 1];
+        let c = corners[3 * i + 2];
         let p = start_of(m, a, b, c);
         let q = start_of(m, b, c, a);
         let x = missed(m, p, a, b, c);
         let y = missed(m, q, a, b, c);
-        return either_end(table, n, shape, offsets, stack, k, to, f, p, q, x, y);
+        return either_end(corners, n, shape, offsets, stack, k, to, f, p, q, x, y);
     }
     true
 }
@@ -250,7 +242,7 @@ fn frame_of(s: Square) -> Frame
 
 // Level 16, or some point is an end of every side that meets the square, whose triangles stand from `from` up to `to`.
 fn is_stopped(
-    table: &[u16],
+    corners: &[u32],
     n: usize,
     shape: &[u16],
     offsets: &[u64],
@@ -260,14 +252,14 @@ fn is_stopped(
     s: Square,
     f: Frame,
 ) -> bool
-    requires { ⌜ Ready n from to (now table) (now shape) (now offsets) (now stack) × (Prepared n (now table) (now shape) (now offsets) × (Aligned s × ((boxOf f ≡ squareBox s) × Framed (boxOf f)))) ⌝ }
-    requires { ⌜ part from to (now stack) ≡ trianglesMeeting (tableOf (now table) n) s ⌝ }
-    ensures { λ o. ⌜ o ≡ stopped (tableOf (now (table .entry)) n) s ⌝ }
+    requires { ⌜ Ready n from to (coordinates (now corners)) (now shape) (now offsets) (now stack) × (Prepared n (coordinates (now corners)) (now shape) (now offsets) × (Aligned s × ((boxOf f ≡ squareBox s) × Framed (boxOf f)))) ⌝ }
+    requires { ⌜ part from to (now stack) ≡ trianglesMeeting (tableOf (coordinates (now corners)) n) s ⌝ }
+    ensures { λ o. ⌜ o ≡ stopped (tableOf (coordinates (now (corners .entry))) n) s ⌝ }
 {
     if s.level == 16 {
         return true;
     }
-    common_end(table, n, shape, offsets, stack, from, to, f)
+    common_end(corners, n, shape, offsets, stack, from, to, f)
 }
 
 // How many entries a cell has whose triangles stand from `from` up to `to`.
@@ -330,7 +322,7 @@ fn key_step(level: u32) -> u64
 // Files a square: its entries from `at` on, or 16385 where they do not fit below 16384. Its triangles are among the
 // candidates from `from` up to `to` of the stack.
 fn build_square(
-    table: &[u16],
+    corners: &[u32],
     n: usize,
     shape: &[u16],
     offsets: &[u64],
@@ -342,16 +334,16 @@ fn build_square(
     out: &mut [u64],
     at: usize,
 ) -> usize
-    requires { ⌜ Ready n from to (now table) (now shape) (now offsets) (now stack) × (Prepared n (now table) (now shape) (now offsets) × (Candidates n from to (now table) (now stack) s × Aligned s)) ⌝ }
+    requires { ⌜ Ready n from to (coordinates (now corners)) (now shape) (now offsets) (now stack) × (Prepared n (coordinates (now corners)) (now shape) (now offsets) × (Candidates n from to (coordinates (now corners)) (now stack) s × Aligned s)) ⌝ }
     requires { ⌜ (key ≡ squareKey s) × ((to + (17 - s .level) * n ≤ length (now stack)) × ((maxEntries ≤ length (now out)) × (at ≤ 16385))) ⌝ }
-    ensures { λ r. ⌜ Built (entriesIn (tableOf (now (table .entry)) n) s) at r to (now (out .entry)) (now (out .exit)) (now (stack .entry)) (now (stack .exit)) ⌝ }
+    ensures { λ r. ⌜ Built (entriesIn (tableOf (coordinates (now (corners .entry))) n) s) at r to (now (out .entry)) (now (out .exit)) (now (stack .entry)) (now (stack .exit)) ⌝ }
 {
     if tables::MOST_ENTRIES < at {
         return 16385;
     }
     let f = frame_of(s);
-    let top = narrow(table, n, shape, offsets, stack, from, to, f);
-    if is_stopped(table, n, shape, offsets, stack, to, top, s, f) {
+    let top = narrow(corners, n, shape, offsets, stack, from, to, f);
+    if is_stopped(corners, n, shape, offsets, stack, to, top, s, f) {
         return put_leaf(stack, to, top, head_of(key, s.level), out, at);
     }
     let step = key_step(s.level);
@@ -359,7 +351,7 @@ fn build_square(
     let mut next = at;
     for k in 0..4u32 {
         next = build_square(
-            table,
+            corners,
             n,
             shape,
             offsets,
@@ -394,18 +386,19 @@ pub fn build(
     n: usize,
     shape: &mut [u16],
     offsets: &mut [u64],
+    corners: &mut [u32],
     stack: &mut [u16],
     out: &mut [u64],
 ) -> usize
     requires { ⌜ ((n ≤ maxTriangles) × (numbersPerTriangle * n ≤ length (now table))) × (all (λ t. proper t) (tableOf (now table) n) ≡ true) ⌝ }
-    requires { ⌜ ((28 * n ≤ length (now shape)) × (3 * n ≤ length (now offsets))) × ((18 * n ≤ length (now stack)) × (maxEntries ≤ length (now out))) ⌝ }
+    requires { ⌜ ((28 * n ≤ length (now shape)) × ((3 * n ≤ length (now offsets)) × (3 * n ≤ length (now corners)))) × ((18 * n ≤ length (now stack)) × (maxEntries ≤ length (now out))) ⌝ }
     ensures { λ r. ⌜ (length (entriesOf (tableOf (now (table .entry)) n)) ≤ maxEntries → (r ≡ length (entriesOf (tableOf (now (table .entry)) n))) × (now (out .exit) ≡ sets (now (out .entry)) 0 (map (λ e. packed e) (entriesOf (tableOf (now (table .entry)) n))))) ⌝ }
     ensures { λ r. ⌜ (maxEntries < length (entriesOf (tableOf (now (table .entry)) n)) → r ≡ 16385) ⌝ }
 {
-    shapes::prepare(table, n, shape, offsets);
+    shapes::prepare(table, n, shape, offsets, corners);
     put_numbers(stack, n);
     build_square(
-        table,
+        corners,
         n,
         shape,
         offsets,

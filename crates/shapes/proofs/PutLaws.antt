@@ -13,7 +13,7 @@ use Rattle.plane.specs.declared.Point.{Point}
 use Rattle.plane.specs.Triangle.{Triangle}
 use Rattle.chart_spec.specs.Table.{triangleAt, tableOf}
 use Rattle.chart_laws.proofs.TableLaws.{tableOf-length, tableOf-suc}
-use Rattle.shapes.specs.Shape.{sideShape, boxShape, shapeOf, sideOffset, offsetsOf}
+use Rattle.shapes.specs.Shape.{sideShape, boxShape, shapeOf, sideOffset, offsetsOf, packedPoint, cornersOf}
 
 -- a triangle by its corners
 abbrev pub triangle : Point → Point → Point → Triangle
@@ -39,6 +39,12 @@ pub put-offsets : (l : List ℕ) (k u v w : ℕ) (a b c : Point) → u ≡ sideO
     → set (set (set l k u) (k + 1) v) (k + 2) w ≡ sets l k (offsetsOf (triangle a b c))
 unfolding offsetsOf
 put-offsets l k u v w a b c e f g = cc (add-one k, add-two k)
+
+-- three corners
+pub put-corners : (l : List ℕ) (k u v w : ℕ) (a b c : Point) → u ≡ packedPoint a → v ≡ packedPoint b → w ≡ packedPoint c
+    → set (set (set l k u) (k + 1) v) (k + 2) w ≡ sets l k (cornersOf (triangle a b c))
+unfolding cornersOf
+put-corners l k u v w a b c e f g = cc (add-one k, add-two k)
 
 -- ---- a table's numbers, one triangle after another
 

@@ -17,7 +17,7 @@ use Rattle.plane.specs.Triangle.{Triangle}
 use Rattle.plane.specs.Box.{Box, Framed, apart, sideBox, triangleBox, allInner, allOuter, sideMeets, triangleMeets}
 use Rattle.plane.proofs.ExtremeLaws.{offset, OnGrid, allOuter-extreme, allInner-extreme}
 use Rattle.chart_spec.specs.Table.{Table, numbered, noTriangle}
-use Rattle.shapes.specs.Shape.{atMost, chosen, sideShape, boxShape, shapeOf, sideOffset, offsetsOf, Shaped, reachAt, baseAt, touchesAt, triangleMeetsAt, sideMeetsAt}
+use Rattle.shapes.specs.Shape.{atMost, chosen, sideShape, boxShape, shapeOf, sideOffset, offsetsOf, cornersOf, Shaped, reachAt, baseAt, touchesAt, triangleMeetsAt, sideMeetsAt}
 
 -- ---- one side
 
@@ -96,6 +96,10 @@ shape-length t = refl
 pub offsets-length : (t : Triangle) → length (offsetsOf t) ≡ 3
 unfolding offsetsOf
 offsets-length t = refl
+
+pub corners-length : (t : Triangle) → length (cornersOf t) ≡ 3
+unfolding cornersOf
+corners-length t = refl
 
 module _ (table : Table) (s o : List ℕ) (h : Shaped table s o) (i : ℕ) (l : i < length table) where
   number : (k m : ℕ) → k ≡ 28 * i + m → m < 28 → getD s k 0 ≡ getD (shapeOf (numbered table i)) m 0

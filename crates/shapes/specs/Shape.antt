@@ -3,7 +3,7 @@
 use mathlib.Core.Path.{_≡_}
 use mathlib.Core.Bool.{Bool, cond, _&&_}
 use mathlib.Core.List.{List, [], _∷_, _++_, flatMap}
-use Prim.Native.Nat.{ℕ, _+_, _*_, _-_, min, max}
+use Prim.Native.Nat.{ℕ, _+_, _*_, _-_, _/_, _%_, min, max}
 use lib.Dec.{leb, eqb}
 use lib.ListN.{length, getD, take}
 use Rattle.plane.specs.declared.Point.{Point}
@@ -49,6 +49,19 @@ sideOffset p q =
 -- the offsets of a triangle's sides
 unfoldable pub offsetsOf : Triangle → List ℕ
 offsetsOf t = sideOffset (t .a) (t .b) ∷ sideOffset (t .b) (t .c) ∷ sideOffset (t .c) (t .a) ∷ []
+
+-- a point as one number, y above the 16 bits of x
+abbrev pub packedPoint : Point → ℕ
+packedPoint p = p .x + 65536 * p .y
+
+-- the corners of a triangle as such numbers
+unfoldable pub cornersOf : Triangle → List ℕ
+cornersOf t = packedPoint (t .a) ∷ packedPoint (t .b) ∷ packedPoint (t .c) ∷ []
+
+-- the coordinates of points that are given as such numbers, two for each
+unfoldable pub coordinates : List ℕ → List ℕ
+coordinates [] = []
+coordinates (p ∷ ps) = p % 65536 ∷ p / 65536 ∷ coordinates ps
 
 -- the two lists begin with the numbers of the table's triangles
 pub record Shaped (table : Table) (shape offsets : List ℕ) : Type 0 where

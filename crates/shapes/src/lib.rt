@@ -1,5 +1,5 @@
 // What depends on a triangle alone, worked out once for a table: for each side the sizes and signs of D's coefficients and
-// its bounding box, and the triangle's bounding box. With them a box is tested by one corner for each side, and by no signed
+// its bounding box, the triangle's bounding box, and its corners as one number each. With them a box is tested by one corner for each side, and by no signed
 // number.
 //
 // For a side from p to q let X(c) be c.x where q.y <= p.y, and 65536 - c.x elsewhere; let Y(c) be c.y where p.x <= q.x, and
@@ -13,7 +13,7 @@ ghost use lib.Seq.{sets};
 ghost use mathlib.Core.List.{flatMap};
 ghost use Rattle.plane.specs.Point.{distance as Point·distance};
 ghost use Rattle.plane.specs.Box.{Framed};
-ghost use Rattle.shapes.specs.Shape.{atMost, chosen, sideShape, boxShape, shapeOf, sideOffset, offsetsOf, boxOf, reachAt, baseAt, touchesAt, triangleMeetsAt, sideMeetsAt};
+ghost use Rattle.shapes.specs.Shape.{atMost, chosen, sideShape, boxShape, shapeOf, sideOffset, offsetsOf, packedPoint, cornersOf, boxOf, reachAt, baseAt, touchesAt, triangleMeetsAt, sideMeetsAt};
 ghost use Rattle.chart_spec.specs.Table.{numbersPerTriangle, triangleAt, tableOf};
 
 // A box of the grid: left ≤ right ≤ 65536 and top ≤ bottom ≤ 65536.
@@ -110,28 +110,54 @@ fn put_offsets(offsets: &mut [u64], k: usize, a: Point, b: Point, c: Point)
     offsets[k + 2] = offset(c, a);
 }
 
+// A point as one number.
+fn packed_point(p: Point) -> u32
+    ensures { λ r. ⌜ r ≡ packedPoint p ⌝ }
+{
+    (p.x as u32) + 65536 * (p.y as u32)
+}
+
+// The three corners of a triangle, from k on.
+fn put_corners(corners: &mut [u32], k: usize, a: Point, b: Point, c: Point)
+    requires { ⌜ k + 3 ≤ length (now corners) ⌝ }
+    ensures { λ r. ⌜ now (corners .exit) ≡ sets (now (corners .entry)) k (cornersOf (record { a = a; b = b; c = c })) ⌝ }
+{
+    corners[k] = packed_point(a);
+    corners[k + 1] = packed_point(b);
+    corners[k + 2] = packed_point(c);
+}
+
 // Triangle i of the table, from its six numbers.
-fn put_triangle(table: &[u16], i: usize, shape: &mut [u16], offsets: &mut [u64])
-    requires { ⌜ (numbersPerTriangle * (i + 1) ≤ length (now table)) × ((28 * i + 28 ≤ length (now shape)) × (3 * i + 3 ≤ length (now offsets))) ⌝ }
+fn put_triangle(
+    table: &[u16],
+    i: usize,
+    shape: &mut [u16],
+    offsets: &mut [u64],
+    corners: &mut [u32],
+)
+    requires { ⌜ (numbersPerTriangle * (i + 1) ≤ length (now table)) × ((28 * i + 28 ≤ length (now shape)) × ((3 * i + 3 ≤ length (now offsets)) × (3 * i + 3 ≤ length (now corners)))) ⌝ }
     ensures { λ r. ⌜ now (shape .exit) ≡ sets (now (shape .entry)) (28 * i) (shapeOf (triangleAt (now (table .entry)) i)) ⌝ }
     ensures { λ r. ⌜ now (offsets .exit) ≡ sets (now (offsets .entry)) (3 * i) (offsetsOf (triangleAt (now (table .entry)) i)) ⌝ }
+    ensures { λ r. ⌜ now (corners .exit) ≡ sets (now (corners .entry)) (3 * i) (cornersOf (triangleAt (now (table .entry)) i)) ⌝ }
 {
     let a = tables::point_at(table, tables::TRIANGLE_NUMBERS * i);
     let b = tables::point_at(table, tables::TRIANGLE_NUMBERS * i + 2);
     let c = tables::point_at(table, tables::TRIANGLE_NUMBERS * i + 4);
     put_shape(shape, 28 * i, a, b, c);
     put_offsets(offsets, 3 * i, a, b, c);
+    put_corners(corners, 3 * i, a, b, c);
 }
 
 // The numbers of the first n triangles of a table.
-pub fn prepare(table: &[u16], n: usize, shape: &mut [u16], offsets: &mut [u64])
-    requires { ⌜ (numbersPerTriangle * n ≤ length (now table)) × ((28 * n ≤ length (now shape)) × (3 * n ≤ length (now offsets))) ⌝ }
+pub fn prepare(table: &[u16], n: usize, shape: &mut [u16], offsets: &mut [u64], corners: &mut [u32])
+    requires { ⌜ (numbersPerTriangle * n ≤ length (now table)) × ((28 * n ≤ length (now shape)) × ((3 * n ≤ length (now offsets)) × (3 * n ≤ length (now corners)))) ⌝ }
     ensures { λ r. ⌜ now (shape .exit) ≡ sets (now (shape .entry)) 0 (flatMap (λ t. shapeOf t) (tableOf (now (table .entry)) n)) ⌝ }
     ensures { λ r. ⌜ now (offsets .exit) ≡ sets (now (offsets .entry)) 0 (flatMap (λ t. offsetsOf t) (tableOf (now (table .entry)) n)) ⌝ }
+    ensures { λ r. ⌜ now (corners .exit) ≡ sets (now (corners .entry)) 0 (flatMap (λ t. cornersOf t) (tableOf (now (table .entry)) n)) ⌝ }
 {
     let mut i = 0;
     while i < n {
-        put_triangle(table, i, shape, offsets);
+        put_triangle(table, i, shape, offsets, corners);
         i += 1;
     }
 }

@@ -20,15 +20,18 @@ slice-aggregate-build-3 c = search needs
 slice-aggregate-build-4 : tie.Need-slice-aggregate-build-4
 slice-aggregate-build-4 c = search needs
 
+slice-aggregate-build-5 : tie.Need-slice-aggregate-build-5
+slice-aggregate-build-5 c = search needs
+
 build-requires : tie.Need-build-requires
-build-requires c κs = (c .before .before .before .before .before .before .before .before .pre .0, ((omega arith, omega arith), (omega arith, omega arith)))
+build-requires c κs = (c .before .before .before .before .before .before .before .before .before .pre .0, ((omega arith, (omega arith, omega arith)), (omega arith, omega arith)))
 
 returns : tie.Need-returns
 returns c =
-    let a = c .before .before .before .before .before .before .before .before .before .before .before .before .before .before .args in
-    let f = c .before .before .before .before .before .build in
+    let a = c .before .before .before .before .before .before .before .before .before .before .before .before .before .before .before .before .args in
+    let f = c .before .before .before .before .before .before .build in
     let es = entriesOf (tableOf (a .table .now) (a .n)) in
-    let p : Packed es (f .result) (replicate 16384 0) (f .last .1 .1 .1 .1 .1 .0) = record { room = omega arith; fits = f .ensures .0; over = f .ensures .1 } in
+    let p : Packed es (f .result) (replicate 16384 0) (f .last .1 .1 .1 .1 .1 .1 .0) = record { room = omega arith; fits = f .ensures .0; over = f .ensures .1 } in
     listed-over p (a .keys .now) (a .levels .now) (a .items .now) (omega (arith, c .if1 .taken))
 
 slice-aggregate-put-keys : tie.Need-slice-aggregate-put-keys
@@ -60,11 +63,11 @@ same-length-3 c = search needs
 
 returns-2 : tie.Need-returns-2
 returns-2 c =
-    let a = c .before .before .before .before .before .before .before .before .before .before .before .before .before .before .before .before .before .before .before .before .before .before .before .before .before .before .before .before .before .args in
-    let f = c .before .before .before .before .before .before .before .before .before .before .before .before .before .before .before .before .before .before .before .before .build in
+    let a = c .before .before .before .before .before .before .before .before .before .before .before .before .before .before .before .before .before .before .before .before .before .before .before .before .before .before .before .before .before .before .before .args in
+    let f = c .before .before .before .before .before .before .before .before .before .before .before .before .before .before .before .before .before .before .before .before .before .build in
     let es = entriesOf (tableOf (a .table .now) (a .n)) in
-    let p : Packed es (f .result) (replicate 16384 0) (f .last .1 .1 .1 .1 .1 .0) = record { room = omega arith; fits = f .ensures .0; over = f .ensures .1 } in
-    let few = entries-packable (a .table .now) (a .n) (c .before .before .before .before .before .before .before .before .before .before .before .before .before .before .before .before .before .before .before .before .before .before .before .before .before .before .before .before .before .pre .0 .0 .0) in
+    let p : Packed es (f .result) (replicate 16384 0) (f .last .1 .1 .1 .1 .1 .1 .0) = record { room = omega arith; fits = f .ensures .0; over = f .ensures .1 } in
+    let few = entries-packable (a .table .now) (a .n) (c .before .before .before .before .before .before .before .before .before .before .before .before .before .before .before .before .before .before .before .before .before .before .before .before .before .before .before .before .before .before .before .pre .0 .0 .0) in
     listed-fits p few (omega (arith, c .before .before .before .before .before .before .before .before .before .before .before .before .before .before .before .if1 .left)) (c .before .before .before .before .before .before .before .before .before .before .before .before .put-keys .ensures) (c .before .before .before .before .before .before .before .put-levels .ensures) (c .before .before .put-items .ensures)
 
 pub build-into-spec : {M : Type 1} → statement M
@@ -75,6 +78,7 @@ build-into-spec =
     slice-aggregate-build-2
     slice-aggregate-build-3
     slice-aggregate-build-4
+    slice-aggregate-build-5
     build-requires
     returns
     slice-aggregate-put-keys

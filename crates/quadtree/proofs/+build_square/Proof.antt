@@ -10,6 +10,7 @@ use Rattle.orthtree.specs.Entries.{span}
 use Rattle.squares.specs.Square.{quarters, squareKey}
 use Rattle.chart_spec.specs.Table.{tableOf}
 use Rattle.chart_spec.specs.Cells.{entriesIn}
+use Rattle.shapes.specs.Shape.{coordinates}
 use Rattle.quadtree.specs.Build.{Built}
 use Rattle.quadtree.proofs.WalkLaws.{built-none, built-join, ready-kept, part-kept, take-less}
 use Rattle.quadtree.proofs.SquareWalk.{Narrowed, after-narrow, narrow-room, level-below, key-small, built-leaf, quarter-tree, quarter-level, quarter-first, quarter-candidates, quarters-more, quarters-all}
@@ -61,12 +62,12 @@ calls t = (
 )
 
 abbrev build-square-Inv-loop : build-square-lts.InvT-loop
-build-square-Inv-loop table n shape offsets stack₀ from to s key out₀ at top step first₀ next₀ k₀ stack out first next k =
+build-square-Inv-loop corners n shape offsets stack₀ from to s key out₀ at top step first₀ next₀ k₀ stack out first next k =
     (k ≤ 4) × ((first ≡ squareKey s + k * span 4 16 (suc (s .level)))
-    × Built (flatMap (λ x. entriesIn (tableOf table n) x) (take k (quarters s))) at next top out₀ out stack₀ stack)
+    × Built (flatMap (λ x. entriesIn (tableOf (coordinates corners) n) x) (take k (quarters s))) at next top out₀ out stack₀ stack)
 
 abbrev build-square-μ-loop : build-square-lts.MeasureT-loop
-build-square-μ-loop table n shape offsets stack₀ from to s key out₀ at top step first₀ next₀ k₀ stack out first next k =
+build-square-μ-loop corners n shape offsets stack₀ from to s key out₀ at top step first₀ next₀ k₀ stack out first next k =
     4 - k
 
 build-square-returns : (t : ℕ) → build-square-lts.Need-returns (calls t) (build-square-at t) build-square.Post build-square-Inv-loop build-square-μ-loop
@@ -94,7 +95,7 @@ build-square-narrow-requires t c κs =
     let pre = c .before .before .before .before .before .before .before .before .pre .1 in
     let h = pre .0 .1 .0 in
     let tr = pre .0 .1 .1 .1 in
-    (pre .0 .0, (narrow-room (a .n) (a .table .now) (a .shape .now) (a .offsets .now) h (a .s) tr (a .from) (a .to) (a .stack .now) (pre .0 .1 .1 .0) (pre .1 .1 .0), c .before .frame-of .ensures .1))
+    (pre .0 .0, (narrow-room (a .n) (coordinates (a .corners .now)) (a .shape .now) (a .offsets .now) h (a .s) tr (a .from) (a .to) (a .stack .now) (pre .0 .1 .1 .0) (pre .1 .1 .0), c .before .frame-of .ensures .1))
 
 build-square-is-stopped-requires : (t : ℕ) → build-square-lts.Need-is-stopped-requires (calls t) (build-square-at t) build-square.Post build-square-Inv-loop build-square-μ-loop
 build-square-is-stopped-requires t c κs =
@@ -102,7 +103,7 @@ build-square-is-stopped-requires t c κs =
     let pre = c .before .before .before .before .before .before .before .before .before .before .before .before .pre .1 in
     let h = pre .0 .1 .0 in
     let tr = pre .0 .1 .1 .1 in
-    let w = after-narrow (a .n) (a .table .now) (a .shape .now) (a .offsets .now) h (a .s) tr (a .from) (a .to) _ (a .stack .now) _ _ (pre .0 .0) (pre .0 .1 .1 .0) (c .before .before .before .before .before .frame-of .ensures .0) (pre .1 .1 .0) (c .before .before .before .narrow .ensures .0) (c .before .before .before .narrow .ensures .1) in
+    let w = after-narrow (a .n) (coordinates (a .corners .now)) (a .shape .now) (a .offsets .now) h (a .s) tr (a .from) (a .to) _ (a .stack .now) _ _ (pre .0 .0) (pre .0 .1 .1 .0) (c .before .before .before .before .before .frame-of .ensures .0) (pre .1 .1 .0) (c .before .before .before .narrow .ensures .0) (c .before .before .before .narrow .ensures .1) in
     ((w .ready, (h, (tr, (c .before .before .before .before .before .frame-of .ensures .0, c .before .before .before .before .before .frame-of .ensures .1)))), w .triangles)
 
 build-square-head-of-requires : (t : ℕ) → build-square-lts.Need-head-of-requires (calls t) (build-square-at t) build-square.Post build-square-Inv-loop build-square-μ-loop
@@ -111,7 +112,7 @@ build-square-head-of-requires t c κs =
     let pre = c .before .before .before .before .before .before .before .before .before .before .before .before .before .before .before .pre .1 in
     let h = pre .0 .1 .0 in
     let tr = pre .0 .1 .1 .1 in
-    (rw (pre .1 .0) (key-small (a .n) (a .table .now) (a .shape .now) (a .offsets .now) h (a .s) tr), tr .deep)
+    (rw (pre .1 .0) (key-small (a .n) (coordinates (a .corners .now)) (a .shape .now) (a .offsets .now) h (a .s) tr), tr .deep)
 
 build-square-put-leaf-requires : (t : ℕ) → build-square-lts.Need-put-leaf-requires (calls t) (build-square-at t) build-square.Post build-square-Inv-loop build-square-μ-loop
 build-square-put-leaf-requires t c κs =
@@ -119,7 +120,7 @@ build-square-put-leaf-requires t c κs =
     let pre = c .before .before .before .before .before .before .before .before .before .before .before .before .before .before .before .before .before .pre .1 in
     let h = pre .0 .1 .0 in
     let tr = pre .0 .1 .1 .1 in
-    let w = after-narrow (a .n) (a .table .now) (a .shape .now) (a .offsets .now) h (a .s) tr (a .from) (a .to) _ (a .stack .now) _ _ (pre .0 .0) (pre .0 .1 .1 .0) (c .before .before .before .before .before .before .before .before .before .before .frame-of .ensures .0) (pre .1 .1 .0) (c .before .before .before .before .before .before .before .before .narrow .ensures .0) (c .before .before .before .before .before .before .before .before .narrow .ensures .1) in
+    let w = after-narrow (a .n) (coordinates (a .corners .now)) (a .shape .now) (a .offsets .now) h (a .s) tr (a .from) (a .to) _ (a .stack .now) _ _ (pre .0 .0) (pre .0 .1 .1 .0) (c .before .before .before .before .before .before .before .before .before .before .frame-of .ensures .0) (pre .1 .1 .0) (c .before .before .before .before .before .before .before .before .narrow .ensures .0) (c .before .before .before .before .before .before .before .before .narrow .ensures .1) in
     ((w .ready .order, w .ready .within), (pre .1 .1 .1 .0, (c .before .before .before .before .before .before .before .before .before .before .before .if1 .left, c .before .head-of .ensures .1)))
 
 build-square-same-length : (t : ℕ) → build-square-lts.Need-same-length (calls t) (build-square-at t) build-square.Post build-square-Inv-loop build-square-μ-loop
@@ -136,9 +137,9 @@ build-square-returns-2 t c =
     let pre = c .before .before .before .before .before .before .before .before .before .before .before .before .before .before .before .before .before .before .before .before .pre .1 in
     let h = pre .0 .1 .0 in
     let tr = pre .0 .1 .1 .1 in
-    let w = after-narrow (a .n) (a .table .now) (a .shape .now) (a .offsets .now) h (a .s) tr (a .from) (a .to) _ (a .stack .now) _ _ (pre .0 .0) (pre .0 .1 .1 .0) (c .before .before .before .before .before .before .before .before .before .before .before .before .before .frame-of .ensures .0) (pre .1 .1 .0) (c .before .before .before .before .before .before .before .before .before .before .before .narrow .ensures .0) (c .before .before .before .before .before .before .before .before .before .before .before .narrow .ensures .1) in
+    let w = after-narrow (a .n) (coordinates (a .corners .now)) (a .shape .now) (a .offsets .now) h (a .s) tr (a .from) (a .to) _ (a .stack .now) _ _ (pre .0 .0) (pre .0 .1 .1 .0) (c .before .before .before .before .before .before .before .before .before .before .before .before .before .frame-of .ensures .0) (pre .1 .1 .0) (c .before .before .before .before .before .before .before .before .before .before .before .narrow .ensures .0) (c .before .before .before .before .before .before .before .before .before .before .before .narrow .ensures .1) in
     let st = sym (c .before .before .before .before .before .before .before .is-stopped .ensures) ∙ c .before .before .before .before .before .before .if2 .taken in
-    built-leaf (a .n) (a .table .now) (a .shape .now) (a .offsets .now) h (a .s) tr (a .at) _ (a .to) (a .out .now) _ (a .stack .now) _ _ _ st (w .triangles)
+    built-leaf (a .n) (coordinates (a .corners .now)) (a .shape .now) (a .offsets .now) h (a .s) tr (a .at) _ (a .to) (a .out .now) _ (a .stack .now) _ _ _ st (w .triangles)
     (c .before .before .before .before .head-of .ensures .0 ∙ ap (λ x. x * 4294967296 + a .s .level * 65536) (pre .1 .0))
     (c .before .before .put-leaf .ensures .0) (c .before .before .put-leaf .ensures .1) (w .kept) (search needs) (w .same)
 
@@ -149,7 +150,7 @@ build-square-key-step-requires t c κs =
     let h = pre .0 .1 .0 in
     let tr = pre .0 .1 .1 .1 in
     let st = sym (c .before .is-stopped .ensures) ∙ c .if2 .left in
-    let lev = level-below (a .n) (a .table .now) (a .shape .now) (a .offsets .now) h (a .s) tr st in
+    let lev = level-below (a .n) (coordinates (a .corners .now)) (a .shape .now) (a .offsets .now) h (a .s) tr st in
     lev
 
 build-square-loop-holds : (t : ℕ) → build-square-lts.Need-loop-holds (calls t) (build-square-at t) build-square.Post build-square-Inv-loop build-square-μ-loop
@@ -168,7 +169,7 @@ build-square-quarter-requires t c κs =
     let h = pre .0 .1 .0 in
     let tr = pre .0 .1 .1 .1 in
     let st = sym (c .before .before .before .before .before .is-stopped .ensures) ∙ c .before .before .before .before .if2 .left in
-    let lev = level-below (a .n) (a .table .now) (a .shape .now) (a .offsets .now) h (a .s) tr st in
+    let lev = level-below (a .n) (coordinates (a .corners .now)) (a .shape .now) (a .offsets .now) h (a .s) tr st in
     (c .before .loop-test .taken, (lev, (omega (arith, tr .right), omega (arith, tr .bottom))))
 
 build-square-build-square-requires : (t : ℕ) → build-square-lts.Need-build-square-requires (calls t) (build-square-at t) build-square.Post build-square-Inv-loop build-square-μ-loop
@@ -177,14 +178,14 @@ build-square-build-square-requires t c κs =
     let pre = c .before .before .before .before .before .before .before .before .before .before .before .before .before .before .before .before .before .before .before .before .pre .1 in
     let h = pre .0 .1 .0 in
     let tr = pre .0 .1 .1 .1 in
-    let w = after-narrow (a .n) (a .table .now) (a .shape .now) (a .offsets .now) h (a .s) tr (a .from) (a .to) _ (a .stack .now) _ _ (pre .0 .0) (pre .0 .1 .1 .0) (c .before .before .before .before .before .before .before .before .before .before .before .before .before .frame-of .ensures .0) (pre .1 .1 .0) (c .before .before .before .before .before .before .before .before .before .before .before .narrow .ensures .0) (c .before .before .before .before .before .before .before .before .before .before .before .narrow .ensures .1) in
+    let w = after-narrow (a .n) (coordinates (a .corners .now)) (a .shape .now) (a .offsets .now) h (a .s) tr (a .from) (a .to) _ (a .stack .now) _ _ (pre .0 .0) (pre .0 .1 .1 .0) (c .before .before .before .before .before .before .before .before .before .before .before .before .before .frame-of .ensures .0) (pre .1 .1 .0) (c .before .before .before .before .before .before .before .before .before .before .before .narrow .ensures .0) (c .before .before .before .before .before .before .before .before .before .before .before .narrow .ensures .1) in
     let st = sym (c .before .before .before .before .before .before .before .is-stopped .ensures) ∙ c .before .before .before .before .before .before .if2 .left in
-    let lev = level-below (a .n) (a .table .now) (a .shape .now) (a .offsets .now) h (a .s) tr st in
+    let lev = level-below (a .n) (coordinates (a .corners .now)) (a .shape .now) (a .offsets .now) h (a .s) tr st in
     let k = c .before .before .before .before .loop .k in
     let lt = c .before .before .before .loop-test .taken in
     let inv = c .before .before .before .before .loop .inv .1 .1 in
     let q = c .before .quarter .ensures in
-    let ql = ap (λ x. x .level) q ∙ quarter-level (a .n) (a .table .now) (a .shape .now) (a .offsets .now) h (a .s) tr lev k lt in
+    let ql = ap (λ x. x .level) q ∙ quarter-level (a .n) (coordinates (a .corners .now)) (a .shape .now) (a .offsets .now) h (a .s) tr lev k lt in
     let m : 17 - c .before .quarter .result .level ≡ 16 - a .s .level = omega (arith, ql) in (
       omega (arith, ql, lev, c .before .before .before .before .before .before .before .before .before .before .before .before .before .before .before .before .before .before .before .before .pre .0),
       (
@@ -193,13 +194,13 @@ build-square-build-square-requires t c κs =
           (
             h,
             (
-              rw q (quarter-candidates (a .n) (a .table .now) (a .shape .now) (a .offsets .now) h (a .s) tr lev (a .to) _ _ k lt (w .few) (part-kept (a .to) _ _ _ (w .ready .order) (inv .kept) ∙ w .triangles)),
-              rw q (quarter-tree (a .n) (a .table .now) (a .shape .now) (a .offsets .now) h (a .s) tr lev k lt),
+              rw q (quarter-candidates (a .n) (coordinates (a .corners .now)) (a .shape .now) (a .offsets .now) h (a .s) tr lev (a .to) _ _ k lt (w .few) (part-kept (a .to) _ _ _ (w .ready .order) (inv .kept) ∙ w .triangles)),
+              rw q (quarter-tree (a .n) (coordinates (a .corners .now)) (a .shape .now) (a .offsets .now) h (a .s) tr lev k lt),
             ),
           ),
         ),
         (
-          c .before .before .before .before .loop .inv .1 .0 ∙ sym (ap squareKey q ∙ quarter-first (a .n) (a .table .now) (a .shape .now) (a .offsets .now) h (a .s) tr lev k lt),
+          c .before .before .before .before .loop .inv .1 .0 ∙ sym (ap squareKey q ∙ quarter-first (a .n) (coordinates (a .corners .now)) (a .shape .now) (a .offsets .now) h (a .s) tr lev k lt),
           (
             rw (m, inv .stacks) (w .room),
             (
@@ -221,7 +222,7 @@ build-square-add-first t c =
     let lt = c .before .before .before .before .before .before .before .before .loop-test .taken in
     let st = c .before .before .before .before .before .before .before .before .before .before .key-step .ensures in
     let m : k * span 4 16 (suc (a .s .level)) ≤ 4 * 1073741824 = mul-le-mul {n₂ = 4} {m₂ = 1073741824} (omega (arith, lt)) (rw (st .0) at (st .1)) in
-    omega (arith, m, st .1, key-small (a .n) (a .table .now) (a .shape .now) (a .offsets .now) h (a .s) tr, c .before .before .before .before .before .before .before .before .before .loop .inv .1 .0)
+    omega (arith, m, st .1, key-small (a .n) (coordinates (a .corners .now)) (a .shape .now) (a .offsets .now) h (a .s) tr, c .before .before .before .before .before .before .before .before .before .loop .inv .1 .0)
 
 build-square-add-k : (t : ℕ) → build-square-lts.Need-add-k (calls t) (build-square-at t) build-square.Post build-square-Inv-loop build-square-μ-loop
 build-square-add-k t c =
@@ -237,9 +238,9 @@ build-square-loop-again t c =
     let pre = c .before .before .before .before .before .before .before .before .before .before .before .before .before .before .before .before .before .before .before .before .before .before .before .before .before .pre .1 in
     let h = pre .0 .1 .0 in
     let tr = pre .0 .1 .1 .1 in
-    let w = after-narrow (a .n) (a .table .now) (a .shape .now) (a .offsets .now) h (a .s) tr (a .from) (a .to) _ (a .stack .now) _ _ (pre .0 .0) (pre .0 .1 .1 .0) (c .before .before .before .before .before .before .before .before .before .before .before .before .before .before .before .before .before .before .frame-of .ensures .0) (pre .1 .1 .0) (c .before .before .before .before .before .before .before .before .before .before .before .before .before .before .before .before .narrow .ensures .0) (c .before .before .before .before .before .before .before .before .before .before .before .before .before .before .before .before .narrow .ensures .1) in
+    let w = after-narrow (a .n) (coordinates (a .corners .now)) (a .shape .now) (a .offsets .now) h (a .s) tr (a .from) (a .to) _ (a .stack .now) _ _ (pre .0 .0) (pre .0 .1 .1 .0) (c .before .before .before .before .before .before .before .before .before .before .before .before .before .before .before .before .before .before .frame-of .ensures .0) (pre .1 .1 .0) (c .before .before .before .before .before .before .before .before .before .before .before .before .before .before .before .before .narrow .ensures .0) (c .before .before .before .before .before .before .before .before .before .before .before .before .before .before .before .before .narrow .ensures .1) in
     let st = sym (c .before .before .before .before .before .before .before .before .before .before .before .before .is-stopped .ensures) ∙ c .before .before .before .before .before .before .before .before .before .before .before .if2 .left in
-    let lev = level-below (a .n) (a .table .now) (a .shape .now) (a .offsets .now) h (a .s) tr st in
+    let lev = level-below (a .n) (coordinates (a .corners .now)) (a .shape .now) (a .offsets .now) h (a .s) tr st in
     let k = c .before .before .before .before .before .before .before .before .before .loop .k in
     let lt = c .before .before .before .before .before .before .before .before .loop-test .taken in
     let st = c .before .before .before .before .before .before .before .before .before .before .key-step .ensures in
@@ -248,7 +249,7 @@ build-square-loop-again t c =
       omega (arith, lt),
       (
         omega (arith, inv .1 .0, st .0, suc-mul k (span 4 16 (suc (a .s .level))), add-one k),
-        rw (quarters-more (a .n) (a .table .now) (a .shape .now) (a .offsets .now) h (a .s) tr lev k lt) (built-join (inv .1 .1) (rw q at (c .before .before .before .before .build-square .ensures))),
+        rw (quarters-more (a .n) (coordinates (a .corners .now)) (a .shape .now) (a .offsets .now) h (a .s) tr lev k lt) (built-join (inv .1 .1) (rw q at (c .before .before .before .before .build-square .ensures))),
       ),
     )
 
@@ -266,12 +267,12 @@ build-square-returns-3 t c =
     let pre = c .before .before .before .before .before .before .before .before .before .before .before .before .before .before .before .before .before .pre .1 in
     let h = pre .0 .1 .0 in
     let tr = pre .0 .1 .1 .1 in
-    let w = after-narrow (a .n) (a .table .now) (a .shape .now) (a .offsets .now) h (a .s) tr (a .from) (a .to) _ (a .stack .now) _ _ (pre .0 .0) (pre .0 .1 .1 .0) (c .before .before .before .before .before .before .before .before .before .before .frame-of .ensures .0) (pre .1 .1 .0) (c .before .before .before .before .before .before .before .before .narrow .ensures .0) (c .before .before .before .before .before .before .before .before .narrow .ensures .1) in
+    let w = after-narrow (a .n) (coordinates (a .corners .now)) (a .shape .now) (a .offsets .now) h (a .s) tr (a .from) (a .to) _ (a .stack .now) _ _ (pre .0 .0) (pre .0 .1 .1 .0) (c .before .before .before .before .before .before .before .before .before .before .frame-of .ensures .0) (pre .1 .1 .0) (c .before .before .before .before .before .before .before .before .narrow .ensures .0) (c .before .before .before .before .before .before .before .before .narrow .ensures .1) in
     let st = sym (c .before .before .before .before .is-stopped .ensures) ∙ c .before .before .before .if2 .left in
-    let lev = level-below (a .n) (a .table .now) (a .shape .now) (a .offsets .now) h (a .s) tr st in
+    let lev = level-below (a .n) (coordinates (a .corners .now)) (a .shape .now) (a .offsets .now) h (a .s) tr st in
     let inv = c .before .loop .inv in
     let e : c .before .loop .k ≡ 4 = omega (arith, inv .0, c .loop-test .left) in
-    let f = rw (e, quarters-all (a .n) (a .table .now) (a .shape .now) (a .offsets .now) h (a .s) tr lev st) at (inv .1 .1) in
+    let f = rw (e, quarters-all (a .n) (coordinates (a .corners .now)) (a .shape .now) (a .offsets .now) h (a .s) tr lev st) at (inv .1 .1) in
     record {
       fits = f .fits;
       over = f .over;

@@ -6,7 +6,8 @@ use Rattle.squares.specs.Square.{squareKey}
 use Rattle.chart_spec.specs.Table.{tableOf}
 use Rattle.chart_spec.specs.Cells.{entriesOf}
 use Rattle.chart_laws.proofs.EntriesOfTable.{entriesIn-whole}
-use Rattle.quadtree.proofs.WholeWalk.{whole-start, whole-key, whole-room}
+use Rattle.quadtree.proofs.WholeWalk.{whole-key, whole-room}
+use Rattle.quadtree.proofs.KeptLaws.{stored-kept, kept-start}
 use borrow.Author.Needs.{needs}
 use Rattle.quadtree.proofs.build.Statement.{statement}
 use Rattle.quadtree.proofs.build.Tie as tie
@@ -22,15 +23,17 @@ whole-requires c κs = search needs
 
 build-square-requires : tie.Need-build-square-requires
 build-square-requires c κs =
-    let a = c .before .before .before .before .before .before .before .before .before .before .before .before .before .before .before .before .before .before .before .before .before .args in
-    let p = c .before .before .before .before .before .before .before .before .before .before .before .before .before .before .before .before .before .before .before .before .before .pre in
-    let w = c .before .whole .ensures in (
-      whole-start (a .n) (a .table .now) (a .shape .now) _ (a .offsets .now) _ (a .stack .now) _ _
-          (c .before .before .before .before .before .before .before .before .before .before .before .before .before .prepare .ensures .0) (c .before .before .before .before .before .before .before .before .before .before .before .before .before .prepare .ensures .1) (c .before .before .before .before .before .before .before .put-numbers .ensures) w
-          (p .0 .0 .1) (p .1 .0 .0) (p .1 .0 .1) (p .1 .1 .0) (λ k. omega (arith, c .before .before .before .before .before .before .before .before .before .before .before .before .before .before .before .before .before .before .before .before .shared-slice-known .given k)) (p .0 .1),
+    let a = c .before .before .before .before .before .before .before .before .before .before .before .before .before .before .before .before .before .before .before .before .before .before .before .before .before .before .args in
+    let p = c .before .before .before .before .before .before .before .before .before .before .before .before .before .before .before .before .before .before .before .before .before .before .before .before .before .before .pre in
+    let w = c .before .whole .ensures in
+    let r = c .before .before .before .before .before .before .before .before .before .before .before .before .before .before .before .before .prepare .ensures in
+    let u = c .before .before .before .before .before .before .before .before .put-numbers .ensures in (
+      kept-start (a .n) (a .table .now) (a .corners .now) _ (r .1 .1) (p .1 .0 .1 .1) (λ k. omega (arith, c .before .before .before .before .before .before .before .before .before .before .before .before .before .before .before .before .before .before .before .before .before .before .before .before .before .shared-slice-known .given k))
+          (a .shape .now) _ (a .offsets .now) _ (a .stack .now) _ _ (r .0) (r .1 .0) u w
+          (p .1 .0 .0) (p .1 .0 .1 .0) (p .1 .1 .0) (λ k. omega (arith, c .before .before .before .before .before .before .before .before .before .before .slice-known8 .given k)) (p .0 .1),
       (
         whole-key ∙ sym (ap squareKey w),
-        (whole-room (a .n) (a .table .now) (a .stack .now) _ _ (c .before .before .before .before .before .before .before .put-numbers .ensures) w (p .1 .1 .0), (p .1 .1 .1, omega arith)),
+        (whole-room (a .n) (a .table .now) (a .stack .now) _ _ u w (p .1 .1 .0), (p .1 .1 .1, omega arith)),
       ),
     )
 
@@ -46,10 +49,18 @@ same-length-3 c = search needs
 same-length-4 : tie.Need-same-length-4
 same-length-4 c = search needs
 
+same-length-5 : tie.Need-same-length-5
+same-length-5 c = search needs
+
 returns : tie.Need-returns
 returns c =
-    let f = rw (c .before .before .before .before .before .before .whole .ensures, entriesIn-whole) at (c .before .before .before .before .build-square .ensures) in
-    let z = zero-add (length (entriesOf (tableOf (c .before .before .before .before .before .before .before .before .before .before .before .before .before .before .before .before .before .before .before .before .before .before .before .before .before .before .args .table .now) (c .before .before .before .before .before .before .before .before .before .before .before .before .before .before .before .before .before .before .before .before .before .before .before .before .before .before .args .n)))) in
+    let a = c .before .before .before .before .before .before .before .before .before .before .before .before .before .before .before .before .before .before .before .before .before .before .before .before .before .before .before .before .before .before .before .args in
+    let k =
+    stored-kept (a .n) (a .table .now) (a .corners .now) _ (c .before .before .before .before .before .before .before .before .before .before .before .before .before .before .before .before .before .before .before .before .before .prepare .ensures .1 .1) (c .before .before .before .before .before .before .before .before .before .before .before .before .before .before .before .before .before .before .before .before .before .before .before .before .before .before .before .before .before .before .before .pre .1 .0 .1 .1)
+    (λ k. omega (arith, c .before .before .before .before .before .before .before .before .before .before .before .before .before .before .before .before .before .before .before .before .before .before .before .before .before .before .before .before .before .before .shared-slice-known .given k))
+    in
+    let f = rw (c .before .before .before .before .before .before .whole .ensures, entriesIn-whole, k) at (c .before .before .before .before .build-square .ensures) in
+    let z = zero-add (length (entriesOf (tableOf (a .table .now) (a .n)))) in
     (rw z at (f .fits), rw z at (f .over))
 
 pub build-spec : {M : Type 1} → statement M
@@ -64,4 +75,5 @@ build-spec =
     same-length-2
     same-length-3
     same-length-4
+    same-length-5
     returns)

@@ -1,9 +1,12 @@
 use mathlib.Core.Path.{_≡_, sym, _∙_, ap}
+use Prim.Native.Nat.{_+_, _*_}
 use native.Mathlib.Omega.{arith}
+use lib.ListN.{getD}
 use Rattle.chart_spec.specs.Cells.{commonEnd}
-use Rattle.shapes.specs.Shape.{boxOf}
+use Rattle.shapes.specs.Shape.{coordinates, boxOf}
 use Rattle.quadtree.specs.Build.{maskOf, sidesMet}
 use Rattle.quadtree.proofs.EndLaws.{tested-read, common-read}
+use Rattle.quadtree.proofs.KeptLaws.{corners-fit, point-kept}
 use borrow.Author.Needs.{needs}
 use Rattle.quadtree.proofs.common_end.Statement.{statement}
 use Rattle.quadtree.proofs.common_end.Tie as tie
@@ -20,41 +23,56 @@ shared-slice-read-index c = search needs
 index-requires : tie.Need-index-requires
 index-requires c κs = search needs
 
-mul-packed-at : tie.Need-mul-packed-at
-mul-packed-at c = search needs
+mul-a : tie.Need-mul-a
+mul-a c = search needs
 
-packed-at-requires : tie.Need-packed-at-requires
-packed-at-requires c κs =
-    let g = c .before .before .before .before .before .before .before .before .pre .0 in
-    let h = g .held (c .before .before .before .first-met .result .at) (c .before .before .before .first-met .ensures .0 .low) (c .before .before .if1 .taken) in
-    let w = c .index .ensures .0 in
-    omega (arith, g .tables)
+mul-a-2 : tie.Need-mul-a-2
+mul-a-2 c = search needs
 
-mul-packed-at-2 : tie.Need-mul-packed-at-2
-mul-packed-at-2 c = search needs
-
-add-packed-at : tie.Need-add-packed-at
-add-packed-at c = search needs
-
-packed-at-requires-2 : tie.Need-packed-at-requires-2
-packed-at-requires-2 c κs =
+shared-slice-read-a : tie.Need-shared-slice-read-a
+shared-slice-read-a c =
+    let a = c .before .before .before .before .before .before .before .before .before .args in
     let g = c .before .before .before .before .before .before .before .before .before .pre .0 in
     let h = g .held (c .before .before .before .before .first-met .result .at) (c .before .before .before .before .first-met .ensures .0 .low) (c .before .before .before .if1 .taken) in
     let w = c .before .index .ensures .0 in
-    omega (arith, g .tables)
+    let r = corners-fit (a .n) (a .corners .now) (g .tables) _ h in
+    omega arith
 
-mul-packed-at-3 : tie.Need-mul-packed-at-3
-mul-packed-at-3 c = search needs
+mul-b : tie.Need-mul-b
+mul-b c = search needs
 
-add-packed-at-2 : tie.Need-add-packed-at-2
-add-packed-at-2 c = search needs
+add-b : tie.Need-add-b
+add-b c = search needs
 
-packed-at-requires-3 : tie.Need-packed-at-requires-3
-packed-at-requires-3 c κs =
+mul-b-2 : tie.Need-mul-b-2
+mul-b-2 c = search needs
+
+shared-slice-read-b : tie.Need-shared-slice-read-b
+shared-slice-read-b c =
+    let a = c .before .before .before .before .before .before .before .before .before .before .args in
     let g = c .before .before .before .before .before .before .before .before .before .before .pre .0 in
     let h = g .held (c .before .before .before .before .before .first-met .result .at) (c .before .before .before .before .before .first-met .ensures .0 .low) (c .before .before .before .before .if1 .taken) in
     let w = c .before .before .index .ensures .0 in
-    omega (arith, g .tables)
+    let r = corners-fit (a .n) (a .corners .now) (g .tables) _ h in
+    omega arith
+
+mul-c : tie.Need-mul-c
+mul-c c = search needs
+
+add-c : tie.Need-add-c
+add-c c = search needs
+
+mul-c-2 : tie.Need-mul-c-2
+mul-c-2 c = search needs
+
+shared-slice-read-c : tie.Need-shared-slice-read-c
+shared-slice-read-c c =
+    let a = c .before .before .before .before .before .before .before .before .before .before .before .args in
+    let g = c .before .before .before .before .before .before .before .before .before .before .before .pre .0 in
+    let h = g .held (c .before .before .before .before .before .before .first-met .result .at) (c .before .before .before .before .before .before .first-met .ensures .0 .low) (c .before .before .before .before .before .if1 .taken) in
+    let w = c .before .before .before .index .ensures .0 in
+    let r = corners-fit (a .n) (a .corners .now) (g .tables) _ h in
+    omega arith
 
 start-of-requires : tie.Need-start-of-requires
 start-of-requires c κs = search needs
@@ -73,6 +91,7 @@ either-end-requires c κs =
     let a = c .before .before .before .before .before .before .before .before .before .before .before .before .before .before .before .args in
     let g = c .before .before .before .before .before .before .before .before .before .before .before .before .before .before .before .pre .0 in
     let r = c .before .before .before .before .before .before .before .before .before .before .first-met .ensures in
+    let i = c .before .before .before .before .before .before .before .index .result in
     let h = c .before .before .before .before .before .before .before .before .before .if1 .taken in (
       (
         record {
@@ -85,15 +104,15 @@ either-end-requires c κs =
         },
         c .before .before .before .before .before .before .before .before .before .before .before .before .before .before .before .pre .1,
       ),
-      tested-read (a .table .now) (a .shape .now) (a .offsets .now) (boxOf (a .f)) (a .stack .now) (c .before .before .before .start-of .result) (c .before .before .start-of2 .result) (c .before .before .before .before .before .before .before .before .before .before .first-met .result .at) (a .to)
-          (c .before .before .before .before .before .before .before .index .result) (c .before .before .before .before .before .before .before .before .before .before .first-met .result .mask) (c .before .before .before .before .before .before .packed-at .result) (c .before .before .before .before .before .packed-at2 .result) (c .before .before .before .before .packed-at3 .result) (c .before .missed .result) (c .missed2 .result)
+      tested-read (coordinates (a .corners .now)) (a .shape .now) (a .offsets .now) (boxOf (a .f)) (a .stack .now) (c .before .before .before .start-of .result) (c .before .before .start-of2 .result) (c .before .before .before .before .before .before .before .before .before .before .first-met .result .at) (a .to)
+          (c .before .before .before .before .before .before .before .index .result) (c .before .before .before .before .before .before .before .before .before .before .first-met .result .mask) (getD (a .corners .now) (3 * i) 0) (getD (a .corners .now) (3 * i + 1) 0) (getD (a .corners .now) (3 * i + 2) 0) (c .before .missed .result) (c .missed2 .result)
           h (g .within)
           (record {
             number = c .before .before .before .before .before .before .before .index .ensures .0;
             mask = r .1 h .0 ∙ ap (λ i. maskOf (sidesMet (a .shape .now) (a .offsets .now) (boxOf (a .f)) i)) (sym (c .before .before .before .before .before .before .before .index .ensures .0));
-            first = c .before .before .before .before .before .before .packed-at .ensures;
-            second = c .before .before .before .before .before .packed-at2 .ensures;
-            third = c .before .before .before .before .packed-at3 .ensures;
+            first = point-kept (a .corners .now) (3 * i) (6 * i) (omega arith);
+            second = point-kept (a .corners .now) (3 * i + 1) (6 * i + 2) (omega arith);
+            third = point-kept (a .corners .now) (3 * i + 2) (6 * i + 4) (omega arith);
           })
           (c .before .missed .ensures) (c .missed2 .ensures),
     )
@@ -102,17 +121,18 @@ returns : tie.Need-returns
 returns c =
     let a = c .before .before .before .before .before .before .before .before .before .before .before .before .before .before .before .before .args in
     let r = c .before .before .before .before .before .before .before .before .before .before .before .first-met .ensures in
+    let i = c .before .before .before .before .before .before .before .before .index .result in
     let h = c .before .before .before .before .before .before .before .before .before .before .if1 .taken in
     c .either-end .ensures
-    ∙ common-read (a .table .now) (a .shape .now) (a .offsets .now) (boxOf (a .f)) (a .stack .now) (a .from) (c .before .before .before .before .before .before .before .before .before .before .before .first-met .result .at) (a .to)
-    (c .before .before .before .before .before .before .before .before .index .result) (c .before .before .before .before .before .before .before .before .before .before .before .first-met .result .mask) (c .before .before .before .before .before .before .before .packed-at .result) (c .before .before .before .before .before .before .packed-at2 .result) (c .before .before .before .before .before .packed-at3 .result) (c .before .before .before .before .start-of .result) (c .before .before .before .start-of2 .result)
+    ∙ common-read (coordinates (a .corners .now)) (a .shape .now) (a .offsets .now) (boxOf (a .f)) (a .stack .now) (a .from) (c .before .before .before .before .before .before .before .before .before .before .before .first-met .result .at) (a .to)
+    (c .before .before .before .before .before .before .before .before .index .result) (c .before .before .before .before .before .before .before .before .before .before .before .first-met .result .mask) (getD (a .corners .now) (3 * i) 0) (getD (a .corners .now) (3 * i + 1) 0) (getD (a .corners .now) (3 * i + 2) 0) (c .before .before .before .before .start-of .result) (c .before .before .before .start-of2 .result)
     (r .0) h (c .before .before .before .before .before .before .before .before .before .before .before .before .before .before .before .before .pre .0 .within)
     (record {
       number = c .before .before .before .before .before .before .before .before .index .ensures .0;
       mask = r .1 h .0 ∙ ap (λ i. maskOf (sidesMet (a .shape .now) (a .offsets .now) (boxOf (a .f)) i)) (sym (c .before .before .before .before .before .before .before .before .index .ensures .0));
-      first = c .before .before .before .before .before .before .before .packed-at .ensures;
-      second = c .before .before .before .before .before .before .packed-at2 .ensures;
-      third = c .before .before .before .before .before .packed-at3 .ensures;
+      first = point-kept (a .corners .now) (3 * i) (6 * i) (omega arith);
+      second = point-kept (a .corners .now) (3 * i + 1) (6 * i + 2) (omega arith);
+      third = point-kept (a .corners .now) (3 * i + 2) (6 * i + 4) (omega arith);
     })
     (r .1 h .1 .0) (r .1 h .1 .1) (c .before .before .before .before .start-of .ensures) (c .before .before .before .start-of2 .ensures)
 
@@ -131,14 +151,17 @@ common-end-spec =
     mul-index
     shared-slice-read-index
     index-requires
-    mul-packed-at
-    packed-at-requires
-    mul-packed-at-2
-    add-packed-at
-    packed-at-requires-2
-    mul-packed-at-3
-    add-packed-at-2
-    packed-at-requires-3
+    mul-a
+    mul-a-2
+    shared-slice-read-a
+    mul-b
+    add-b
+    mul-b-2
+    shared-slice-read-b
+    mul-c
+    add-c
+    mul-c-2
+    shared-slice-read-c
     start-of-requires
     start-of-requires-2
     missed-requires

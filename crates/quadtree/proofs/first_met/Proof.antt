@@ -2,23 +2,23 @@ use mathlib.Core.Path.{_≡_, _∙_, ap}
 use Prim.Native.Nat.{_-_}
 use native.Mathlib.Omega.{arith}
 use lib.ListN.{getD}
-use Rattle.shapes.specs.Shape.{boxOf}
+use Rattle.shapes.specs.Shape.{coordinates, boxOf}
 use Rattle.quadtree.specs.Build.{maskOf, sidesMet, sidesAt, Skipped}
 use Rattle.quadtree.proofs.EndLaws.{skipped-start, skipped-next, sides-absent}
 use Rattle.quadtree.proofs.first_met.Statement.{statement}
 use Rattle.quadtree.proofs.first_met.Tie as tie
 
 abbrev Inv-loop : tie.InvT-loop
-Inv-loop table n shape offsets stack from to f k₀ k =
-    Skipped (sidesAt table shape offsets (boxOf f)) stack from to k
+Inv-loop corners n shape offsets stack from to f k₀ k =
+    Skipped (sidesAt (coordinates corners) shape offsets (boxOf f)) stack from to k
 
 abbrev μ-loop : tie.MeasureT-loop
-μ-loop table n shape offsets stack from to f k₀ k = to - k
+μ-loop corners n shape offsets stack from to f k₀ k = to - k
 
 loop-holds : tie.Need-loop-holds Inv-loop μ-loop
 loop-holds c =
     let a = c .before .before .before .before .args in
-    skipped-start (sidesAt (a .table .now) (a .shape .now) (a .offsets .now) (boxOf (a .f))) (a .stack .now) (a .from) (a .to) (c .before .before .before .before .pre .0 .order)
+    skipped-start (sidesAt (coordinates (a .corners .now)) (a .shape .now) (a .offsets .now) (boxOf (a .f))) (a .stack .now) (a .from) (a .to) (c .before .before .before .before .pre .0 .order)
 
 mul-index : tie.Need-mul-index Inv-loop μ-loop
 mul-index c = omega arith
@@ -54,8 +54,8 @@ loop-again c =
     let a = c .before .before .before .before .before .before .before .before .before .before .args in
     let v = c .before .before .before .before .before .loop .inv in
     let e = c .before .sides-met .ensures .0 ∙ ap (λ i. maskOf (sidesMet (a .shape .now) (a .offsets .now) (boxOf (a .f)) i)) (c .before .before .index .ensures .0) in
-    skipped-next (sidesAt (a .table .now) (a .shape .now) (a .offsets .now) (boxOf (a .f))) (a .stack .now) (a .from) (a .to) (c .before .before .before .before .before .loop .k) (c .before .before .before .before .before .before .before .before .before .before .pre .0 .within) v (c .before .before .before .before .loop-test .taken)
-    (sides-absent (a .table .now) (a .shape .now) (a .offsets .now) (boxOf (a .f)) (c .before .sides-met .result) (getD (a .stack .now) (c .before .before .before .before .before .loop .k) 0) e (c .if1 .left))
+    skipped-next (sidesAt (coordinates (a .corners .now)) (a .shape .now) (a .offsets .now) (boxOf (a .f))) (a .stack .now) (a .from) (a .to) (c .before .before .before .before .before .loop .k) (c .before .before .before .before .before .before .before .before .before .before .pre .0 .within) v (c .before .before .before .before .loop-test .taken)
+    (sides-absent (coordinates (a .corners .now)) (a .shape .now) (a .offsets .now) (boxOf (a .f)) (c .before .sides-met .result) (getD (a .stack .now) (c .before .before .before .before .before .loop .k) 0) e (c .if1 .left))
 
 returns-2 : tie.Need-returns-2 Inv-loop μ-loop
 returns-2 c =

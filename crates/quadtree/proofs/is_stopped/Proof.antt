@@ -1,6 +1,7 @@
 use mathlib.Core.Path.{_∙_, ap}
 use mathlib.Core.List.{flatMap}
 use Rattle.chart_spec.specs.Cells.{commonEnd}
+use Rattle.shapes.specs.Shape.{coordinates}
 use Rattle.quadtree.specs.Build.{sidesAt, part}
 use Rattle.quadtree.proofs.StopLaws.{stopped-deep, stopped-sides}
 use borrow.Author.Needs.{needs}
@@ -10,7 +11,7 @@ use Rattle.quadtree.proofs.is_stopped.Tie as tie
 returns : tie.Need-returns
 returns c =
     let a = c .before .before .before .before .before .before .args in
-    stopped-deep (a .n) (a .table .now) (a .shape .now) (a .offsets .now) (c .before .before .before .before .before .before .pre .0 .1 .0) (a .s) (c .if1 .taken)
+    stopped-deep (a .n) (coordinates (a .corners .now)) (a .shape .now) (a .offsets .now) (c .before .before .before .before .before .before .pre .0 .1 .0) (a .s) (c .if1 .taken)
 
 common-end-requires : tie.Need-common-end-requires
 common-end-requires c κs = search needs
@@ -20,8 +21,8 @@ returns-2 c =
     let a = c .before .before .before .before .before .before .before .args in
     let p = c .before .before .before .before .before .before .before .pre .0 .1 in
     c .common-end .ensures
-    ∙ ap (λ b. commonEnd (flatMap (λ i. sidesAt (a .table .now) (a .shape .now) (a .offsets .now) b i) (part (a .from) (a .to) (a .stack .now)))) (p .1 .1 .0)
-    ∙ stopped-sides (a .n) (a .table .now) (a .shape .now) (a .offsets .now) (p .0) (a .s) (c .before .if1 .left) (p .1 .0) (part (a .from) (a .to) (a .stack .now)) (c .before .before .before .before .before .before .before .pre .1)
+    ∙ ap (λ b. commonEnd (flatMap (λ i. sidesAt (coordinates (a .corners .now)) (a .shape .now) (a .offsets .now) b i) (part (a .from) (a .to) (a .stack .now)))) (p .1 .1 .0)
+    ∙ stopped-sides (a .n) (coordinates (a .corners .now)) (a .shape .now) (a .offsets .now) (p .0) (a .s) (c .before .if1 .left) (p .1 .0) (part (a .from) (a .to) (a .stack .now)) (c .before .before .before .before .before .before .before .pre .1)
 
 pub is-stopped-spec : {M : Type 1} → statement M
 is-stopped-spec = tie.close (tie.spec returns common-end-requires returns-2)

@@ -12,11 +12,11 @@ use Rattle.quadtree.proofs.narrow.Statement.{statement}
 use Rattle.quadtree.proofs.narrow.Tie as tie
 
 abbrev Inv-loop : tie.InvT-loop
-Inv-loop table n shape offsets stack₀ from to f top₀ k₀ stack top k =
+Inv-loop corners n shape offsets stack₀ from to f top₀ k₀ stack top k =
     Narrowing (λ i. triangleMeetsAt shape offsets i (boxOf f)) stack₀ stack from to k top
 
 abbrev μ-loop : tie.MeasureT-loop
-μ-loop table n shape offsets stack₀ from to f top₀ k₀ stack top k = to - k
+μ-loop corners n shape offsets stack₀ from to f top₀ k₀ stack top k = to - k
 
 loop-holds : tie.Need-loop-holds Inv-loop μ-loop
 loop-holds c =

@@ -41,19 +41,29 @@ mul-put-offsets c = search needs
 put-offsets-requires : tie.Need-put-offsets-requires
 put-offsets-requires c κs = search needs
 
+mul-put-corners : tie.Need-mul-put-corners
+mul-put-corners c = search needs
+
+put-corners-requires : tie.Need-put-corners-requires
+put-corners-requires c κs = search needs
+
 same-length : tie.Need-same-length
 same-length c = search needs
 
 same-length-2 : tie.Need-same-length-2
 same-length-2 c = search needs
 
+same-length-3 : tie.Need-same-length-3
+same-length-3 c = search needs
+
 returns : tie.Need-returns
 unfolding triangleAt
 returns c =
-    let e : _≡_ (triangle (c .before .before .before .before .before .before .before .before .before .before .point-at .result) (c .before .before .before .before .before .before .before .before .before .point-at2 .result) (c .before .before .before .before .before .before .before .before .point-at3 .result)) (triangleAt (c .before .before .before .before .before .before .before .before .before .before .before .before .before .before .args .table .now) (c .before .before .before .before .before .before .before .before .before .before .before .before .before .before .args .i)) =
-    λ j. triangle (c .before .before .before .before .before .before .before .before .before .before .point-at .ensures j) (c .before .before .before .before .before .before .before .before .before .point-at2 .ensures j) (c .before .before .before .before .before .before .before .before .point-at3 .ensures j)
+    let a = c .before .before .before .before .before .before .before .before .before .before .before .before .before .before .before .before .before .before .before .args in
+    let e : _≡_ (triangle (c .before .before .before .before .before .before .before .before .before .before .before .before .before .before .point-at .result) (c .before .before .before .before .before .before .before .before .before .before .before .before .before .point-at2 .result) (c .before .before .before .before .before .before .before .before .before .before .before .before .point-at3 .result)) (triangleAt (a .table .now) (a .i)) =
+    λ j. triangle (c .before .before .before .before .before .before .before .before .before .before .before .before .before .before .point-at .ensures j) (c .before .before .before .before .before .before .before .before .before .before .before .before .before .point-at2 .ensures j) (c .before .before .before .before .before .before .before .before .before .before .before .before .point-at3 .ensures j)
     in
-    (rw e at (c .before .before .before .before .before .before .put-shape .ensures), rw e at (c .before .before .put-offsets .ensures))
+    (rw e at (c .before .before .before .before .before .before .before .before .before .before .put-shape .ensures), (rw e at (c .before .before .before .before .before .before .put-offsets .ensures), rw e at (c .before .before .put-corners .ensures)))
 
 pub put-triangle-spec : {M : Type 1} → statement M
 put-triangle-spec =
@@ -71,6 +81,9 @@ put-triangle-spec =
     put-shape-requires
     mul-put-offsets
     put-offsets-requires
+    mul-put-corners
+    put-corners-requires
     same-length
     same-length-2
+    same-length-3
     returns)
