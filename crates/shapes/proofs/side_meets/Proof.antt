@@ -1,3 +1,6 @@
+use mathlib.Core.Path.{ap, ap₂}
+use mathlib.Core.Bool.{_&&_}
+use lib.Dec.{leb}
 use Rattle.shapes.specs.Shape.{sideMeetsAt}
 use borrow.Author.Needs.{needs}
 use Rattle.shapes.proofs.side_meets.Statement.{statement}
@@ -14,7 +17,7 @@ base-requires c κs = search needs
 
 returns : tie.Need-returns
 unfolding sideMeetsAt
-returns c = cc
+returns c = ap₂ _&&_ (c .before .touches .ensures) (ap (λ x. leb x (c .before .before .before .args .v)) (c .base .ensures))
 
 pub side-meets-spec : {M : Type 1} → statement M
 side-meets-spec =
