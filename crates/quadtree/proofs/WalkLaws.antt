@@ -15,7 +15,7 @@ use lib.Pow.{pow-mono}
 use Rattle.orthtree.specs.Entries.{Entry, span}
 use Rattle.squares.specs.Square.{sideAt}
 use Rattle.squares.proofs.SideLaws.{shift-half}
-use Rattle.quadtree.specs.Build.{part, packed, Ready, Built}
+use Rattle.quadtree.specs.Build.{part, packed, Fits, Ready, Built}
 
 -- ---- lists
 
@@ -73,6 +73,15 @@ ready-kept {t = t} {l = l} {l′ = l′} e h r = record {
   tables = r .tables;
   shapes = r .shapes;
   offs = r .offs;
+}
+
+-- the numbers of the candidates are there
+pub ready-fits : {n f t : ℕ} {table shape offsets l : List ℕ} → Ready n f t table shape offsets l → Fits f t shape offsets l
+ready-fits r = record {
+  order = r .order;
+  within = r .within;
+  shapes = λ k a b. let h = r .held k a b in omega (arith, r .shapes);
+  offs = λ k a b. let h = r .held k a b in omega (arith, r .offs);
 }
 
 -- a list of triangle numbers that is stored on top is ready

@@ -86,6 +86,13 @@ pub record Tested (S : ℕ → List Side) (stack : List ℕ) (p q : Point) (f t 
   pub first : eqb x 0 ≡ all (isEnd p) (flatMap S (part f k stack))
   pub second : eqb y 0 ≡ all (isEnd q) (flatMap S (part f k stack))
 
+-- the candidates from f up to t of the stack have their numbers in the two lists
+pub record Fits (f t : ℕ) (shape offsets stack : List ℕ) : Type 0 where
+  pub order : f ≤ t
+  pub within : t ≤ length stack
+  pub shapes : (k : ℕ) → f ≤ k → k < t → 28 * getD stack k 0 + 28 ≤ length shape
+  pub offs : (k : ℕ) → f ≤ k → k < t → 3 * getD stack k 0 + 3 ≤ length offsets
+
 -- what the functions over a list of candidates on the stack, from f up to t, ask: the numbers are those of triangles, and
 -- the lists are long enough
 pub record Ready (n f t : ℕ) (table shape offsets stack : List ℕ) : Type 0 where

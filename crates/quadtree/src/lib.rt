@@ -18,7 +18,7 @@ ghost use Rattle.squares.specs.Square.{squareBox, squareKey, quarters, Aligned}
 ghost use Rattle.chart_spec.specs.Table.{maxTriangles, numbersPerTriangle, tableOf};
 ghost use Rattle.chart_spec.specs.Cells.{isEnd, commonEnd, stopped, trianglesMeeting, orMark, entriesIn, entriesOf, maxEntries};
 ghost use Rattle.shapes.specs.Shape.{coordinates, boxOf, triangleMeetsAt};
-ghost use Rattle.quadtree.specs.Build.{packed, only, maskOf, masked, unpacked, unpackedTriangle, startOf, sidesMet, sidesAt, eitherEnd, part, Skipped, Tested, Ready, Prepared, Candidates, Built};
+ghost use Rattle.quadtree.specs.Build.{packed, only, maskOf, masked, unpacked, unpackedTriangle, startOf, sidesMet, sidesAt, eitherEnd, part, Skipped, Tested, Fits, Ready, Prepared, Candidates, Built};
 
 // A candidate: its place on the stack, and the mask of its sides that meet the frame.
 pub struct Met {
@@ -41,8 +41,6 @@ fn push_when(b: bool, stack: &mut [u16], top: usize, i: u16) -> usize
 
 // The candidates from `from` up to `to` that meet the frame, stored from `to` on.
 fn narrow(
-    corners: &[u32],
-    n: usize,
     shape: &[u16],
     offsets: &[u64],
     stack: &mut [u16],
@@ -50,7 +48,7 @@ fn narrow(
     to: usize,
     f: Frame,
 ) -> usize
-    requires { ⌜ Ready n from to (coordinates (now corners)) (now shape) (now offsets) (now stack) ⌝ }
+    requires { ⌜ Fits from to (now shape) (now offsets) (now stack) ⌝ }
     requires { ⌜ (to + (to - from) ≤ length (now stack)) × Framed (boxOf f) ⌝ }
     ensures { λ r. ⌜ now (stack .exit) ≡ sets (now (stack .entry)) to (filter (λ i. triangleMeetsAt (now (shape .entry)) (now (offsets .entry)) i (boxOf f)) (part from to (now (stack .entry)))) ⌝ }
     ensures { λ r. ⌜ r ≡ to + length (filter (λ i. triangleMeetsAt (now (shape .entry)) (now (offsets .entry)) i (boxOf f)) (part from to (now (stack .entry)))) ⌝ }
@@ -105,7 +103,6 @@ fn start_of(m: u32, a: u32, b: u32, c: u32) -> u32
 // The first candidate, from `from` up to `to`, of which some side meets the frame: its place, or `to`, and its mask.
 fn first_met(
     corners: &[u32],
-    n: usize,
     shape: &[u16],
     offsets: &[u64],
     stack: &[u16],
@@ -113,7 +110,7 @@ fn first_met(
     to: usize,
     f: Frame,
 ) -> Met
-    requires { ⌜ Ready n from to (coordinates (now corners)) (now shape) (now offsets) (now stack) × Framed (boxOf f) ⌝ }
+    requires { ⌜ Fits from to (now shape) (now offsets) (now stack) × Framed (boxOf f) ⌝ }
     ensures { λ r. ⌜ Skipped (λ i. sidesAt (coordinates (now (corners .entry))) (now (shape .entry)) (now (offsets .entry)) (boxOf f) i) (now (stack .entry)) from to (r .at) ⌝ }
     ensures { λ r. ⌜ (r .at < to → (r .mask ≡ maskOf (sidesMet (now (shape .entry)) (now (offsets .entry)) (boxOf f) (getD (now (stack .entry)) (r .at) 0))) × ((0 < r .mask) × (r .mask < 8))) ⌝ }
 {
@@ -181,7 +178,7 @@ fn common_end(
     requires { ⌜ Ready n from to (coordinates (now corners)) (now shape) (now offsets) (now stack) × Framed (boxOf f) ⌝ }
     ensures { λ o. ⌜ o ≡ commonEnd (flatMap (λ i. sidesAt (coordinates (now (corners .entry))) (now (shape .entry)) (now (offsets .entry)) (boxOf f) i) (part from to (now (stack .entry)))) ⌝ }
 {
-    let met = first_met(corners, n, shape, offsets, stack, from, to, f);
+    let met = first_met(corners, shape, offsets, stack, from, to, f);
     let k = met.at;
     if k < to {
         let i = numbers::index(stack[k]);
@@ -342,7 +339,7 @@ fn build_square(
         return 16385;
     }
     let f = frame_of(s);
-    let top = narrow(corners, n, shape, offsets, stack, from, to, f);
+    let top = narrow(shape, offsets, stack, from, to, f);
     if is_stopped(corners, n, shape, offsets, stack, to, top, s, f) {
         return put_leaf(stack, to, top, head_of(key, s.level), out, at);
     }

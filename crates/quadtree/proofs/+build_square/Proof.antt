@@ -12,7 +12,7 @@ use Rattle.chart_spec.specs.Table.{tableOf}
 use Rattle.chart_spec.specs.Cells.{entriesIn}
 use Rattle.shapes.specs.Shape.{coordinates}
 use Rattle.quadtree.specs.Build.{Built}
-use Rattle.quadtree.proofs.WalkLaws.{built-none, built-join, ready-kept, part-kept, take-less}
+use Rattle.quadtree.proofs.WalkLaws.{built-none, built-join, ready-fits, ready-kept, part-kept, take-less}
 use Rattle.quadtree.proofs.SquareWalk.{Narrowed, after-narrow, narrow-room, level-below, key-small, built-leaf, quarter-tree, quarter-level, quarter-first, quarter-candidates, quarters-more, quarters-all}
 use borrow.Fn.Kinds.{In}
 use borrow.Fn.PlainCycle.{Measures, is, falls, and}
@@ -95,7 +95,7 @@ build-square-narrow-requires t c κs =
     let pre = c .before .before .before .before .before .before .before .before .pre .1 in
     let h = pre .0 .1 .0 in
     let tr = pre .0 .1 .1 .1 in
-    (pre .0 .0, (narrow-room (a .n) (coordinates (a .corners .now)) (a .shape .now) (a .offsets .now) h (a .s) tr (a .from) (a .to) (a .stack .now) (pre .0 .1 .1 .0) (pre .1 .1 .0), c .before .frame-of .ensures .1))
+    (ready-fits (pre .0 .0), (narrow-room (a .n) (coordinates (a .corners .now)) (a .shape .now) (a .offsets .now) h (a .s) tr (a .from) (a .to) (a .stack .now) (pre .0 .1 .1 .0) (pre .1 .1 .0), c .before .frame-of .ensures .1))
 
 build-square-is-stopped-requires : (t : ℕ) → build-square-lts.Need-is-stopped-requires (calls t) (build-square-at t) build-square.Post build-square-Inv-loop build-square-μ-loop
 build-square-is-stopped-requires t c κs =

@@ -6,13 +6,16 @@ use Rattle.chart_spec.specs.Cells.{commonEnd}
 use Rattle.shapes.specs.Shape.{coordinates, boxOf}
 use Rattle.quadtree.specs.Build.{maskOf, sidesMet}
 use Rattle.quadtree.proofs.EndLaws.{tested-read, common-read}
+use Rattle.quadtree.proofs.WalkLaws.{ready-fits}
 use Rattle.quadtree.proofs.KeptLaws.{corners-fit, point-kept}
 use borrow.Author.Needs.{needs}
 use Rattle.quadtree.proofs.common_end.Statement.{statement}
 use Rattle.quadtree.proofs.common_end.Tie as tie
 
 first-met-requires : tie.Need-first-met-requires
-first-met-requires c κs = search needs
+first-met-requires c κs =
+    let p = c .before .before .before .before .pre in
+    (ready-fits (p .0), p .1)
 
 mul-index : tie.Need-mul-index
 mul-index c = search needs

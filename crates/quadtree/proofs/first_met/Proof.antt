@@ -9,11 +9,11 @@ use Rattle.quadtree.proofs.first_met.Statement.{statement}
 use Rattle.quadtree.proofs.first_met.Tie as tie
 
 abbrev Inv-loop : tie.InvT-loop
-Inv-loop corners n shape offsets stack from to f k₀ k =
+Inv-loop corners shape offsets stack from to f k₀ k =
     Skipped (sidesAt (coordinates corners) shape offsets (boxOf f)) stack from to k
 
 abbrev μ-loop : tie.MeasureT-loop
-μ-loop corners n shape offsets stack from to f k₀ k = to - k
+μ-loop corners shape offsets stack from to f k₀ k = to - k
 
 loop-holds : tie.Need-loop-holds Inv-loop μ-loop
 loop-holds c =
@@ -32,9 +32,10 @@ index-requires c κs = tt
 sides-met-requires : tie.Need-sides-met-requires Inv-loop μ-loop
 sides-met-requires c κs =
     let g = c .before .before .before .before .before .before .before .before .pre .0 in
-    let h = g .held (c .before .before .before .loop .k) (c .before .before .before .loop .inv .low) (c .before .before .loop-test .taken) in
+    let h = g .shapes (c .before .before .before .loop .k) (c .before .before .before .loop .inv .low) (c .before .before .loop-test .taken) in
+    let o = g .offs (c .before .before .before .loop .k) (c .before .before .before .loop .inv .low) (c .before .before .loop-test .taken) in
     let w = c .index .ensures .0 in
-    ((omega (arith, g .shapes), omega (arith, g .offs)), c .before .before .before .before .before .before .before .before .pre .1)
+    ((omega (arith, h), omega (arith, o)), c .before .before .before .before .before .before .before .before .pre .1)
 
 returns : tie.Need-returns Inv-loop μ-loop
 returns c =
