@@ -18,7 +18,7 @@ use Rattle.chart_laws.proofs.TableLaws.{tableOf-length, numbered-at}
 use Rattle.shapes.specs.Shape.{shapeOf, offsetsOf, packedPoint, cornersOf, coordinates}
 use Rattle.shapes.proofs.ShapeLaws.{corners-length}
 use Rattle.shapes.proofs.PutLaws.{flatMap-length}
-use Rattle.quadtree.specs.Build.{unpacked, Ready, Prepared, Candidates}
+use Rattle.quadtree.specs.Build.{unpacked, Rows, Ready, Prepared, Candidates}
 use Rattle.quadtree.proofs.WholeWalk.{take-stored, whole-start}
 
 -- ---- coordinates
@@ -29,9 +29,9 @@ unfolding coordinates
 coordinates-length [] = refl
 coordinates-length (p ∷ ps) = ap (λ n. suc (suc n)) (coordinates-length ps) ∙ omega arith
 
--- the corners of a triangle below n are there
-pub corners-fit : (n : ℕ) (cs : List ℕ) → 6 * n ≤ length (coordinates cs) → (i : ℕ) → i < n → 3 * i + 3 ≤ length cs
-corners-fit n cs h i l = omega (arith, coordinates-length cs)
+-- the corners of the candidates are there
+pub ready-rows : {n f t : ℕ} {shape offsets l : List ℕ} (cs : List ℕ) → Ready n f t (coordinates cs) shape offsets l → Rows 3 f t cs l
+ready-rows cs r = λ k a b. let h = r .held k a b in omega (arith, r .tables, coordinates-length cs)
 
 -- x of point j
 x-at : (ps : List ℕ) (j : ℕ) → getD (coordinates ps) (2 * j) 0 ≡ getD ps j 0 % 65536

@@ -86,12 +86,16 @@ pub record Tested (S : ℕ → List Side) (stack : List ℕ) (p q : Point) (f t 
   pub first : eqb x 0 ≡ all (isEnd p) (flatMap S (part f k stack))
   pub second : eqb y 0 ≡ all (isEnd q) (flatMap S (part f k stack))
 
+-- a list of c numbers for each triangle has those of the candidates from f up to t of the stack
+abbrev pub Rows : ℕ → ℕ → ℕ → List ℕ → List ℕ → Type 0
+Rows c f t list stack = (k : ℕ) → f ≤ k → k < t → c * getD stack k 0 + c ≤ length list
+
 -- the candidates from f up to t of the stack have their numbers in the two lists
 pub record Fits (f t : ℕ) (shape offsets stack : List ℕ) : Type 0 where
   pub order : f ≤ t
   pub within : t ≤ length stack
-  pub shapes : (k : ℕ) → f ≤ k → k < t → 28 * getD stack k 0 + 28 ≤ length shape
-  pub offs : (k : ℕ) → f ≤ k → k < t → 3 * getD stack k 0 + 3 ≤ length offsets
+  pub shapes : Rows 28 f t shape stack
+  pub offs : Rows 3 f t offsets stack
 
 -- what the functions over a list of candidates on the stack, from f up to t, ask: the numbers are those of triangles, and
 -- the lists are long enough

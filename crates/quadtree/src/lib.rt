@@ -18,7 +18,7 @@ ghost use Rattle.squares.specs.Square.{squareBox, squareKey, quarters, Aligned}
 ghost use Rattle.chart_spec.specs.Table.{maxTriangles, numbersPerTriangle, tableOf};
 ghost use Rattle.chart_spec.specs.Cells.{isEnd, commonEnd, stopped, trianglesMeeting, orMark, entriesIn, entriesOf, maxEntries};
 ghost use Rattle.shapes.specs.Shape.{coordinates, boxOf, triangleMeetsAt};
-ghost use Rattle.quadtree.specs.Build.{packed, only, maskOf, masked, unpacked, unpackedTriangle, startOf, sidesMet, sidesAt, eitherEnd, part, Skipped, Tested, Fits, Ready, Prepared, Candidates, Built};
+ghost use Rattle.quadtree.specs.Build.{packed, only, maskOf, masked, unpacked, unpackedTriangle, startOf, sidesMet, sidesAt, eitherEnd, part, Skipped, Tested, Rows, Fits, Ready, Prepared, Candidates, Built};
 
 // A candidate: its place on the stack, and the mask of its sides that meet the frame.
 pub struct Met {
@@ -129,7 +129,6 @@ fn first_met(
 // are ends of those of the first candidate.
 fn either_end(
     corners: &[u32],
-    n: usize,
     shape: &[u16],
     offsets: &[u64],
     stack: &[u16],
@@ -141,7 +140,7 @@ fn either_end(
     x: u32,
     y: u32,
 ) -> bool
-    requires { ⌜ Ready n from to (coordinates (now corners)) (now shape) (now offsets) (now stack) × Framed (boxOf f) ⌝ }
+    requires { ⌜ Fits from to (now shape) (now offsets) (now stack) × (Framed (boxOf f) × Rows 3 from to (now corners) (now stack)) ⌝ }
     requires { ⌜ Tested (λ i. sidesAt (coordinates (now corners)) (now shape) (now offsets) (boxOf f) i) (now stack) (unpacked p) (unpacked q) from to (from + 1) x y ⌝ }
     ensures { λ o. ⌜ o ≡ eitherEnd (unpacked p) (unpacked q) (flatMap (λ i. sidesAt (coordinates (now (corners .entry))) (now (shape .entry)) (now (offsets .entry)) (boxOf f) i) (part from to (now (stack .entry)))) ⌝ }
 {
@@ -167,7 +166,6 @@ fn either_end(
 // Some point is an end of every side, of the candidates from `from` up to `to`, that meets the frame.
 fn common_end(
     corners: &[u32],
-    n: usize,
     shape: &[u16],
     offsets: &[u64],
     stack: &[u16],
@@ -175,7 +173,7 @@ fn common_end(
     to: usize,
     f: Frame,
 ) -> bool
-    requires { ⌜ Ready n from to (coordinates (now corners)) (now shape) (now offsets) (now stack) × Framed (boxOf f) ⌝ }
+    requires { ⌜ Fits from to (now shape) (now offsets) (now stack) × (Framed (boxOf f) × Rows 3 from to (now corners) (now stack)) ⌝ }
     ensures { λ o. ⌜ o ≡ commonEnd (flatMap (λ i. sidesAt (coordinates (now (corners .entry))) (now (shape .entry)) (now (offsets .entry)) (boxOf f) i) (part from to (now (stack .entry)))) ⌝ }
 {
     let met = first_met(corners, shape, offsets, stack, from, to, f);
@@ -190,7 +188,7 @@ fn common_end(
         let q = start_of(m, b, c, a);
         let x = missed(m, p, a, b, c);
         let y = missed(m, q, a, b, c);
-        return either_end(corners, n, shape, offsets, stack, k, to, f, p, q, x, y);
+        return either_end(corners, shape, offsets, stack, k, to, f, p, q, x, y);
     }
     true
 }
@@ -256,7 +254,7 @@ fn is_stopped(
     if s.level == 16 {
         return true;
     }
-    common_end(corners, n, shape, offsets, stack, from, to, f)
+    common_end(corners, shape, offsets, stack, from, to, f)
 }
 
 // How many entries a cell has whose triangles stand from `from` up to `to`.

@@ -6,8 +6,7 @@ use Rattle.chart_spec.specs.Cells.{commonEnd}
 use Rattle.shapes.specs.Shape.{coordinates, boxOf}
 use Rattle.quadtree.specs.Build.{maskOf, sidesMet}
 use Rattle.quadtree.proofs.EndLaws.{tested-read, common-read}
-use Rattle.quadtree.proofs.WalkLaws.{ready-fits}
-use Rattle.quadtree.proofs.KeptLaws.{corners-fit, point-kept}
+use Rattle.quadtree.proofs.KeptLaws.{point-kept}
 use borrow.Author.Needs.{needs}
 use Rattle.quadtree.proofs.common_end.Statement.{statement}
 use Rattle.quadtree.proofs.common_end.Tie as tie
@@ -15,7 +14,7 @@ use Rattle.quadtree.proofs.common_end.Tie as tie
 first-met-requires : tie.Need-first-met-requires
 first-met-requires c κs =
     let p = c .before .before .before .before .pre in
-    (ready-fits (p .0), p .1)
+    (p .0, p .1 .0)
 
 mul-index : tie.Need-mul-index
 mul-index c = search needs
@@ -34,11 +33,8 @@ mul-a-2 c = search needs
 
 shared-slice-read-a : tie.Need-shared-slice-read-a
 shared-slice-read-a c =
-    let a = c .before .before .before .before .before .before .before .before .before .args in
-    let g = c .before .before .before .before .before .before .before .before .before .pre .0 in
-    let h = g .held (c .before .before .before .before .first-met .result .at) (c .before .before .before .before .first-met .ensures .0 .low) (c .before .before .before .if1 .taken) in
+    let r = c .before .before .before .before .before .before .before .before .before .pre .1 .1 (c .before .before .before .before .first-met .result .at) (c .before .before .before .before .first-met .ensures .0 .low) (c .before .before .before .if1 .taken) in
     let w = c .before .index .ensures .0 in
-    let r = corners-fit (a .n) (a .corners .now) (g .tables) _ h in
     omega arith
 
 mul-b : tie.Need-mul-b
@@ -52,11 +48,8 @@ mul-b-2 c = search needs
 
 shared-slice-read-b : tie.Need-shared-slice-read-b
 shared-slice-read-b c =
-    let a = c .before .before .before .before .before .before .before .before .before .before .args in
-    let g = c .before .before .before .before .before .before .before .before .before .before .pre .0 in
-    let h = g .held (c .before .before .before .before .before .first-met .result .at) (c .before .before .before .before .before .first-met .ensures .0 .low) (c .before .before .before .before .if1 .taken) in
+    let r = c .before .before .before .before .before .before .before .before .before .before .pre .1 .1 (c .before .before .before .before .before .first-met .result .at) (c .before .before .before .before .before .first-met .ensures .0 .low) (c .before .before .before .before .if1 .taken) in
     let w = c .before .before .index .ensures .0 in
-    let r = corners-fit (a .n) (a .corners .now) (g .tables) _ h in
     omega arith
 
 mul-c : tie.Need-mul-c
@@ -70,11 +63,8 @@ mul-c-2 c = search needs
 
 shared-slice-read-c : tie.Need-shared-slice-read-c
 shared-slice-read-c c =
-    let a = c .before .before .before .before .before .before .before .before .before .before .before .args in
-    let g = c .before .before .before .before .before .before .before .before .before .before .before .pre .0 in
-    let h = g .held (c .before .before .before .before .before .before .first-met .result .at) (c .before .before .before .before .before .before .first-met .ensures .0 .low) (c .before .before .before .before .before .if1 .taken) in
+    let r = c .before .before .before .before .before .before .before .before .before .before .before .pre .1 .1 (c .before .before .before .before .before .before .first-met .result .at) (c .before .before .before .before .before .before .first-met .ensures .0 .low) (c .before .before .before .before .before .if1 .taken) in
     let w = c .before .before .before .index .ensures .0 in
-    let r = corners-fit (a .n) (a .corners .now) (g .tables) _ h in
     omega arith
 
 start-of-requires : tie.Need-start-of-requires
@@ -93,6 +83,7 @@ either-end-requires : tie.Need-either-end-requires
 either-end-requires c κs =
     let a = c .before .before .before .before .before .before .before .before .before .before .before .before .before .before .before .args in
     let g = c .before .before .before .before .before .before .before .before .before .before .before .before .before .before .before .pre .0 in
+    let rest = c .before .before .before .before .before .before .before .before .before .before .before .before .before .before .before .pre .1 in
     let r = c .before .before .before .before .before .before .before .before .before .before .first-met .ensures in
     let i = c .before .before .before .before .before .before .before .index .result in
     let h = c .before .before .before .before .before .before .before .before .before .if1 .taken in (
@@ -100,12 +91,10 @@ either-end-requires c κs =
         record {
           order = r .0 .high;
           within = g .within;
-          held = λ k lo hi. g .held k (omega (arith, r .0 .low)) hi;
-          tables = g .tables;
-          shapes = g .shapes;
-          offs = g .offs;
+          shapes = λ k lo hi. g .shapes k (omega (arith, r .0 .low)) hi;
+          offs = λ k lo hi. g .offs k (omega (arith, r .0 .low)) hi;
         },
-        c .before .before .before .before .before .before .before .before .before .before .before .before .before .before .before .pre .1,
+        (rest .0, λ k lo hi. rest .1 k (omega (arith, r .0 .low)) hi),
       ),
       tested-read (coordinates (a .corners .now)) (a .shape .now) (a .offsets .now) (boxOf (a .f)) (a .stack .now) (c .before .before .before .start-of .result) (c .before .before .start-of2 .result) (c .before .before .before .before .before .before .before .before .before .before .first-met .result .at) (a .to)
           (c .before .before .before .before .before .before .before .index .result) (c .before .before .before .before .before .before .before .before .before .before .first-met .result .mask) (getD (a .corners .now) (3 * i) 0) (getD (a .corners .now) (3 * i + 1) 0) (getD (a .corners .now) (3 * i + 2) 0) (c .before .missed .result) (c .missed2 .result)

@@ -4,16 +4,16 @@ use lib.ListN.{getD}
 use Rattle.shapes.specs.Shape.{coordinates, boxOf}
 use Rattle.quadtree.specs.Build.{unpacked, sidesAt, Tested}
 use Rattle.quadtree.proofs.EndLaws.{tested-more, tested-out, tested-all}
-use Rattle.quadtree.proofs.KeptLaws.{corners-fit, point-kept}
+use Rattle.quadtree.proofs.KeptLaws.{point-kept}
 use Rattle.quadtree.proofs.either_end.Statement.{statement}
 use Rattle.quadtree.proofs.either_end.Tie as tie
 
 abbrev Inv-loop : tie.InvT-loop
-Inv-loop corners n shape offsets stack from to f p q x y first₀ second₀ k₀ first second k =
+Inv-loop corners shape offsets stack from to f p q x y first₀ second₀ k₀ first second k =
     Tested (sidesAt (coordinates corners) shape offsets (boxOf f)) stack (unpacked p) (unpacked q) from to k first second
 
 abbrev μ-loop : tie.MeasureT-loop
-μ-loop corners n shape offsets stack from to f p q x y first₀ second₀ k₀ first second k = to - k
+μ-loop corners shape offsets stack from to f p q x y first₀ second₀ k₀ first second k = to - k
 
 add-k : tie.Need-add-k Inv-loop μ-loop
 add-k c = omega (arith, c .before .before .before .before .pre .1 .high)
@@ -32,10 +32,12 @@ index-requires c κs = tt
 
 sides-met-requires : tie.Need-sides-met-requires Inv-loop μ-loop
 sides-met-requires c κs =
-    let g = c .before .before .before .before .before .before .before .before .pre .0 .0 in
-    let h = g .held (c .before .before .before .loop .k) (c .before .before .before .loop .inv .low) (c .before .before .loop-test .taken) in
+    let p = c .before .before .before .before .before .before .before .before .pre .0 in
+    let l = c .before .before .before .loop in
+    let h = p .0 .shapes (l .k) (l .inv .low) (c .before .before .loop-test .taken) in
+    let o = p .0 .offs (l .k) (l .inv .low) (c .before .before .loop-test .taken) in
     let w = c .index .ensures .0 in
-    ((omega (arith, g .shapes), omega (arith, g .offs)), c .before .before .before .before .before .before .before .before .pre .0 .1)
+    ((omega arith, omega arith), p .1 .0)
 
 mul-a : tie.Need-mul-a Inv-loop μ-loop
 mul-a c = omega (arith, c .before .index .ensures .1)
@@ -45,11 +47,8 @@ mul-a-2 c = omega (arith, c .before .index .ensures .1)
 
 shared-slice-read-a : tie.Need-shared-slice-read-a Inv-loop μ-loop
 shared-slice-read-a c =
-    let a = c .before .before .before .before .before .before .before .before .before .before .args in
-    let g = c .before .before .before .before .before .before .before .before .before .before .pre .0 .0 in
-    let h = g .held (c .before .before .before .before .before .loop .k) (c .before .before .before .before .before .loop .inv .low) (c .before .before .before .before .loop-test .taken) in
+    let r = c .before .before .before .before .before .before .before .before .before .before .pre .0 .1 .1 (c .before .before .before .before .before .loop .k) (c .before .before .before .before .before .loop .inv .low) (c .before .before .before .before .loop-test .taken) in
     let w = c .before .before .index .ensures .0 in
-    let r = corners-fit (a .n) (a .corners .now) (g .tables) _ h in
     omega arith
 
 mul-b : tie.Need-mul-b Inv-loop μ-loop
@@ -63,11 +62,8 @@ mul-b-2 c = omega (arith, c .before .before .index .ensures .1)
 
 shared-slice-read-b : tie.Need-shared-slice-read-b Inv-loop μ-loop
 shared-slice-read-b c =
-    let a = c .before .before .before .before .before .before .before .before .before .before .before .args in
-    let g = c .before .before .before .before .before .before .before .before .before .before .before .pre .0 .0 in
-    let h = g .held (c .before .before .before .before .before .before .loop .k) (c .before .before .before .before .before .before .loop .inv .low) (c .before .before .before .before .before .loop-test .taken) in
+    let r = c .before .before .before .before .before .before .before .before .before .before .before .pre .0 .1 .1 (c .before .before .before .before .before .before .loop .k) (c .before .before .before .before .before .before .loop .inv .low) (c .before .before .before .before .before .loop-test .taken) in
     let w = c .before .before .before .index .ensures .0 in
-    let r = corners-fit (a .n) (a .corners .now) (g .tables) _ h in
     omega arith
 
 mul-c : tie.Need-mul-c Inv-loop μ-loop
@@ -81,11 +77,8 @@ mul-c-2 c = omega (arith, c .before .before .before .index .ensures .1)
 
 shared-slice-read-c : tie.Need-shared-slice-read-c Inv-loop μ-loop
 shared-slice-read-c c =
-    let a = c .before .before .before .before .before .before .before .before .before .before .before .before .args in
-    let g = c .before .before .before .before .before .before .before .before .before .before .before .before .pre .0 .0 in
-    let h = g .held (c .before .before .before .before .before .before .before .loop .k) (c .before .before .before .before .before .before .before .loop .inv .low) (c .before .before .before .before .before .before .loop-test .taken) in
+    let r = c .before .before .before .before .before .before .before .before .before .before .before .before .pre .0 .1 .1 (c .before .before .before .before .before .before .before .loop .k) (c .before .before .before .before .before .before .before .loop .inv .low) (c .before .before .before .before .before .before .loop-test .taken) in
     let w = c .before .before .before .before .index .ensures .0 in
-    let r = corners-fit (a .n) (a .corners .now) (g .tables) _ h in
     omega arith
 
 missed-requires : tie.Need-missed-requires Inv-loop μ-loop

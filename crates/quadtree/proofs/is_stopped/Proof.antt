@@ -4,7 +4,8 @@ use Rattle.chart_spec.specs.Cells.{commonEnd}
 use Rattle.shapes.specs.Shape.{coordinates}
 use Rattle.quadtree.specs.Build.{sidesAt, part}
 use Rattle.quadtree.proofs.StopLaws.{stopped-deep, stopped-sides}
-use borrow.Author.Needs.{needs}
+use Rattle.quadtree.proofs.WalkLaws.{ready-fits}
+use Rattle.quadtree.proofs.KeptLaws.{ready-rows}
 use Rattle.quadtree.proofs.is_stopped.Statement.{statement}
 use Rattle.quadtree.proofs.is_stopped.Tie as tie
 
@@ -14,7 +15,9 @@ returns c =
     stopped-deep (a .n) (coordinates (a .corners .now)) (a .shape .now) (a .offsets .now) (c .before .before .before .before .before .before .pre .0 .1 .0) (a .s) (c .if1 .taken)
 
 common-end-requires : tie.Need-common-end-requires
-common-end-requires c κs = search needs
+common-end-requires c κs =
+    let p = c .before .before .before .before .before .before .pre .0 in
+    (ready-fits (p .0), (p .1 .1 .1 .1, ready-rows (c .before .before .before .before .before .before .args .corners .now) (p .0)))
 
 returns-2 : tie.Need-returns-2
 returns-2 c =
