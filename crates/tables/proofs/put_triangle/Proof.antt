@@ -1,0 +1,70 @@
+use mathlib.Core.Path.{_∙_, ap, ap₂}
+use mathlib.Core.List.{[], _∷_}
+use Prim.Native.Nat.{_+_, _*_}
+use native.Mathlib.Numerals.{add-two, add-four}
+use lib.Seq.{sets}
+use Rattle.plane.specs.Triangle.{triangleOf, cornerAt}
+use Rattle.chart_spec.specs.Table.{triangleNumbers}
+use borrow.Author.Needs.{needs}
+use Rattle.tables.proofs.put_triangle.Statement.{statement}
+use Rattle.tables.proofs.put_triangle.Tie as tie
+
+mul-k : tie.Need-mul-k
+mul-k c = search needs
+
+array-copy-out-put-point : tie.Need-array-copy-out-put-point
+array-copy-out-put-point c = search needs
+
+put-point-requires : tie.Need-put-point-requires
+put-point-requires c κs = search needs
+
+add-put-point : tie.Need-add-put-point
+add-put-point c = search needs
+
+array-copy-out-put-point-2 : tie.Need-array-copy-out-put-point-2
+array-copy-out-put-point-2 c = search needs
+
+put-point-requires-2 : tie.Need-put-point-requires-2
+put-point-requires-2 c κs = search needs
+
+add-put-point-2 : tie.Need-add-put-point-2
+add-put-point-2 c = search needs
+
+array-copy-out-put-point-3 : tie.Need-array-copy-out-put-point-3
+array-copy-out-put-point-3 c = search needs
+
+put-point-requires-3 : tie.Need-put-point-requires-3
+put-point-requires-3 c κs = search needs
+
+same-length : tie.Need-same-length
+same-length c = search needs
+
+returns : tie.Need-returns
+unfolding triangleNumbers triangleOf cornerAt
+returns c =
+    let a = c .before .before .before .before .before .before .before .before .before .before .before .before .before .before .before .before .args in
+    let k = 6 * a .i in
+    let p = cornerAt (a .t3) 0 in
+    let q = cornerAt (a .t3) 1 in
+    let r = cornerAt (a .t3) 2 in
+    c .before .before .put-point3 .ensures
+    ∙ ap (λ l. sets l (k + 4) (r .x ∷ r .y ∷ []))
+    (c .before .before .before .before .before .before .before .put-point2 .ensures ∙ ap (λ l. sets l (k + 2) (q .x ∷ q .y ∷ [])) (c .before .before .before .before .before .before .before .before .before .before .before .before .put-point .ensures))
+    ∙ ap₂ (λ m n. sets (sets (sets (a .table .now) k (p .x ∷ p .y ∷ [])) m (q .x ∷ q .y ∷ [])) n (r .x ∷ r .y ∷ []))
+    (add-two k) (add-four k)
+
+pub put-triangle-spec : {M : Type 1} → statement M
+put-triangle-spec =
+    tie.close
+    (tie.spec
+    mul-k
+    array-copy-out-put-point
+    put-point-requires
+    add-put-point
+    array-copy-out-put-point-2
+    put-point-requires-2
+    add-put-point-2
+    array-copy-out-put-point-3
+    put-point-requires-3
+    same-length
+    returns)
