@@ -1,3 +1,4 @@
 pub mod RowLaws
 pub mod CopyLaws
 pub mod SplitLaws
+pub mod FlipSteps
