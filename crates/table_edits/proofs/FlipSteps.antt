@@ -1,82 +1,38 @@
 -- What a flip comes to, by its tests; and the table that its rows make.
 -- Assumes nothing.
 use mathlib.Core.Path.{_≡_, refl, sym, _∙_, ap, ap₂}
-use mathlib.Core.Bool.{Bool, true, false, _&&_, _||_}
-use mathlib.Core.List.{List, [], _∷_}
+use mathlib.Core.Bool.{true, false, _&&_, _||_}
+use mathlib.Core.List.{List, _∷_}
 use mathlib.Core.Logic.{inl, inr}
-use mathlib.Core.Option.{Option, none, some}
-use Prim.Native.Nat.{ℕ, zero, suc, _+_, _*_, _≤_, _<_}
+use mathlib.Core.Option.{none, some}
+use Prim.Native.Nat.{ℕ, _+_, _*_, _≤_, _<_}
 use native.Mathlib.Omega.{arith}
 use lib.Dec.{T, leb}
 use lib.ListN.{length, set, drop}
 use Rattle.lists.specs.Lists.{first}
 use Rattle.lists.proofs.Reflects.{reflects-or, reflects-leb}
 use Rattle.plane.specs.declared.Point.{Point}
-use Rattle.plane.specs.Triangle.{Triangle, triangleOf, corners, cornerAt, rotated, proper}
-use Rattle.chart_spec.specs.Table.{Table, triangleAt, tableOf, numbered}
+use Rattle.plane.specs.Triangle.{Triangle, triangleOf, corners, rotated, proper}
+use Rattle.chart_spec.specs.Table.{Table, triangleAt, tableOf}
 use Rattle.chart_spec.specs.Refusals.{refused, done, refuseIf, noSuchTriangle, noFlip}
 use Rattle.chart_spec.specs.Edits.{triangle, rotations, sharesSide, flipAs, flipWith, flipAmong, flipTable}
 use Rattle.chart_laws.proofs.TableLaws.{tableOf-length, numbered-at}
 use Rattle.table_edits.proofs.RowLaws.{withRow, withRow-length, rows-set}
 use Rattle.table_edits.proofs.CopyLaws.{triangle-read}
-
--- the rotations of a triangle from number k on: rotation k, and the rest
-pub rotation-cons : (t : List Point) (k : ℕ) → k < 3
-    → drop k (rotations (triangleOf t)) ≡ triangleOf (rotated t k) ∷ drop (k + 1) (rotations (triangleOf t))
-unfolding rotations triangle triangleOf rotated cornerAt
-rotation-cons t zero h = refl
-rotation-cons t (suc zero) h = refl
-rotation-cons t (suc (suc zero)) h = refl
-rotation-cons t (suc (suc (suc k))) h = absurd (omega arith)
-
--- there are three
-pub rotations-end : (t : Triangle) (k : ℕ) → 3 ≤ k → k ≤ 3 → drop k (rotations t) ≡ []
-unfolding rotations
-rotations-end t k h b = let e : k ≡ 3 = omega arith in ap (λ m. drop m (rotations t)) e
-
--- ---- the first rotation that shares a side
-
--- rotations before number k do not
-pub record Missed (f : Triangle → Bool) (u : List Point) (k : ℕ) : Type 0 where
-  pub high : k ≤ 3
-  pub same : first f (rotations (triangleOf u)) ≡ first f (drop k (rotations (triangleOf u)))
-
-module _ (f : Triangle → Bool) (u : List Point) where
-  hit : (x : Triangle) (l : List Triangle) → f x ≡ true → first f (x ∷ l) ≡ some x
-  unfolding first
-  hit x l e = rw (e, first)
-
-  miss : (x : Triangle) (l : List Triangle) → f x ≡ false → first f (x ∷ l) ≡ first f l
-  unfolding first
-  miss x l e = rw (e, first)
-
-  pub missed-start : Missed f u 0
-  missed-start = record { high = omega arith; same = refl }
-
-  pub missed-hit : (k : ℕ) → Missed f u k → k < 3 → f (triangleOf (rotated u k)) ≡ true
-      → first f (rotations (triangleOf u)) ≡ some (triangleOf (rotated u k))
-  missed-hit k m h e =
-      m .same ∙ ap (first f) (rotation-cons u k h) ∙ hit (triangleOf (rotated u k)) (drop (k + 1) (rotations (triangleOf u))) e
-
-  pub missed-next : (k : ℕ) → Missed f u k → k < 3 → f (triangleOf (rotated u k)) ≡ false → Missed f u (k + 1)
-  missed-next k m h e =
-      record {
-        high = omega arith;
-        same = m .same ∙ ap (first f) (rotation-cons u k h) ∙ miss (triangleOf (rotated u k)) (drop (k + 1) (rotations (triangleOf u))) e;
-      }
-
-  pub missed-end : (k : ℕ) → Missed f u k → 3 ≤ k → first f (rotations (triangleOf u)) ≡ none
-  unfolding first
-  missed-end k m h = m .same ∙ ap (first f) (rotations-end (triangleOf u) k h (m .high))
+use Rattle.table_edits.proofs.RotationSteps.{rotation-cons, rotations-end}
 
 -- ---- flip
 
 module _ (table : Table) (i j : ℕ) (us : List Triangle) where
-  shared : (x u : Triangle) (l : List Triangle) → first (λ v. sharesSide x v) us ≡ some u → flipAmong table i j us (x ∷ l) ≡ flipAs table i j x u
+  -- the first rotation shares a side
+  shared : (x u : Triangle) (l : List Triangle) → first (λ v. sharesSide x v) us ≡ some u
+      → flipAmong table i j us (x ∷ l) ≡ flipAs table i j x u
   unfolding flipAmong flipWith
   shared x u l e = rw e
 
-  unshared : (x : Triangle) (l : List Triangle) → first (λ v. sharesSide x v) us ≡ none → flipAmong table i j us (x ∷ l) ≡ flipAmong table i j us l
+  -- the first rotation shares none
+  unshared : (x : Triangle) (l : List Triangle) → first (λ v. sharesSide x v) us ≡ none
+      → flipAmong table i j us (x ∷ l) ≡ flipAmong table i j us l
   unfolding flipAmong flipWith
   unshared x l e = rw e
 
@@ -86,15 +42,18 @@ module _ (table : Table) (i j : ℕ) (us : List Triangle) where
     pub same : flipAmong table i j us (rotations (triangleOf t)) ≡ flipAmong table i j us (drop k (rotations (triangleOf t)))
 
   module _ (t : List Point) where
+    -- none is tried yet
     pub tried-start : Tried t 0
     tried-start = record { high = omega arith; same = refl }
 
+    -- rotation k shares one
     pub tried-hit : (k : ℕ) (u : Triangle) → Tried t k → k < 3 → first (λ v. sharesSide (triangleOf (rotated t k)) v) us ≡ some u
         → flipAmong table i j us (rotations (triangleOf t)) ≡ flipAs table i j (triangleOf (rotated t k)) u
     tried-hit k u m h e =
         m .same ∙ ap (flipAmong table i j us) (rotation-cons t k h)
         ∙ shared (triangleOf (rotated t k)) u (drop (k + 1) (rotations (triangleOf t))) e
 
+    -- rotation k shares none
     pub tried-next : (k : ℕ) → Tried t k → k < 3 → first (λ v. sharesSide (triangleOf (rotated t k)) v) us ≡ none → Tried t (k + 1)
     tried-next k m h e =
         record {
@@ -104,6 +63,7 @@ module _ (table : Table) (i j : ℕ) (us : List Triangle) where
               ∙ unshared (triangleOf (rotated t k)) (drop (k + 1) (rotations (triangleOf t))) e;
         }
 
+    -- no rotation does
     pub tried-end : (k : ℕ) → Tried t k → 3 ≤ k → flipAmong table i j us (rotations (triangleOf t)) ≡ refused noFlip
     unfolding flipAmong
     tried-end k m h = m .same ∙ ap (flipAmong table i j us) (rotations-end (triangleOf t) k h (m .high))
@@ -136,7 +96,8 @@ pub flip-begun : (ns : List ℕ) (n i j : ℕ) {s u : List Point} → s ≡ corn
     → flipTable i j (tableOf ns n) ≡ flipAmong (tableOf ns n) i j (rotations (triangleOf u)) (rotations (triangleOf s))
 flip-begun ns n i j es eu e =
     flip-within ns n i j e
-    ∙ ap₂ (λ v t. flipAmong (tableOf ns n) i j (rotations v) (rotations t)) (sym (triangle-read (triangleAt ns j) eu)) (sym (triangle-read (triangleAt ns i) es))
+    ∙ ap₂ (λ v t. flipAmong (tableOf ns n) i j (rotations v) (rotations t)) (sym (triangle-read (triangleAt ns j) eu))
+    (sym (triangle-read (triangleAt ns i) es))
 
 -- refusal 9, at a shared side
 pub as-refused : (table : Table) (i j : ℕ) (t u : Triangle)

@@ -1,6 +1,6 @@
 -- Three triangles around a point merged: the tests, and the table that the rows make.
 -- Assumes nothing.
-use mathlib.Core.Path.{_≡_, refl, sym, _∙_, ap, ap₂}
+use mathlib.Core.Path.{_≡_, sym, _∙_, ap, ap₂}
 use mathlib.Core.Bool.{Bool, true, false}
 use mathlib.Core.List.{List, [], _∷_, _++_, append-nil, append-assoc}
 use Prim.Native.Nat.{ℕ, zero, suc, _+_, _-_, _*_, _≤_, _<_}
@@ -30,14 +30,17 @@ module _ (p : Point) (t : Triangle) where
   abbrev ended : Bool → Bool → Triangle
   ended z y = chosen z y t (triangle (t .c) (t .a) (t .b)) (triangle (t .b) (t .c) (t .a))
 
+  -- it ends in p as it is
   pub ending-third : samePoint p (t .c) ≡ true → endingIn p t ≡ t
   unfolding endingIn
   ending-third e = ap (λ z. ended z (samePoint p (t .b))) e
 
+  -- its second corner is p
   pub ending-second : samePoint p (t .c) ≡ false → samePoint p (t .b) ≡ true → endingIn p t ≡ triangle (t .c) (t .a) (t .b)
   unfolding endingIn
   ending-second e f = ap₂ (λ z y. ended z y) e f
 
+  -- else its first corner is
   pub ending-first : samePoint p (t .c) ≡ false → samePoint p (t .b) ≡ false → endingIn p t ≡ triangle (t .b) (t .c) (t .a)
   unfolding endingIn
   ending-first e f = ap₂ (λ z y. ended z y) e f
@@ -55,15 +58,18 @@ module _ (table : Table) (i j k : ℕ) (t u v : Triangle) where
       chosen z y (done (mergeAround table i j k (triangle (t .a) (t .b) (u .b)))) (done (mergeAround table i j k (triangle (t .a) (t .b) (v .b))))
       (refused notThreeAround)
 
+  -- the second of the three follows the first
   pub merge-one-way : closesRound t u v ≡ true → mergeThree table i j k t u v ≡ done (mergeAround table i j k (triangle (t .a) (t .b) (u .b)))
   unfolding mergeThree
   merge-one-way e = ap (λ z. merged z (closesRound t v u)) e
 
+  -- the third does
   pub merge-other-way : closesRound t u v ≡ false → closesRound t v u ≡ true
       → mergeThree table i j k t u v ≡ done (mergeAround table i j k (triangle (t .a) (t .b) (v .b)))
   unfolding mergeThree
   merge-other-way e f = ap₂ (λ z y. merged z y) e f
 
+  -- refusal 8: they do not close round p
   pub merge-refused : closesRound t u v ≡ false → closesRound t v u ≡ false → mergeThree table i j k t u v ≡ refused notThreeAround
   unfolding mergeThree
   merge-refused e f = ap₂ (λ z y. merged z y) e f

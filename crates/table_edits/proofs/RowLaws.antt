@@ -2,14 +2,14 @@
 -- The idea: the six numbers of a row are read back where they were written, and those of other rows are as they were.
 -- Assumes nothing.
 use mathlib.Core.Path.{_≡_, refl, sym, _∙_, ap, ap₂}
-use mathlib.Core.List.{List, [], _∷_, _++_, append-assoc}
+use mathlib.Core.List.{List, [], _∷_, _++_}
 use mathlib.Core.Logic.{_⊎_, inl, inr}
 use Prim.Native.Nat.{ℕ, zero, suc, _+_, _*_, _-_, _≤_, _<_}
 use native.Mathlib.Nat.{add-zero, suc-add, add-suc}
 use native.Mathlib.Omega.{arith}
 use native.Mathlib.Decide.{decLe}
-use lib.ListN.{length, getD, set, drop, length-set}
-use lib.Seq.{sets, length-sets, getD-set-same, getD-set-other, set-at, set-append-left, drop-append-le}
+use lib.ListN.{length, getD, set, length-set}
+use lib.Seq.{sets, length-sets, getD-set-same, getD-set-other, set-at, set-append-left}
 use Rattle.lists.specs.Lists.{upTo, countFrom}
 use Rattle.plane.specs.Triangle.{Triangle}
 use Rattle.chart_spec.specs.Table.{pointAt, triangleAt, tableOf, triangleNumbers}

@@ -1,19 +1,18 @@
 -- What a split comes to, by its tests; and the table that its rows make.
 -- Assumes nothing.
-use mathlib.Core.Path.{_≡_, refl, sym, _∙_, ap, ap₂}
+use mathlib.Core.Path.{_≡_, _∙_, ap, ap₂}
 use mathlib.Core.Bool.{true, false}
 use mathlib.Core.List.{List, [], _∷_, _++_, append-assoc}
-use Prim.Native.Nat.{ℕ, zero, suc, _+_, _*_, _≤_, _<_}
-use native.Mathlib.Numerals.{add-one, add-two}
+use Prim.Native.Nat.{ℕ, suc, _+_, _*_, _≤_, _<_}
+use native.Mathlib.Numerals.{add-one}
 use native.Mathlib.Omega.{arith}
 use borrow.Author.Tests.{lt-ltb, le-ltb, le-leb, lt-leb}
-use lib.Dec.{leb, ltb}
 use lib.ListN.{length, set}
 use Rattle.plane.specs.declared.Point.{Point}
-use Rattle.plane.specs.Triangle.{Triangle, triangleOf, cornerAt, strictlyInside}
-use Rattle.chart_spec.specs.Table.{triangleAt, tableOf, numbered}
+use Rattle.plane.specs.Triangle.{Triangle, strictlyInside}
+use Rattle.chart_spec.specs.Table.{triangleAt, tableOf}
 use Rattle.chart_spec.specs.Refusals.{refused, done, refuseIf, noSuchTriangle, notInside, tableFull}
-use Rattle.chart_spec.specs.Edits.{triangle, splitAt, splitTable}
+use Rattle.chart_spec.specs.Edits.{splitAt, splitTable}
 use Rattle.chart_laws.proofs.TableLaws.{tableOf-length, numbered-at}
 use Rattle.table_edits.proofs.RowLaws.{withRow, withRow-length, rows-append, rows-set}
 

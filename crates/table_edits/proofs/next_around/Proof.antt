@@ -1,11 +1,11 @@
-use mathlib.Core.Path.{_≡_, sym, _∙_, ap}
+use mathlib.Core.Path.{sym, _∙_, ap}
 use Prim.Native.Nat.{_-_}
 use native.Mathlib.Omega.{arith}
 use borrow.Author.Needs.{needs}
 use Rattle.chart_spec.specs.Table.{triangleAt}
 use Rattle.chart_spec.specs.Edits.{hasCorner}
 use Rattle.table_edits.proofs.CopyLaws.{triangle-read}
-use Rattle.table_edits.proofs.TakeOutSteps.{Passed, passed-start, passed-hit, passed-next, passed-end}
+use Rattle.table_edits.proofs.AroundSteps.{Passed, passed-start, passed-hit, passed-next, passed-end}
 use Rattle.table_edits.proofs.next_around.Statement.{statement}
 use Rattle.table_edits.proofs.next_around.Tie as tie
 

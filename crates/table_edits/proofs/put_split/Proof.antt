@@ -1,4 +1,3 @@
-use mathlib.Core.List.{[], _∷_}
 use native.Mathlib.Omega.{arith}
 use Rattle.plane.specs.Triangle.{triangleOf, cornerAt}
 use Rattle.chart_spec.specs.Edits.{triangle, splitAt}

@@ -1,10 +1,10 @@
-use mathlib.Core.Path.{_≡_, sym, _∙_, ap}
+use mathlib.Core.Path.{sym, _∙_, ap}
 use Prim.Native.Nat.{_-_}
 use native.Mathlib.Omega.{arith}
 use borrow.Author.Needs.{needs}
 use Rattle.plane.specs.Triangle.{triangleOf}
 use Rattle.chart_spec.specs.Edits.{sharesSide}
-use Rattle.table_edits.proofs.FlipSteps.{Missed, missed-start, missed-hit, missed-next, missed-end}
+use Rattle.table_edits.proofs.RotationSteps.{Missed, missed-start, missed-hit, missed-next, missed-end}
 use Rattle.table_edits.proofs.sharing_rotation.Statement.{statement}
 use Rattle.table_edits.proofs.sharing_rotation.Tie as tie
 

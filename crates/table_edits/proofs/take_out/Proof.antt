@@ -1,9 +1,10 @@
-use mathlib.Core.Path.{_≡_, sym, _∙_}
+use mathlib.Core.Path.{sym, _∙_}
 use Prim.Native.Nat.{_+_}
 use native.Mathlib.Omega.{arith}
 use Rattle.chart_spec.specs.Table.{tableOf}
 use Rattle.chart_spec.specs.Edits.{hasCorner, mergeThree}
-use Rattle.table_edits.proofs.TakeOutSteps.{next-of, around-refused, three-below, around-three}
+use Rattle.table_edits.proofs.AroundSteps.{next-of}
+use Rattle.table_edits.proofs.TakeOutSteps.{around-refused, three-below, around-three}
 use Rattle.table_edits.proofs.MergeRows.{ending-read}
 use borrow.Author.Needs.{needs}
 use Rattle.table_edits.proofs.take_out.Statement.{statement}
