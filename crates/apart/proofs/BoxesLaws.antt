@@ -1,7 +1,7 @@
 -- Boxes of a table in four lists, and what they say of its triangles.
 -- Assumes nothing.
 use mathlib.Core.Path.{_≡_, refl, subst}
-use mathlib.Core.Bool.{true, false}
+use mathlib.Core.Bool.{false}
 use mathlib.Core.List.{List}
 use Prim.Native.Nat.{ℕ, _+_, _≤_, _<_}
 use native.Mathlib.Decide.{decLe}
@@ -9,15 +9,12 @@ use native.Mathlib.Omega.{arith}
 use lib.Dec.{T}
 use lib.ListN.{length, getD, set, length-set}
 use lib.Seq.{getD-set-same, getD-set-other}
-use Rattle.lists.specs.Lists.{all, upTo}
 use Rattle.lists.proofs.Reflects.{Reflects, reflects-leb, reflects-or}
-use Rattle.lists.proofs.IndexLaws.{reflects-same, all-below-reflects}
 use Rattle.plane.specs.Box.{Box, triangleBox}
 use Rattle.plane.specs.Interior.{interiorsMeet}
 use Rattle.separation.proofs.BoxLaws.{Clear, clear-apart}
 use Rattle.chart_spec.specs.Table.{triangleAt}
 use Rattle.chart_laws.proofs.ProperLaws.{proper-at, proper-fewer}
-use Rattle.chart_laws.proofs.SoundLaws.{apart}
 use Rattle.apart.specs.Boxes.{clear, boxAt, Places, Boxes, Prepared}
 
 -- what the test of two boxes decides
@@ -54,16 +51,6 @@ boxes-apart table ls ts rs bs n i j p h k c =
     (rw (proper-at table n i (p .oriented) h) tt) (rw (proper-at table n j (p .oriented) k) tt)
     (subst (λ b. Clear b (triangleBox (triangleAt table j))) (p .boxes i h)
     (subst (λ d. Clear (boxAt ls ts rs bs i) d) (p .boxes j k) (clear-reflects (boxAt ls ts rs bs i) (boxAt ls ts rs bs j) .to c)))
-
--- so a block of clear boxes is apart
-pub block-apart : (table ls ts rs bs : List ℕ) (n i j m : ℕ) → Prepared table ls ts rs bs n → i < n → j + m ≤ n
-    → all (λ k. clear (boxAt ls ts rs bs i) (boxAt ls ts rs bs (j + k))) (upTo m) ≡ true
-    → true ≡ all (λ k. apart table i (j + k)) (upTo m)
-block-apart table ls ts rs bs n i j m p h l e =
-    let f : (k : ℕ) → k < m → T (apart table i (j + k)) =
-    λ k u. rw (boxes-apart table ls ts rs bs n i (j + k) p h (omega arith)
-    (all-below-reflects (λ k. clear (boxAt ls ts rs bs i) (boxAt ls ts rs bs (j + k))) m .to (rw e tt) k u)) tt in
-    reflects-same (record { to = λ t. f; from = λ g. tt }) (all-below-reflects (λ k. apart table i (j + k)) m)
 
 -- ---- storing boxes
 

@@ -1,1 +1,2 @@
 pub mod BoxesLaws
+pub mod NearLaws

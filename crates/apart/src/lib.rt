@@ -1,17 +1,18 @@
 // Whether no two triangles of a table share ground. Every pair is tested, so bounding boxes are worked out once for a table,
-// in four lists; 16 boxes at a time are tested without a branch, and products are needed only where two boxes overlap.
+// in four lists; 16 boxes at a time are tested without a branch, and products are needed only where two boxes overlap. These are
+// listed first, so that few branches are mispredicted.
 
 ghost use mathlib.Core.Path.{_≡_};
-ghost use mathlib.Core.Bool.{true, not};
+ghost use mathlib.Core.Bool.{true, not, cond};
 ghost use Prim.Native.Nat.{_+_, _*_, _≤_, _<_, min, max};
-ghost use lib.ListN.{length, set};
+ghost use lib.ListN.{length, getD, set};
 ghost use Rattle.lists.specs.Lists.{all, upTo};
 ghost use Rattle.plane.specs.Triangle.{proper};
 ghost use Rattle.plane.specs.Box.{triangleBox};
 ghost use Rattle.plane.specs.Interior.{interiorsMeet};
 ghost use Rattle.chart_spec.specs.Table.{maxTriangles, numbersPerTriangle, triangleAt, tableOf};
 ghost use Rattle.chart_spec.specs.Reading.{sound};
-ghost use Rattle.apart.specs.Boxes.{blockSize, clear, boxAt, Places, Boxes, Prepared};
+ghost use Rattle.apart.specs.Boxes.{blockSize, clear, boxAt, Places, Boxes, Prepared, Near, Before};
 
 // How many boxes are tested at a time.
 const BLOCK: usize = 16;
@@ -113,28 +114,31 @@ fn block_clear(
     o
 }
 
-// Triangles i and j share ground.
-fn meets(
-    table: &[u16],
+// Place j, on the list at c; it counts where boxes i and j overlap. No branch.
+fn keep(
     lefts: &[u16],
     tops: &[u16],
     rights: &[u16],
     bottoms: &[u16],
     i: usize,
     j: usize,
-) -> bool
-    requires { ⌜ Prepared (now table) (now lefts) (now tops) (now rights) (now bottoms) (i + 1) × (j < i) ⌝ }
-    ensures { λ o. ⌜ o ≡ interiorsMeet (triangleAt (now (table .entry)) i) (triangleAt (now (table .entry)) j) ⌝ }
+    near: &mut [usize],
+    c: usize,
+) -> usize
+    requires { ⌜ (Places (now lefts) (now tops) (now rights) (now bottoms) (i + 1) × Places (now lefts) (now tops) (now rights) (now bottoms) (j + 1)) × (c < length (now near)) ⌝ }
+    ensures { λ r. ⌜ now (near .exit) ≡ set (now (near .entry)) c j ⌝ }
+    ensures { λ r. ⌜ r ≡ cond (clear (boxAt (now (lefts .entry)) (now (tops .entry)) (now (rights .entry)) (now (bottoms .entry)) i) (boxAt (now (lefts .entry)) (now (tops .entry)) (now (rights .entry)) (now (bottoms .entry)) j)) c (c + 1) ⌝ }
 {
+    near[c] = j;
     if is_clear(lefts, tops, rights, bottoms, i, j) {
-        return false;
+        c
+    } else {
+        c + 1
     }
-    geometry::interiors_meet(tables::triangle_at(table, i), tables::triangle_at(table, j))
 }
 
-// Triangle i shares ground with none of the m triangles from j on.
-fn run_apart(
-    table: &[u16],
+// The m places from j on whose boxes overlap box i, after the c places of the list.
+fn collect(
     lefts: &[u16],
     tops: &[u16],
     rights: &[u16],
@@ -142,13 +146,76 @@ fn run_apart(
     i: usize,
     j: usize,
     m: usize,
-) -> bool
-    requires { ⌜ Prepared (now table) (now lefts) (now tops) (now rights) (now bottoms) (i + 1) × (j + m ≤ i) ⌝ }
-    ensures { λ o. ⌜ o ≡ all (λ k. not (interiorsMeet (triangleAt (now (table .entry)) i) (triangleAt (now (table .entry)) (j + k)))) (upTo m) ⌝ }
+    near: &mut [usize],
+    c: usize,
+) -> usize
+    requires { ⌜ Places (now lefts) (now tops) (now rights) (now bottoms) (i + 1) × ((j + m ≤ i) × (i ≤ length (now near))) ⌝ }
+    requires { ⌜ Near (now lefts) (now tops) (now rights) (now bottoms) (now near) i j c ⌝ }
+    ensures { λ r. ⌜ Near (now (lefts .entry)) (now (tops .entry)) (now (rights .entry)) (now (bottoms .entry)) (now (near .exit)) i (j + m) r ⌝ }
+    ensures { λ r. ⌜ length (now (near .exit)) ≡ length (now (near .entry)) ⌝ }
 {
+    let mut n = c;
     let mut k = 0;
     while k < m {
-        if meets(table, lefts, tops, rights, bottoms, i, j + k) {
+        n = keep(lefts, tops, rights, bottoms, i, j + k, near, n);
+        k += 1;
+    }
+    n
+}
+
+// Those of the block that starts at place j.
+fn collect_block(
+    lefts: &[u16],
+    tops: &[u16],
+    rights: &[u16],
+    bottoms: &[u16],
+    i: usize,
+    j: usize,
+    near: &mut [usize],
+    c: usize,
+) -> usize
+    requires { ⌜ Places (now lefts) (now tops) (now rights) (now bottoms) (i + 1) × ((j + blockSize ≤ i) × (i ≤ length (now near))) ⌝ }
+    requires { ⌜ Near (now lefts) (now tops) (now rights) (now bottoms) (now near) i j c ⌝ }
+    ensures { λ r. ⌜ Near (now (lefts .entry)) (now (tops .entry)) (now (rights .entry)) (now (bottoms .entry)) (now (near .exit)) i (j + blockSize) r ⌝ }
+    ensures { λ r. ⌜ length (now (near .exit)) ≡ length (now (near .entry)) ⌝ }
+{
+    if block_clear(lefts, tops, rights, bottoms, i, j) {
+        return c;
+    }
+    collect(lefts, tops, rights, bottoms, i, j, BLOCK, near, c)
+}
+
+// All places before i whose boxes overlap box i: block by block, then the few that are left.
+fn collect_before(
+    lefts: &[u16],
+    tops: &[u16],
+    rights: &[u16],
+    bottoms: &[u16],
+    i: usize,
+    near: &mut [usize],
+) -> usize
+    requires { ⌜ Places (now lefts) (now tops) (now rights) (now bottoms) (i + 1) × (i ≤ length (now near)) ⌝ }
+    ensures { λ r. ⌜ Near (now (lefts .entry)) (now (tops .entry)) (now (rights .entry)) (now (bottoms .entry)) (now (near .exit)) i i r ⌝ }
+    ensures { λ r. ⌜ length (now (near .exit)) ≡ length (now (near .entry)) ⌝ }
+{
+    let mut c = 0;
+    let mut j = 0;
+    while BLOCK <= i - j {
+        c = collect_block(lefts, tops, rights, bottoms, i, j, near, c);
+        j += BLOCK;
+    }
+    collect(lefts, tops, rights, bottoms, i, j, i - j, near, c)
+}
+
+// Triangle i shares ground with none of the first c triangles of a list.
+fn near_apart(table: &[u16], near: &[usize], i: usize, c: usize) -> bool
+    requires { ⌜ (numbersPerTriangle * (i + 1) ≤ length (now table)) × ((c ≤ length (now near)) × Before (now near) i c) ⌝ }
+    ensures { λ o. ⌜ o ≡ all (λ k. not (interiorsMeet (triangleAt (now (table .entry)) i) (triangleAt (now (table .entry)) (getD (now (near .entry)) k 0)))) (upTo c) ⌝ }
+{
+    let s = tables::triangle_at(table, i);
+    let mut k = 0;
+    while k < c {
+        if geometry::interiors_meet(s, tables::triangle_at(table, near[k])) {
             return false;
         }
         k += 1;
@@ -156,45 +223,22 @@ fn run_apart(
     true
 }
 
-// Triangle i shares ground with none of the block that starts at triangle j.
-fn block_apart(
-    table: &[u16],
-    lefts: &[u16],
-    tops: &[u16],
-    rights: &[u16],
-    bottoms: &[u16],
-    i: usize,
-    j: usize,
-) -> bool
-    requires { ⌜ Prepared (now table) (now lefts) (now tops) (now rights) (now bottoms) (i + 1) × (j + blockSize ≤ i) ⌝ }
-    ensures { λ o. ⌜ o ≡ all (λ k. not (interiorsMeet (triangleAt (now (table .entry)) i) (triangleAt (now (table .entry)) (j + k)))) (upTo blockSize) ⌝ }
-{
-    if block_clear(lefts, tops, rights, bottoms, i, j) {
-        return true;
-    }
-    run_apart(table, lefts, tops, rights, bottoms, i, j, BLOCK)
-}
-
-// Triangle i shares ground with none of those before it: blocks from i downwards, then the few that are left.
+// Triangle i shares ground with none of those before it.
 fn is_apart(
     table: &[u16],
     lefts: &[u16],
     tops: &[u16],
     rights: &[u16],
     bottoms: &[u16],
+    near: &mut [usize],
     i: usize,
 ) -> bool
-    requires { ⌜ Prepared (now table) (now lefts) (now tops) (now rights) (now bottoms) (i + 1) ⌝ }
+    requires { ⌜ Prepared (now table) (now lefts) (now tops) (now rights) (now bottoms) (i + 1) × (i ≤ length (now near)) ⌝ }
     ensures { λ o. ⌜ o ≡ all (λ k. not (interiorsMeet (triangleAt (now (table .entry)) i) (triangleAt (now (table .entry)) k))) (upTo i) ⌝ }
+    ensures { λ o. ⌜ length (now (near .exit)) ≡ length (now (near .entry)) ⌝ }
 {
-    let mut j = i;
-    while BLOCK <= j {
-        j -= BLOCK;
-        if !block_apart(table, lefts, tops, rights, bottoms, i, j) {
-            return false;
-        }
-    }
-    run_apart(table, lefts, tops, rights, bottoms, i, 0, j)
+    let c = collect_before(lefts, tops, rights, bottoms, i, near);
+    near_apart(table, near, i, c)
 }
 
 // No two of the first n triangles share ground.
@@ -204,14 +248,15 @@ fn pairs_apart(
     tops: &[u16],
     rights: &[u16],
     bottoms: &[u16],
+    near: &mut [usize],
     n: usize,
 ) -> bool
-    requires { ⌜ Prepared (now table) (now lefts) (now tops) (now rights) (now bottoms) n ⌝ }
+    requires { ⌜ Prepared (now table) (now lefts) (now tops) (now rights) (now bottoms) n × (n ≤ length (now near)) ⌝ }
     ensures { λ o. ⌜ o ≡ sound (tableOf (now (table .entry)) n) ⌝ }
 {
     let mut i = 0;
     while i < n {
-        if !is_apart(table, lefts, tops, rights, bottoms, i) {
+        if !is_apart(table, lefts, tops, rights, bottoms, near, i) {
             return false;
         }
         i += 1;
@@ -229,5 +274,6 @@ pub fn all_apart(table: &[u16], n: usize) -> bool
     let mut rights = [0u16; tables::MOST_TRIANGLES];
     let mut bottoms = [0u16; tables::MOST_TRIANGLES];
     put_boxes(table, n, &mut lefts, &mut tops, &mut rights, &mut bottoms);
-    pairs_apart(table, &lefts, &tops, &rights, &bottoms, n)
+    let mut near = [0usize; tables::MOST_TRIANGLES];
+    pairs_apart(table, &lefts, &tops, &rights, &bottoms, &mut near, n)
 }
