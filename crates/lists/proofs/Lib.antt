@@ -11,7 +11,6 @@ pub mod SumLaws
 pub mod LowestLaws
 pub mod Runs
 pub mod IndexLaws
-pub mod TestedRuns
 pub mod Examples
 pub mod PartLaws
 pub mod LentLaws
