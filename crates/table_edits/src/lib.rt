@@ -48,7 +48,7 @@ fn put_split(table: &[u16], n: usize, i: usize, s: [Point; 3], p: Point, out: &m
 }
 
 // Split: triangle i at p.
-pub fn split(table: &[u16], n: usize, i: usize, p: Point, out: &mut [u16]) -> Edited
+pub fn split_table(table: &[u16], n: usize, i: usize, p: Point, out: &mut [u16]) -> Edited
     requires { ⌜ (n ≤ maxTriangles) × ((numbersPerTriangle * n ≤ length (now table)) × (tableLength ≤ length (now out))) ⌝ }
     ensures { λ r. ⌜ editedOutcome r (now (out .exit)) ≡ splitTable i p (tableOf (now (table .entry)) n) ⌝ }
     ensures { λ r. ⌜ editedCount r ≤ maxTriangles ⌝ }
@@ -138,7 +138,7 @@ fn flip_as(
 }
 
 // Flip: triangles i and j.
-pub fn flip(table: &[u16], n: usize, i: usize, j: usize, out: &mut [u16]) -> Edited
+pub fn flip_table(table: &[u16], n: usize, i: usize, j: usize, out: &mut [u16]) -> Edited
     requires { ⌜ (n ≤ maxTriangles) × ((numbersPerTriangle * n ≤ length (now table)) × (tableLength ≤ length (now out))) ⌝ }
     ensures { λ r. ⌜ editedOutcome r (now (out .exit)) ≡ flipTable i j (tableOf (now (table .entry)) n) ⌝ }
     ensures { λ r. ⌜ editedCount r ≤ maxTriangles ⌝ }
@@ -251,7 +251,7 @@ fn merge_three(
 }
 
 // Take-out: of the point p.
-pub fn take_out(table: &[u16], n: usize, p: Point, out: &mut [u16]) -> Edited
+pub fn take_out_table(table: &[u16], n: usize, p: Point, out: &mut [u16]) -> Edited
     requires { ⌜ (n ≤ maxTriangles) × ((numbersPerTriangle * n ≤ length (now table)) × (tableLength ≤ length (now out))) ⌝ }
     ensures { λ r. ⌜ editedOutcome r (now (out .exit)) ≡ takeOutTable p (tableOf (now (table .entry)) n) ⌝ }
     ensures { λ r. ⌜ editedCount r ≤ maxTriangles ⌝ }

@@ -44,12 +44,12 @@ judged c = sym (ap judgedOutcome (c .enum-told .given .1)) ∙ c .before .before
 fine : (c : tie.After-enum-told) → let chart = chart (c .before .before .before .before .before .before .before .before .before .before .before) in (tooShort chart ≡ false) × (chainRule chart ≡ true)
 fine c = let p = indexed-passed (chart (c .before .before .before .before .before .before .before .before .before .before .before)) (judged c) in (p .0, p .1 .0)
 
-slice-aggregate-flip : tie.Need-slice-aggregate-flip
-slice-aggregate-flip c = search needs
+slice-aggregate-flip-table : tie.Need-slice-aggregate-flip-table
+slice-aggregate-flip-table c = search needs
 
-flip-requires : tie.Need-flip-requires
+flip-table-requires : tie.Need-flip-table-requires
 unfolding chartTable
-flip-requires c κs =
+flip-table-requires c κs =
     let d = c .before .before in
     let h = rule-held (chart (d .before .before .before .before .before .before .before .before .before .before .before)) (fine d .0) (fine d .1) in
     (h .few, (h .room, omega arith))
@@ -63,8 +63,8 @@ finish-requires c κs =
     let s = c .before .before .before .before .before .before in
     let d = s .before .before .before in
     let top = d .before .before .before .before .before .before .before .before .before .before .before in
-    let good = made-proper (chart top) (fine d .1) (edit top) (flip-keeps (top .args .i) (top .args .j)) (s .flip .result) (s .flip .last .1 .1 .1 .1 .0) (s .flip .ensures .0) in
-    (((s .flip .ensures .1, omega arith), good), fine d .0)
+    let good = made-proper (chart top) (fine d .1) (edit top) (flip-keeps (top .args .i) (top .args .j)) (s .flip-table .result) (s .flip-table .last .1 .1 .1 .1 .0) (s .flip-table .ensures .0) in
+    (((s .flip-table .ensures .1, omega arith), good), fine d .0)
 
 enum-told-2 : tie.Need-enum-told-2
 enum-told-2 c = search needs
@@ -104,7 +104,7 @@ returns c =
     let d = s .before .before .before in
     let top = d .before .before .before .before .before .before .before .before .before .before .before in
     f .finish .ensures
-    ∙ ap (λ o. changedBy (chart top) (andThen o (λ t. withinLimit t))) (s .flip .ensures .0)
+    ∙ ap (λ o. changedBy (chart top) (andThen o (λ t. withinLimit t))) (s .flip-table .ensures .0)
     ∙ edit-judged (chart top) (edit top) (judged d)
 
 same-length-5 : tie.Need-same-length-5
@@ -173,8 +173,8 @@ flip-spec =
     (tie.spec
     judge-edit-requires
     enum-told
-    slice-aggregate-flip
-    flip-requires
+    slice-aggregate-flip-table
+    flip-table-requires
     slice-aggregate-finish
     finish-requires
     enum-told-2

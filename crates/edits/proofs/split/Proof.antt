@@ -44,12 +44,12 @@ judged c = sym (ap judgedOutcome (c .enum-told .given .1)) ∙ c .before .before
 fine : (c : tie.After-enum-told) → let chart = chart (c .before .before .before .before .before .before .before .before .before .before .before) in (tooShort chart ≡ false) × (chainRule chart ≡ true)
 fine c = let p = indexed-passed (chart (c .before .before .before .before .before .before .before .before .before .before .before)) (judged c) in (p .0, p .1 .0)
 
-slice-aggregate-split : tie.Need-slice-aggregate-split
-slice-aggregate-split c = search needs
+slice-aggregate-split-table : tie.Need-slice-aggregate-split-table
+slice-aggregate-split-table c = search needs
 
-split-requires : tie.Need-split-requires
+split-table-requires : tie.Need-split-table-requires
 unfolding chartTable
-split-requires c κs =
+split-table-requires c κs =
     let d = c .before .before in
     let h = rule-held (chart (d .before .before .before .before .before .before .before .before .before .before .before)) (fine d .0) (fine d .1) in
     (h .few, (h .room, omega arith))
@@ -63,8 +63,8 @@ finish-requires c κs =
     let s = c .before .before .before .before .before .before in
     let d = s .before .before .before in
     let top = d .before .before .before .before .before .before .before .before .before .before .before in
-    let good = made-proper (chart top) (fine d .1) (edit top) (split-keeps (top .args .i) (top .args .p)) (s .split .result) (s .split .last .1 .1 .1 .1 .0) (s .split .ensures .0) in
-    (((s .split .ensures .1, omega arith), good), fine d .0)
+    let good = made-proper (chart top) (fine d .1) (edit top) (split-keeps (top .args .i) (top .args .p)) (s .split-table .result) (s .split-table .last .1 .1 .1 .1 .0) (s .split-table .ensures .0) in
+    (((s .split-table .ensures .1, omega arith), good), fine d .0)
 
 enum-told-2 : tie.Need-enum-told-2
 enum-told-2 c = search needs
@@ -104,7 +104,7 @@ returns c =
     let d = s .before .before .before in
     let top = d .before .before .before .before .before .before .before .before .before .before .before in
     f .finish .ensures
-    ∙ ap (λ o. changedBy (chart top) (andThen o (λ t. withinLimit t))) (s .split .ensures .0)
+    ∙ ap (λ o. changedBy (chart top) (andThen o (λ t. withinLimit t))) (s .split-table .ensures .0)
     ∙ edit-judged (chart top) (edit top) (judged d)
 
 same-length-5 : tie.Need-same-length-5
@@ -173,8 +173,8 @@ split-spec =
     (tie.spec
     judge-edit-requires
     enum-told
-    slice-aggregate-split
-    split-requires
+    slice-aggregate-split-table
+    split-table-requires
     slice-aggregate-finish
     finish-requires
     enum-told-2

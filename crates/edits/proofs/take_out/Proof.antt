@@ -44,12 +44,12 @@ judged c = sym (ap judgedOutcome (c .enum-told .given .1)) ∙ c .before .before
 fine : (c : tie.After-enum-told) → let chart = chart (c .before .before .before .before .before .before .before .before .before .before .before) in (tooShort chart ≡ false) × (chainRule chart ≡ true)
 fine c = let p = indexed-passed (chart (c .before .before .before .before .before .before .before .before .before .before .before)) (judged c) in (p .0, p .1 .0)
 
-slice-aggregate-take-out : tie.Need-slice-aggregate-take-out
-slice-aggregate-take-out c = search needs
+slice-aggregate-take-out-table : tie.Need-slice-aggregate-take-out-table
+slice-aggregate-take-out-table c = search needs
 
-take-out-requires : tie.Need-take-out-requires
+take-out-table-requires : tie.Need-take-out-table-requires
 unfolding chartTable
-take-out-requires c κs =
+take-out-table-requires c κs =
     let d = c .before .before in
     let h = rule-held (chart (d .before .before .before .before .before .before .before .before .before .before .before)) (fine d .0) (fine d .1) in
     (h .few, (h .room, omega arith))
@@ -63,8 +63,8 @@ finish-requires c κs =
     let s = c .before .before .before .before .before .before in
     let d = s .before .before .before in
     let top = d .before .before .before .before .before .before .before .before .before .before .before in
-    let good = made-proper (chart top) (fine d .1) (edit top) (takeOut-keeps (top .args .p)) (s .take-out .result) (s .take-out .last .1 .1 .1 .0) (s .take-out .ensures .0) in
-    (((s .take-out .ensures .1, omega arith), good), fine d .0)
+    let good = made-proper (chart top) (fine d .1) (edit top) (takeOut-keeps (top .args .p)) (s .take-out-table .result) (s .take-out-table .last .1 .1 .1 .0) (s .take-out-table .ensures .0) in
+    (((s .take-out-table .ensures .1, omega arith), good), fine d .0)
 
 enum-told-2 : tie.Need-enum-told-2
 enum-told-2 c = search needs
@@ -104,7 +104,7 @@ returns c =
     let d = s .before .before .before in
     let top = d .before .before .before .before .before .before .before .before .before .before .before in
     f .finish .ensures
-    ∙ ap (λ o. changedBy (chart top) (andThen o (λ t. withinLimit t))) (s .take-out .ensures .0)
+    ∙ ap (λ o. changedBy (chart top) (andThen o (λ t. withinLimit t))) (s .take-out-table .ensures .0)
     ∙ edit-judged (chart top) (edit top) (judged d)
 
 same-length-5 : tie.Need-same-length-5
@@ -173,8 +173,8 @@ take-out-spec =
     (tie.spec
     judge-edit-requires
     enum-told
-    slice-aggregate-take-out
-    take-out-requires
+    slice-aggregate-take-out-table
+    take-out-table-requires
     slice-aggregate-finish
     finish-requires
     enum-told-2

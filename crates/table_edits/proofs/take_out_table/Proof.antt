@@ -7,8 +7,8 @@ use Rattle.table_edits.proofs.AroundSteps.{next-of}
 use Rattle.table_edits.proofs.TakeOutSteps.{around-refused, three-below, around-three}
 use Rattle.table_edits.proofs.MergeRows.{ending-read}
 use borrow.Author.Needs.{needs}
-use Rattle.table_edits.proofs.take_out.Statement.{statement}
-use Rattle.table_edits.proofs.take_out.Tie as tie
+use Rattle.table_edits.proofs.take_out_table.Statement.{statement}
+use Rattle.table_edits.proofs.take_out_table.Tie as tie
 
 next-around-requires : tie.Need-next-around-requires
 next-around-requires c κs = search needs
@@ -138,8 +138,8 @@ returns-2 c =
       c .before .before .merge-three .ensures .1,
     )
 
-pub take-out-spec : {M : Type 1} → statement M
-take-out-spec =
+pub take-out-table-spec : {M : Type 1} → statement M
+take-out-table-spec =
     tie.close
     (tie.spec
     next-around-requires

@@ -8,8 +8,8 @@ use Rattle.chart_spec.specs.Edits.{splitAt}
 use Rattle.table_edits.proofs.CopyLaws.{triangle-read}
 use Rattle.table_edits.proofs.SplitLaws.{split-beyond, split-outside, split-full, split-made}
 use borrow.Author.Needs.{needs}
-use Rattle.table_edits.proofs.split.Statement.{statement}
-use Rattle.table_edits.proofs.split.Tie as tie
+use Rattle.table_edits.proofs.split_table.Statement.{statement}
+use Rattle.table_edits.proofs.split_table.Tie as tie
 
 returns : tie.Need-returns
 returns c =
@@ -67,8 +67,8 @@ returns-4 c =
       omega (arith, c .before .before .before .before .if3 .left),
     )
 
-pub split-spec : {M : Type 1} → statement M
-split-spec =
+pub split-table-spec : {M : Type 1} → statement M
+split-table-spec =
     tie.close
     (tie.spec
     returns

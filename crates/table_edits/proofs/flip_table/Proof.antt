@@ -8,8 +8,8 @@ use Rattle.plane.specs.Triangle.{triangleOf}
 use Rattle.chart_spec.specs.Table.{tableOf}
 use Rattle.chart_spec.specs.Edits.{rotations, sharesSide, flipAs}
 use Rattle.table_edits.proofs.FlipSteps.{Tried, tried-start, tried-hit, tried-next, tried-end, both-below, flip-beyond, flip-begun}
-use Rattle.table_edits.proofs.flip.Statement.{statement}
-use Rattle.table_edits.proofs.flip.Tie as tie
+use Rattle.table_edits.proofs.flip_table.Statement.{statement}
+use Rattle.table_edits.proofs.flip_table.Tie as tie
 
 abbrev Inv-loop : tie.InvT-loop
 Inv-loop table n i j out₀ s u k₀ out k = (length out ≡ length out₀) × Tried (tableOf table n) i j (rotations (triangleOf u)) s k
@@ -106,8 +106,8 @@ returns-3 c =
       omega arith,
     )
 
-pub flip-spec : {M : Type 1} → statement M
-flip-spec =
+pub flip-table-spec : {M : Type 1} → statement M
+flip-table-spec =
     tie.close
     (tie.spec
     Inv-loop
