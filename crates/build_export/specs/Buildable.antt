@@ -1,4 +1,4 @@
--- What can be indexed.
+-- What can be built.
 -- Assumes nothing.
 use mathlib.Core.Bool.{Bool, _&&_}
 use mathlib.Core.List.{List}

@@ -13,7 +13,6 @@ use Rattle.lists.proofs.Reflects.{reflects-and₃, reflects-eqb, reflects-leb}
 use Rattle.lists.proofs.IndexLaws.{all-below-reflects}
 use Rattle.orthtree.specs.Entries.{span}
 use Rattle.squares.specs.Square.{arity, depth}
-use Rattle.chains.proofs.TestLaws.{eqb-same}
 
 every-span : T (all (λ l. eqb (span arity depth l) (2 ^ (2 * (16 - l)))) (upTo 17))
 unfolding all upTo countFrom span
@@ -75,13 +74,3 @@ and-span k l m h e =
 -- "or" with it is the last key that the square covers, where the key is a multiple of the span
 pub or-span : (k m s : ℕ) → bitAnd k m ≡ 0 → m + 1 ≡ s → bitOr k m + 1 ≡ k + s
 or-span k m s z e = let d = or-disjoint k m z in omega arith
-
--- "xor" is 0 when the two are equal
-pub xor-zero : (a b : ℕ) → eqb (bitXor a b) 0 ≡ eqb a b
-xor-zero a b = eqb-same (bitXor a b) 0 a b to from
-  where
-    to : bitXor a b ≡ 0 → a ≡ b
-    to e = omega (arith, xor-add-and a b, and-le-l a b, and-le-r a b)
-
-    from : a ≡ b → bitXor a b ≡ 0
-    from e = ap (bitXor a) (sym e) ∙ xor-self a

@@ -3,7 +3,7 @@ use Prim.Native.Nat.{_+_, _-_}
 use native.Mathlib.Omega.{arith}
 use borrow.Author.Tests.{ne-eqb}
 use Rattle.chains.proofs.TestLaws.{eqb-same}
-use Rattle.chains.proofs.MaskLaws.{xor-zero}
+use Rattle.numbers.proofs.BitLaws.{xor-zero}
 use borrow.Author.Needs.{needs}
 use Rattle.chains.proofs.gap.Statement.{statement}
 use Rattle.chains.proofs.gap.Tie as tie
