@@ -17,7 +17,7 @@ use Rattle.chart_spec.specs.Table.{pointAt, triangleAt, tableOf, numbered, noTr
 use Rattle.chart_laws.proofs.TableLaws.{tableOf-length, numbered-at}
 use Rattle.shapes.specs.Shape.{shapeOf, offsetsOf, packedPoint, cornersOf, coordinates}
 use Rattle.shapes.proofs.ShapeLaws.{corners-length}
-use Rattle.shapes.proofs.PutLaws.{flatMap-length}
+use Rattle.lists.proofs.FlatMapLaws.{flatMap-length}
 use Rattle.quadtree.specs.Build.{unpacked, Rows, Ready, Prepared, Candidates}
 use Rattle.quadtree.proofs.WholeWalk.{take-stored, whole-start}
 

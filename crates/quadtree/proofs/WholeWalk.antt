@@ -23,7 +23,7 @@ use Rattle.chart_spec.specs.Cells.{trianglesMeeting}
 use Rattle.chart_laws.proofs.TableLaws.{tableOf-length}
 use Rattle.shapes.specs.Shape.{shapeOf, offsetsOf}
 use Rattle.shapes.proofs.ShapeLaws.{shape-length, offsets-length}
-use Rattle.shapes.proofs.PutLaws.{flatMap-length}
+use Rattle.lists.proofs.FlatMapLaws.{flatMap-length}
 use Rattle.quadtree.specs.Build.{part, Ready, Prepared, Candidates}
 use Rattle.quadtree.proofs.WalkLaws.{part-stored, ready-stored}
 

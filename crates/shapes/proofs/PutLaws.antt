@@ -1,14 +1,15 @@
 -- What runs of stores leave: the numbers of a triangle, and of a table.
 -- Assumes nothing.
-use mathlib.Core.Path.{_≡_, refl, sym, _∙_, ap, ap₂}
+use mathlib.Core.Path.{_≡_, refl, sym, _∙_, ap}
 use mathlib.Core.List.{List, [], _∷_, _++_, flatMap, append-nil, append-assoc}
 use Prim.Native.Nat.{ℕ, _+_, _*_}
 use native.Mathlib.Numerals.{add-one, add-two}
 use native.Mathlib.Omega.{arith}
-use lib.ListN.{length, set, length-append}
+use lib.ListN.{length, set}
 use lib.Seq.{sets}
 use Rattle.lists.specs.Lists.{countFrom, upTo}
 use Rattle.lists.proofs.ListsLaws.{sets-join}
+use Rattle.lists.proofs.FlatMapLaws.{flatMap-length}
 use Rattle.plane.specs.declared.Point.{Point}
 use Rattle.plane.specs.Triangle.{Triangle}
 use Rattle.chart_spec.specs.Table.{triangleAt, tableOf}
@@ -58,11 +59,6 @@ module _ (f : Triangle → List ℕ) (c : ℕ) (size : (t : Triangle) → length
   flatMap-snoc [] t = append-nil (f t)
   flatMap-snoc (x ∷ xs) t = ap (λ r. f x ++ r) (flatMap-snoc xs t) ∙ sym (append-assoc (f x) (flatMap f xs) (f t))
 
-  pub flatMap-length : (l : List Triangle) → length (flatMap f l) ≡ c * length l
-  unfolding flatMap
-  flatMap-length [] = omega arith
-  flatMap-length (x ∷ xs) = length-append (f x) (flatMap f xs) ∙ ap₂ _+_ (size x) (flatMap-length xs) ∙ omega arith
-
   -- storing the numbers of triangle i after those of the triangles before it
   pub stored-next : (l l′ l″ ns : List ℕ) (i : ℕ)
       → l′ ≡ sets l 0 (flatMap f (tableOf ns i))
@@ -71,7 +67,7 @@ module _ (f : Triangle → List ℕ) (c : ℕ) (size : (t : Triangle) → length
   stored-next l l′ l″ ns i e g =
       g
       ∙ ap (λ s. sets s (c * i) (f (triangleAt ns i))) e
-      ∙ sets-join l 0 (c * i) (flatMap f (tableOf ns i)) (f (triangleAt ns i)) (rw (flatMap-length, tableOf-length) (omega arith))
+      ∙ sets-join l 0 (c * i) (flatMap f (tableOf ns i)) (f (triangleAt ns i)) (rw (flatMap-length f c size, tableOf-length) (omega arith))
       ∙ ap (sets l 0) (sym (flatMap-snoc (tableOf ns i) (triangleAt ns i)) ∙ ap (flatMap f) (sym (tableOf-suc ns i) ∙ ap (tableOf ns) (sym (add-one i))))
 
   -- before the first triangle nothing is stored
