@@ -5,9 +5,9 @@ use mathlib.Core.Bool.{Bool, true, false}
 use mathlib.Core.List.{List, [], _∷_, map}
 use mathlib.Core.Option.{Option, none, some}
 use Prim.Native.Nat.{ℕ}
-use Rattle.chart_spec.specs.Refusals.{shortBuffer, brokenChain, staleEntries, badLength, faultyTriangle, noSuchTriangle, notInside, notThreeAround, noFlip, tableFull, tooManyEntries, Outcome, refused, done}
+use Rattle.chart_spec.specs.Refusals.{shortBuffer, brokenChain, staleEntries, badLength, faultyTriangle, noSuchTriangle, notInside, notThreeAround, noFlip, tableFull, tooManyEntries, tooManyPairs, Outcome, refused, done}
 use Rattle.call_spec.specs.Calls as Calls
-use Rattle.answers.specs.Outcomes.{changeOutcome, changedOf, locatedOutcome, locatedOf, soundnessOutcome, soundnessOf, areaOutcome, areaOf}
+use Rattle.answers.specs.Outcomes.{changeOutcome, changedOf, locatedOutcome, locatedOf, soundnessOutcome, soundnessOf, areaOutcome, areaOf, overlayOutcome, overlaidOf}
 use Rattle.answers.specs.declared.Change.{Change}
 use Rattle.answers.specs.declared.Change.the-variants as changes
 use Rattle.answers.specs.declared.Changed.{Changed}
@@ -17,6 +17,8 @@ use Rattle.answers.specs.declared.Soundness.{Soundness}
 use Rattle.answers.specs.declared.Soundness.the-variants as soundnesses
 use Rattle.answers.specs.declared.Area.{Area}
 use Rattle.answers.specs.declared.Area.the-variants as areas
+use Rattle.answers.specs.declared.Overlay.{Overlay}
+use Rattle.answers.specs.declared.Overlay.the-variants as overlays
 use Rattle.call_spec.proofs.Evaluate.{evaluate}
 
 -- Load and the edits
@@ -130,3 +132,22 @@ area-example : map (λ r. areaOf r) allAreas
     ∷ []
 unfolding evaluate
 area-example = refl
+
+-- Overlay
+
+abbrev allOverlays : List Overlay
+allOverlays = overlays.Done ∷ overlays.ShortBuffer ∷ overlays.BrokenChain ∷ overlays.TooManyPairs ∷ []
+
+overlay-outcome-example : map (λ o. overlayOutcome o) allOverlays
+    ≡ done true ∷ refused shortBuffer ∷ refused brokenChain ∷ refused tooManyPairs ∷ []
+overlay-outcome-example = refl
+
+-- the number, the counts and the list, each in its place
+overlaid-example : map (λ o. overlaidOf (record { overlay = o; pairs = 3; meetings = 8 }) (1 ∷ 2 ∷ [])) allOverlays
+    ≡ record { number = 0; pairCount = 3; meets = 8; pairs = 1 ∷ 2 ∷ [] }
+    ∷ record { number = 1; pairCount = 3; meets = 8; pairs = 1 ∷ 2 ∷ [] }
+    ∷ record { number = 2; pairCount = 3; meets = 8; pairs = 1 ∷ 2 ∷ [] }
+    ∷ record { number = 12; pairCount = 3; meets = 8; pairs = 1 ∷ 2 ∷ [] }
+    ∷ []
+unfolding evaluate
+overlaid-example = refl

@@ -4,7 +4,7 @@ use mathlib.Core.Bool.{Bool, true, false}
 use mathlib.Core.List.{List}
 use mathlib.Core.Option.{Option, none, some}
 use Prim.Native.Nat.{ℕ}
-use Rattle.chart_spec.specs.Refusals.{shortBuffer, brokenChain, staleEntries, badLength, faultyTriangle, noSuchTriangle, notInside, notThreeAround, noFlip, tableFull, tooManyEntries, Outcome, refused, done, outcomeNumber, outcomeValue, doneOr}
+use Rattle.chart_spec.specs.Refusals.{shortBuffer, brokenChain, staleEntries, badLength, faultyTriangle, noSuchTriangle, notInside, notThreeAround, noFlip, tableFull, tooManyEntries, tooManyPairs, Outcome, refused, done, outcomeNumber, outcomeValue, doneOr}
 use Rattle.call_spec.specs.Buffers.{chartOf}
 use Rattle.call_spec.specs.Calls as Calls
 use Rattle.answers.specs.declared.Judged.{Judged}
@@ -18,6 +18,9 @@ use Rattle.answers.specs.declared.Soundness.{Soundness}
 use Rattle.answers.specs.declared.Soundness.the-variants as soundnesses
 use Rattle.answers.specs.declared.Area.{Area}
 use Rattle.answers.specs.declared.Area.the-variants as areas
+use Rattle.answers.specs.declared.Overlay.{Overlay}
+use Rattle.answers.specs.declared.Overlay.the-variants as overlays
+use Rattle.answers.specs.declared.Overlaid.{Overlaid}
 
 -- a chart before a call: nothing against it, or refusal 1, 2 or 3
 abbrev pub judgedOutcome : Judged → Outcome Bool
@@ -80,3 +83,19 @@ areaOutcome areas.BrokenChain = refused brokenChain
 -- its number and sum; "Other numbers returned are 0" at a refusal
 abbrev pub areaOf : Area → Calls.Area
 areaOf r = record { number = outcomeNumber (areaOutcome r); area = doneOr 0 (areaOutcome r) }
+
+-- an overlay: done with nothing more to say than the pairs and the counts, or refused
+abbrev pub overlayOutcome : Overlay → Outcome Bool
+overlayOutcome overlays.Done = done true
+overlayOutcome overlays.ShortBuffer = refused shortBuffer
+overlayOutcome overlays.BrokenChain = refused brokenChain
+overlayOutcome overlays.TooManyPairs = refused tooManyPairs
+
+-- all that an overlay gives back: number, counts and pairs
+abbrev pub overlaidOf : Overlaid → List ℕ → Calls.Overlaid
+overlaidOf r pairs = record {
+  number = outcomeNumber (overlayOutcome (r .overlay));
+  pairCount = r .pairs;
+  meets = r .meetings;
+  pairs = pairs;
+}

@@ -53,3 +53,18 @@ pub enum Area {
     ShortBuffer,
     BrokenChain,
 }
+
+// How an overlay went.
+pub enum Overlay {
+    Done,
+    ShortBuffer,
+    BrokenChain,
+    TooManyPairs,
+}
+
+// That, the pairs listed and the meetings.
+pub struct Overlaid {
+    pub overlay: Overlay,
+    pub pairs: usize,
+    pub meetings: usize,
+}
