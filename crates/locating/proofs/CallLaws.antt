@@ -4,8 +4,10 @@ use mathlib.Core.Path.{_≡_, refl, sym, _∙_, ap}
 use mathlib.Core.Bool.{true, false}
 use mathlib.Core.List.{List, []}
 use mathlib.Core.Option.{Option, none, some}
-use Prim.Native.Nat.{ℕ}
+use Prim.Native.Nat.{ℕ, _≤_, _<_}
+use lib.ListN.{length, getD}
 use Rattle.lists.specs.Lists.{first}
+use Rattle.squares.specs.Square.{arity, depth}
 use Rattle.plane.specs.declared.Point.{Point}
 use Rattle.plane.specs.Triangle.{holds}
 use Rattle.chart_spec.specs.Table.{triangleAt}
@@ -14,8 +16,12 @@ use Rattle.chart_spec.specs.Reading.{listing}
 use Rattle.call_spec.specs.Buffers.{Chart, tooShort, chainRule, chartEntries}
 use Rattle.call_spec.specs.Calls as Calls
 use Rattle.call_spec.specs.Calls.{ifChained, locateCall}
+use Rattle.call_laws.proofs.BufferLaws.{searchable}
 use Rattle.call_laws.proofs.ReaderLaws.{reading-refused, reading-done, located-done, located-first}
-use Rattle.search.specs.Place.{listedPlaces}
+use Rattle.search.specs.Passes.{Rises}
+use Rattle.cell_items.specs.Place.{listedPlaces}
+use Rattle.cell_items.proofs.ListingLaws.{ChainLists}
+use Rattle.cell_items.proofs.PointLaws.{keys-rise, first-key}
 use Rattle.answers.specs.declared.Located.{Located}
 use Rattle.answers.specs.declared.Located.the-variants as locations
 use Rattle.answers.specs.Outcomes.{locatedOf}
@@ -39,6 +45,17 @@ module _ (c : Chart) (p : Point) where
     pub places-done : listedPlaces (chartEntries c) p ≡ placesCall c p
     unfolding placesCall doneOr
     places-done = ap (doneOr []) (reading-done c s r (listedPlaces (chartEntries c) p))
+
+    -- its lists have entries, which satisfy the chain rule
+    chained : ChainLists arity depth (c .triangleCount) (c .keys) (c .levels) (c .items) (c .entryCount)
+    chained =
+        let h = searchable c s r in record { keys = h .0 .0; levels = h .0 .1 .0; items = h .0 .1 .1; rule = rw (h .1) tt }
+
+    -- they can be searched
+    pub lists-searchable : ((c .entryCount ≤ length (c .keys)) × (c .entryCount ≤ length (c .items)))
+        × ((0 < c .entryCount) × ((getD (c .keys) 0 0 ≡ 0) × Rises (c .keys) (c .entryCount)))
+    lists-searchable =
+        let h = chained in ((h .keys, h .items), (first-key h .0, (first-key h .1, keys-rise h)))
 
     -- locate is the first listed triangle that holds the point
     pub locate-done : {l : List ℕ} → l ≡ listing (chartEntries c) p → {a : Located} → a ≡ foundOf (first (λ i. holds (triangleAt (c .table) i) p) l)

@@ -6,7 +6,7 @@ use Rattle.plane.specs.declared.Point.{Point}
 use Rattle.chart_spec.specs.Refusals.{doneOr}
 use Rattle.call_spec.specs.Buffers.{Chart, chartEntries}
 use Rattle.call_spec.specs.Calls.{reading}
-use Rattle.search.specs.Place.{listedPlaces}
+use Rattle.cell_items.specs.Place.{listedPlaces}
 
 -- the places of the cell's own entries, without the mark; none at refusals 1 and 2
 unfoldable pub placesCall : Chart → Point → List ℕ

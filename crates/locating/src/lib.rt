@@ -12,7 +12,7 @@ ghost use Rattle.chart_spec.specs.Table.{numbersPerTriangle, triangleAt};
 ghost use Rattle.call_spec.specs.Buffers.{chartOf};
 ghost use Rattle.call_spec.specs.Calls.{locateCall, listingCall};
 ghost use Rattle.call_spec.specs.Calls.{Located as Calls·Located};
-ghost use Rattle.search.specs.Place.{OwnPart};
+ghost use Rattle.cell_items.specs.Place.{OwnPart};
 ghost use Rattle.answers.specs.Outcomes.{locatedOf};
 ghost use Rattle.locating.specs.Holding.{foundOf};
 ghost use Rattle.locating.specs.Places.{placesCall};
@@ -50,7 +50,7 @@ pub fn cell_listing<'a, 'b, 'c, 'd>(
     let Judged::Fine = chains::judge(table, keys, levels, items, triangles, entries) else {
         return &items[0..0];
     };
-    search::listing(keys, levels, items, triangles, entries, p)
+    cell_items::listing(keys, items, entries, p)
 }
 
 // Locate p: the lowest numbered triangle, among those listed in the cell whose key range has Z(p), that holds p.
@@ -69,7 +69,7 @@ pub fn locate(
         Judged::Fine => first_holding(
             table,
             triangles,
-            search::listing(keys, levels, items, triangles, entries, p),
+            cell_items::listing(keys, items, entries, p),
             p,
         ),
         Judged::ShortBuffer => Located::ShortBuffer,

@@ -3,6 +3,7 @@
 -- Assumes nothing.
 use mathlib.Core.List.{List}
 use Prim.Native.Nat.{ℕ, _+_, _≤_, _<_}
+use native.Mathlib.Decide.{decLe}
 use native.Mathlib.Omega.{arith}
 use lib.ListN.{getD}
 use Rattle.search.specs.Passes.{Rises, Passes}
@@ -49,3 +50,12 @@ bracket-met s h = record {
   before = s .before;
   after = λ i g l. s .after i (omega arith) l;
 }
+
+module _ {keys : List ℕ} {n b r : ℕ} (p : Passes keys n b r) (m : ℕ) (l : m < n) where
+  -- a key that is below the bound is before the place
+  pub passed : getD keys m 0 < b → m < r
+  passed h = elim (decLe r m) [ yes g ↦ absurd (let k = p .after m g l in omega arith) | no g ↦ omega arith ]
+
+  -- one that is not below it is not
+  pub not-passed : b ≤ getD keys m 0 → r ≤ m
+  not-passed h = elim (decLe r m) [ yes g ↦ g | no g ↦ absurd (let k = p .before m (omega arith) in omega arith) ]

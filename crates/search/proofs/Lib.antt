@@ -1,7 +1,1 @@
 pub mod HalvesLaws
-pub mod BlockLaws
-pub mod MarkLaws
-pub mod ListingLaws
-pub mod PointLaws
-pub mod PlaceLaws
-pub mod Examples

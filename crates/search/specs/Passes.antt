@@ -1,7 +1,7 @@
--- Keys that never fall, and the place from which on they are not below a bound.
+-- Keys that never fall, the place from which on they are not below a bound, and a block of equal keys.
 -- Assumes nothing.
 use mathlib.Core.List.{List}
-use Prim.Native.Nat.{ℕ, _≤_, _<_}
+use Prim.Native.Nat.{ℕ, _+_, _-_, _≤_, _<_}
 use lib.ListN.{getD}
 
 -- the first n keys never fall
@@ -13,3 +13,10 @@ pub record Passes (keys : List ℕ) (n b r : ℕ) : Type 0 where
   pub within : r ≤ n
   pub before : (i : ℕ) → i < r → getD keys i 0 < b
   pub after : (i : ℕ) → r ≤ i → i < n → b ≤ getD keys i 0
+
+-- of the first n keys, those from place from up to place to, at least one, are the last block at or below k: they end where keys
+-- pass k, and start where keys reach the last of them
+pub record LastBlock (keys : List ℕ) (n k from to : ℕ) : Type 0 where
+  pub some : from < to
+  pub ends : Passes keys n (k + 1) to
+  pub starts : Passes keys n (getD keys (to - 1) 0) from

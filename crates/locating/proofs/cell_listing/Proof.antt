@@ -17,9 +17,9 @@ use Rattle.answers.proofs.Judged as judged
 use Rattle.answers.specs.declared.Judged.{Judged}
 use Rattle.answers.specs.declared.Judged.the-variants as judgements
 use Rattle.answers.specs.Outcomes.{judgedOutcome}
-use Rattle.search.specs.Place.{OwnPart}
-use Rattle.search.proofs.PlaceLaws.{own-part}
-use Rattle.locating.proofs.CallLaws.{places-refused, places-done}
+use Rattle.cell_items.specs.Place.{OwnPart}
+use Rattle.cell_items.proofs.PlaceLaws.{own-part}
+use Rattle.locating.proofs.CallLaws.{lists-searchable, places-refused, places-done}
 use Rattle.locating.proofs.cell_listing.Statement.{statement}
 use Rattle.locating.proofs.cell_listing.Tie as tie
 
@@ -74,16 +74,21 @@ fine c =
 
 listing-requires : tie.Need-listing-requires
 listing-requires c κs =
-    searchable (chart (c .before .before .before .before .before .before .before)) (fine c .0) (fine c .1)
+    let top = c .before .before .before .before .before .before .before in
+    lists-searchable (chart top) (top .args .p) (fine c .0) (fine c .1)
 
 returns-2 : tie.Need-returns-2
 unfolding chartEntries
 returns-2 c =
     let top = c .before .before .before .before .before .before .before .before in
     let s = fine (c .before) .0 in
-    let r = fine (c .before) .1 in (
-      c .listing .ensures .0 ∙ listing-done (chart top) s r (top .args .p),
-      subst (OwnPart (top .args .items) (c .listing .result)) (places-done (chart top) (top .args .p) s r) (c .listing .ensures .1),
+    let r = fine (c .before) .1 in
+    let h = searchable (chart top) s r in
+    let n = top .args .triangles in
+    let levels = top .args .levels .now in (
+      c .listing .ensures .0 n levels (h .0 .1 .0) (h .1) ∙ listing-done (chart top) s r (top .args .p),
+      subst (OwnPart (top .args .items) (c .listing .result)) (places-done (chart top) (top .args .p) s r)
+          (c .listing .ensures .1 n levels (h .0 .1 .0) (h .1)),
     )
 
 pub cell-listing-spec : {M : Type 1} → statement M

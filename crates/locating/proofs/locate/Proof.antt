@@ -2,12 +2,13 @@ use mathlib.Core.Path.{_≡_, sym, _∙_, ap}
 use mathlib.Core.Bool.{true, false}
 use borrow.Author.Needs.{needs}
 use Rattle.chart_spec.specs.Refusals.{outcomeNumber, doneOr}
+use Rattle.chart_spec.specs.Reading.{listing}
 use Rattle.call_spec.specs.Buffers.{Chart, chartOf, chartEntries, tooShort, chainRule}
 use Rattle.call_laws.proofs.BufferLaws.{searchable}
 use Rattle.call_laws.proofs.JudgeLaws.{chained-passed, chained-not-stale}
 use Rattle.call_laws.proofs.ReaderLaws.{locate-refused, table-holds}
 use Rattle.answers.specs.Outcomes.{judgedOutcome}
-use Rattle.locating.proofs.CallLaws.{locate-done}
+use Rattle.locating.proofs.CallLaws.{lists-searchable, locate-done}
 use Rattle.locating.proofs.locate.Statement.{statement}
 use Rattle.locating.proofs.locate.Tie as tie
 
@@ -30,14 +31,23 @@ fine c =
 
 listing-requires : tie.Need-listing-requires
 listing-requires c κs =
-    searchable (chart (c .before .before .before .before .before .before .before)) (fine c .0) (fine c .1)
+    let top = c .before .before .before .before .before .before .before in
+    lists-searchable (chart top) (top .args .p) (fine c .0) (fine c .1)
+
+-- what is listed
+listed : (c : tie.After-listing) → let top = c .before .before .before .before .before .before .before .before in
+    c .listing .result .now ≡ listing (chartEntries (chart top)) (top .args .p)
+unfolding chartEntries
+listed c =
+    let top = c .before .before .before .before .before .before .before .before in
+    let h = searchable (chart top) (fine (c .before) .0) (fine (c .before) .1) in
+    c .listing .ensures .0 (top .args .triangles) (top .args .levels .now) (h .0 .1 .0) (h .1)
 
 first-holding-requires : tie.Need-first-holding-requires
-unfolding chartEntries
 first-holding-requires c κs =
     let b = c .before in
     let top = b .before .before .before .before .before .before .before in
-    table-holds (chart top) (fine b .0) (fine b .1) (top .args .p) (c .listing .ensures .0)
+    table-holds (chart top) (fine b .0) (fine b .1) (top .args .p) (listed c)
 
 enum-told-2 : tie.Need-enum-told-2
 enum-told-2 c = search needs
@@ -49,12 +59,11 @@ enum-told-4 : tie.Need-enum-told-4
 enum-told-4 c = search needs
 
 returns : tie.Need-returns
-unfolding chartEntries
 returns c =
     let l = c .before in
     let b = l .before in
     let top = b .before .before .before .before .before .before .before in
-    locate-done (chart top) (top .args .p) (fine b .0) (fine b .1) (l .listing .ensures .0) (c .first-holding .ensures)
+    locate-done (chart top) (top .args .p) (fine b .0) (fine b .1) (listed l) (c .first-holding .ensures)
 
 returns-2 : tie.Need-returns-2
 unfolding outcomeNumber doneOr

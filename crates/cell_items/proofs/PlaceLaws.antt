@@ -8,7 +8,7 @@ use denote.Ref.{RefT}
 use lib.ListN.{length, take, drop}
 use Rattle.lists.specs.Lists.{countFrom}
 use Rattle.lists.proofs.PartLaws.{part-length}
-use Rattle.search.specs.Place.{OwnPart}
+use Rattle.cell_items.specs.Place.{OwnPart}
 
 -- the elements from place f up to place t, in the list's own memory
 pub own-part : {list part : RefT (List ℕ)} {places : List ℕ} (f t : ℕ) → f ≤ t → t ≤ length (list .now)

@@ -16,9 +16,9 @@ use Rattle.orthtree.specs.Entries.{Entry, emptyMark, isMark, span, covers, chai
 use Rattle.orthtree.proofs.ChainLaws.{isMark-reflects}
 use Rattle.call_spec.specs.Buffers.{zipEntries}
 use Rattle.call_laws.proofs.EntriesLaws.{first-count, first-at}
 use Rattle.search.specs.Passes.{Rises, Passes}
-use Rattle.search.proofs.BlockLaws.{CellPart, keys-rise, to-positive, cell-part}
-use Rattle.search.proofs.MarkLaws.{all-items, all-marks, items-kept, mark-dropped}
+use Rattle.cell_items.proofs.BlockLaws.{CellPart, chain-starts, keys-rise, cell-part}
+use Rattle.cell_items.proofs.MarkLaws.{all-items, all-marks, items-kept, mark-dropped}
 
 -- three lists have n entries, which satisfy the chain rule
 pub record ChainLists (arity depth count : ℕ) (ks ls is : List ℕ) (n : ℕ) : Type 0 where
@@ -65,19 +65,17 @@ module _ {arity depth count : ℕ} {ks ls is : List ℕ} {n : ℕ} (pos : 0 < ar
   pub rises : Rises ks n
   rises = keys-rise arity depth count pos es (r .rule) nowhere ks n es-length key-at
 
-  module _ {k to : ℕ} (p : Passes ks n (k + 1) to) (low : k < span arity depth 0) where
-    -- some entry is at or before the key
-    pub some-before : 0 < to
-    some-before = to-positive arity depth count pos es (r .rule) nowhere ks n es-length key-at k to p low
+  -- there is a first one, which is 0
+  pub starts : (0 < n) × (getD ks 0 0 ≡ 0)
+  starts =
+      let b = chain-starts arity depth count pos es (r .rule) nowhere in
+      let l : 0 < n = omega (arith, es-length, b .0) in (l, sym (key-at 0 l) ∙ b .1)
 
+  module _ {k to : ℕ} (p : Passes ks n (k + 1) to) (low : k < span arity depth 0) where
     module _ {from : ℕ} (q : Passes ks n (getD ks (to - 1) 0) from) where
       -- the entries of the cell that has the key
       part : CellPart arity depth k es nowhere from to
       part = cell-part arity depth count pos es (r .rule) nowhere ks n es-length key-at k to p low from q
-
-      -- the cell has an entry
-      pub some-entry : from < to
-      some-entry = part .some
 
       first-item : getD es from nowhere .item ≡ getD is from 0
       first-item = item-at from (omega (arith, part .some, p .within))

@@ -3,7 +3,7 @@
 -- cell's entries start where keys reach that one's.
 -- Assumes nothing.
 use mathlib.Core.Path.{_≡_, sym, _∙_, ap₂}
-use mathlib.Core.List.{List}
+use mathlib.Core.List.{List, [], _∷_}
 use mathlib.Core.Logic.{inl, inr}
 use Prim.Native.Nat.{ℕ, _+_, _-_, _≤_, _<_}
 use native.Mathlib.Decide.{decLe}
@@ -17,10 +17,11 @@ use Rattle.lists.proofs.Runs.{run-unique}
 use Rattle.lists.proofs.Order.{ordered-at}
 use Rattle.orthtree.specs.Entries.{Entry, span, rangeEnd, covers, chain}
 use Rattle.orthtree.proofs.EntriesLaws.{InRange, span-positive, covers-reflects}
-use Rattle.orthtree.proofs.ChainLaws.{same-end}
+use Rattle.orthtree.proofs.ChainLaws.{ChainFrom, end, start, chain-reflects, same-end}
 use Rattle.orthtree.proofs.ChainOrderLaws.{Before, before-end, chain-ordered, chain-keys-rise}
 use Rattle.orthtree.proofs.ChainBlockLaws.{endedAt, startedAt, endedBy, startedBy, chain-block, chain-block-some}
 use Rattle.search.specs.Passes.{Rises, Passes}
+use Rattle.search.proofs.HalvesLaws.{not-passed}
 
 -- the entries of the cell that has the key k are those from place from up to place to, at least one, with one key
 pub record CellPart (arity depth k : ℕ) (es : List Entry) (d : Entry) (from to : ℕ) : Type 0 where
@@ -30,12 +31,14 @@ pub record CellPart (arity depth k : ℕ) (es : List Entry) (d : Entry) (from to
   pub entries : filter (λ e. covers arity depth k e) es ≡ take (to - from) (drop from es)
   pub places : (i : ℕ) → i < length es → Reflects (covers arity depth k (getD es i d)) ((from ≤ i) × (i < to))
 
--- the place from which on keys are not below the key at place m is not after m
-reach : (keys : List ℕ) (n m r : ℕ) → m < n → Passes keys n (getD keys m 0) r → r ≤ m
-reach keys n m r l q = elim (decLe r m) [
-  | yes h ↦ h
-  | no h ↦ absurd (let g = q .before m (omega arith) in omega arith)
-]
+-- a chain has a first entry, with key 0
+pub chain-starts : (arity depth count : ℕ) → 0 < arity → (es : List Entry) → T (chain arity depth count es) → (d : Entry)
+    → (0 < length es) × (getD es 0 d .key ≡ 0)
+chain-starts arity depth count pos es rule d = go es (chain-reflects arity depth pos count es .to rule)
+  where
+    go : (es : List Entry) → ChainFrom arity depth count 0 es → (0 < length es) × (getD es 0 d .key ≡ 0)
+    go [] (end h) = absurd (let p = span-positive arity depth 0 pos in omega arith)
+    go (e ∷ es) (start h f c) = (omega arith, h)
 
 module _ (arity depth count : ℕ) (pos : 0 < arity) (es : List Entry) (rule : T (chain arity depth count es)) (d : Entry)
     (keys : List ℕ) (n : ℕ) (len : length es ≡ n) (same : (i : ℕ) → i < n → getD es i d .key ≡ getD keys i 0) where
@@ -102,7 +105,7 @@ module _ (arity depth count : ℕ) (pos : 0 < arity) (es : List Entry) (rule : T
       module _ (from : ℕ) (q : Passes keys n (getD keys (to - 1) 0) from) where
         -- the key at place to - 1 is not below itself
         from-below : from < to
-        from-below = omega (arith, to-positive, reach keys n (to - 1) from last-in q)
+        from-below = omega (arith, to-positive, not-passed q (to - 1) last-in (omega arith))
 
         -- keys between the two places are the same
         block-key : (i : ℕ) → from ≤ i → i < to → getD keys i 0 ≡ getD keys (to - 1) 0

@@ -10,7 +10,7 @@ use Rattle.lists.specs.Lists.{placesFrom, countFrom}
 use Rattle.orthtree.specs.Morton.{lowestBits, mortonKey}
 use Rattle.orthtree.specs.Entries.{Entry, emptyMark, isMark, span, rangeEnd, covers}
 use Rattle.squares.specs.Square.{zOrder}
-use Rattle.search.specs.Place.{listedPlaces, OwnPart}
+use Rattle.cell_items.specs.Place.{listedPlaces, OwnPart}
 
 abbrev e : ℕ → ℕ → Entry
 e k i = record { key = k; level = 1; item = i }

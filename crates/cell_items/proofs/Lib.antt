@@ -1,0 +1,6 @@
+pub mod BlockLaws
+pub mod MarkLaws
+pub mod ListingLaws
+pub mod PointLaws
+pub mod PlaceLaws
+pub mod Examples
