@@ -5,7 +5,6 @@ use mathlib.Core.List.{List, [], _∷_, map}
 use Prim.Native.Nat.{ℕ}
 use native.Mathlib.Omega.{arith}
 use base.Fml.{GName}
-use denote.Ref.{RefT}
 use Rattle.lists.specs.Lists.{placesFrom, countFrom}
 use Rattle.orthtree.specs.Morton.{lowestBits, mortonKey}
 use Rattle.orthtree.specs.Entries.{Entry, emptyMark, isMark, span, rangeEnd, covers}

@@ -11,7 +11,7 @@ use Rattle.squares.specs.Square.{arity, depth}
 use Rattle.plane.specs.declared.Point.{Point}
 use Rattle.plane.specs.Triangle.{holds}
 use Rattle.chart_spec.specs.Table.{triangleAt}
-use Rattle.chart_spec.specs.Refusals.{Refusal, Outcome, refused, done, outcomeNumber, doneOr}
+use Rattle.chart_spec.specs.Refusals.{Refusal, refused, done, outcomeNumber, doneOr}
 use Rattle.chart_spec.specs.Reading.{listing}
 use Rattle.call_spec.specs.Buffers.{Chart, tooShort, chainRule, chartEntries}
 use Rattle.call_spec.specs.Calls as Calls
@@ -23,7 +23,6 @@ use Rattle.cell_items.specs.Place.{listedPlaces}
 use Rattle.cell_items.proofs.ListingLaws.{ChainLists}
 use Rattle.cell_items.proofs.PointLaws.{keys-rise, first-key}
 use Rattle.answers.specs.declared.Located.{Located}
-use Rattle.answers.specs.declared.Located.the-variants as locations
 use Rattle.answers.specs.Outcomes.{locatedOf}
 use Rattle.locating.specs.Holding.{foundOf}
 use Rattle.locating.specs.Places.{placesCall}

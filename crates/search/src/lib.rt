@@ -1,6 +1,5 @@
 // Search by halves in keys that never fall, such as those of a chain of cells, where a cell is a block of equal keys.
 
-ghost use mathlib.Core.Path.{_≡_};
 ghost use Prim.Native.Nat.{_≤_, _<_};
 ghost use lib.ListN.{length, getD};
 ghost use Rattle.search.specs.Passes.{Rises, Passes, LastBlock};

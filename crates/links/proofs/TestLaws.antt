@@ -10,7 +10,7 @@ use lib.Dec.{leb, ltb, eqb}
 use Rattle.lists.proofs.Reflects.{reflects-and, reflects-leb, reflects-eqb, reflects-iff}
 use Rattle.lists.proofs.IndexLaws.{reflects-same}
 use Rattle.orthtree.specs.Entries.{emptyMark}
-use Rattle.chains.specs.Links.{itemFits}
+use Rattle.links.specs.Links.{itemFits}
 
 -- the second test counts only where the first passes
 pub and-then : (a : Bool) {b c : Bool} → (a ≡ true → b ≡ c) → a && b ≡ a && c

@@ -6,7 +6,7 @@ use mathlib.Core.Bool.{Bool, _&&_}
 use Prim.Native.Nat.{ℕ, _+_, _-_, _*_, _%_, _^_, _≤_, _<_}
 use native.Mathlib.Nat.{mod-self}
 use native.Mathlib.Omega.{arith}
-use lib.Bits.{bitAnd, bitOr, bitXor, and-le-l, and-le-r, and-mask, or-disjoint, xor-add-and, xor-self}
+use lib.Bits.{bitAnd, bitOr, bitXor, and-mask, or-disjoint, xor-add-and}
 use lib.Dec.{T, leb, eqb}
 use Rattle.lists.specs.Lists.{all, countFrom, upTo}
 use Rattle.lists.proofs.Reflects.{reflects-and₃, reflects-eqb, reflects-leb}

@@ -16,8 +16,8 @@ use Rattle.lists.proofs.IndexLaws.{reflects-same, all-below-reflects}
 use Rattle.orthtree.specs.Entries.{Entry, isMark, span, rangeEnd, entryFits, follows, chain}
 use Rattle.squares.specs.Square.{arity, depth}
 use Rattle.call_spec.specs.Buffers.{zipEntries}
-use Rattle.chains.specs.Links.{entryAt, itemFits, aligned, linked, linkedAt, endsTree}
-use Rattle.chains.proofs.ChainLaws.{Chained, chain-reflects}
+use Rattle.links.specs.Links.{entryAt, itemFits, aligned, linked, linkedAt, endsTree}
+use Rattle.entry_chains.proofs.ChainLaws.{Chained, chain-reflects}
 
 -- two tests pass together
 both : (a b : Bool) → Reflects (a && b) (T a × T b)

@@ -7,8 +7,8 @@ use lib.ListN.{getD}
 use Rattle.lists.specs.Lists.{all, upTo}
 use Rattle.lists.proofs.IndexLaws.{all-below-none, all-below-step}
 use Rattle.squares.specs.Square.{depth}
-use Rattle.chains.proofs.levels_fit.Statement.{statement}
-use Rattle.chains.proofs.levels_fit.Tie as tie
+use Rattle.entry_chains.proofs.levels_fit.Statement.{statement}
+use Rattle.entry_chains.proofs.levels_fit.Tie as tie
 
 abbrev Inv-loop : tie.InvT-loop
 Inv-loop levels n ok₀ i₀ ok i = (i ≤ n) × (ok ≡ all (λ k. leb (getD levels k 0) depth) (upTo i))

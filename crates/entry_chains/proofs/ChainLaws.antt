@@ -12,7 +12,7 @@ use Rattle.lists.proofs.Reflects.{Reflects, reflects-and, reflects-then, reflec
 use Rattle.orthtree.specs.Entries.{Entry, span, rangeEnd, entryFits, follows, chainAfter, chain}
 use Rattle.call_spec.specs.Buffers.{zipEntries}
 use Rattle.call_laws.proofs.EntriesLaws.{first-count, first-at}
-use Rattle.chains.specs.Links.{entry, entryAt}
+use Rattle.links.specs.Links.{entry, entryAt}
 
 -- what holds at 0, and at one more than each number below n, holds at each number below n + 1
 below-cons : (P : ℕ → Type 0) {n : ℕ} → P 0 → ((i : ℕ) → i < n → P (suc i)) → (i : ℕ) → i < suc n → P i

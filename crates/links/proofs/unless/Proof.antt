@@ -1,6 +1,6 @@
 use borrow.Author.Needs.{needs}
-use Rattle.chains.proofs.unless.Statement.{statement}
-use Rattle.chains.proofs.unless.Tie as tie
+use Rattle.links.proofs.unless.Statement.{statement}
+use Rattle.links.proofs.unless.Tie as tie
 
 returns : tie.Need-returns
 returns c = search needs

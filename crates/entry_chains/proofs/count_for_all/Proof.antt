@@ -6,10 +6,10 @@ use lib.Dec.{leb, leb·zero}
 use lib.ListN.{getD}
 use Rattle.lists.specs.Lists.{all, upTo}
 use Rattle.lists.proofs.IndexLaws.{all-below-none, all-below-step}
-use Rattle.chains.specs.Links.{itemFits}
-use Rattle.chains.proofs.TestLaws.{leb-max}
-use Rattle.chains.proofs.count_for_all.Statement.{statement}
-use Rattle.chains.proofs.count_for_all.Tie as tie
+use Rattle.links.specs.Links.{itemFits}
+use Rattle.links.proofs.TestLaws.{leb-max}
+use Rattle.entry_chains.proofs.count_for_all.Statement.{statement}
+use Rattle.entry_chains.proofs.count_for_all.Tie as tie
 
 abbrev Inv-loop : tie.InvT-loop
 Inv-loop items n most₀ i₀ most i = (i ≤ n) × ((count : ℕ) → leb most count ≡ all (λ k. itemFits count (getD items k 0)) (upTo i))

@@ -1,7 +1,7 @@
-use Rattle.chains.proofs.LinkLaws.{last-ends}
+use Rattle.links.proofs.LinkLaws.{last-ends}
 use borrow.Author.Needs.{needs}
-use Rattle.chains.proofs.ends_tree.Statement.{statement}
-use Rattle.chains.proofs.ends_tree.Tie as tie
+use Rattle.links.proofs.ends_tree.Statement.{statement}
+use Rattle.links.proofs.ends_tree.Tie as tie
 
 low-bits-requires : tie.Need-low-bits-requires
 low-bits-requires c κs = search needs

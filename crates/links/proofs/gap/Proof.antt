@@ -2,11 +2,11 @@ use mathlib.Core.Path.{_∙_, sym}
 use Prim.Native.Nat.{_+_, _-_}
 use native.Mathlib.Omega.{arith}
 use borrow.Author.Tests.{ne-eqb}
-use Rattle.chains.proofs.TestLaws.{eqb-same}
+use Rattle.links.proofs.TestLaws.{eqb-same}
 use Rattle.numbers.proofs.BitLaws.{xor-zero}
 use borrow.Author.Needs.{needs}
-use Rattle.chains.proofs.gap.Statement.{statement}
-use Rattle.chains.proofs.gap.Tie as tie
+use Rattle.links.proofs.gap.Statement.{statement}
+use Rattle.links.proofs.gap.Tie as tie
 
 sub-result : tie.Need-sub-result
 sub-result c = search needs

@@ -1,7 +1,7 @@
-use Rattle.chains.proofs.LinkLaws.{fault-linked}
+use Rattle.links.proofs.LinkLaws.{fault-linked}
 use borrow.Author.Needs.{needs}
-use Rattle.chains.proofs.fault.Statement.{statement}
-use Rattle.chains.proofs.fault.Tie as tie
+use Rattle.links.proofs.fault.Statement.{statement}
+use Rattle.links.proofs.fault.Tie as tie
 
 low-bits-requires : tie.Need-low-bits-requires
 low-bits-requires c κs = search needs

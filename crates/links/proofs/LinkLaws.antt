@@ -9,9 +9,9 @@ use lib.Bits.{bitAnd, bitOr}
 use lib.Dec.{ltb, eqb}
 use Rattle.orthtree.specs.Entries.{emptyMark, isMark, sameCell, span, rangeEnd, follows}
 use Rattle.squares.specs.Square.{arity, depth}
-use Rattle.chains.specs.Links.{entry, aligned, linked, endsTree}
-use Rattle.chains.proofs.TestLaws.{and-then, and-skip, and-second, eqb-same, no-mark}
-use Rattle.chains.proofs.MaskLaws.{and-span, or-span}
+use Rattle.links.specs.Links.{entry, aligned, linked, endsTree}
+use Rattle.links.proofs.TestLaws.{and-then, and-skip, and-second, eqb-same, no-mark}
+use Rattle.links.proofs.MaskLaws.{and-span, or-span}
 use Rattle.numbers.proofs.BitLaws.{or-zero}
 
 -- u is 0 if the next entry comes again or the gap g is 0, and g is 0 if the next key is one more than the last of the square

@@ -1,9 +1,9 @@
 use native.Mathlib.Omega.{arith}
 use Prim.Native.Nat.{_-_, _*_}
-use Rattle.chains.proofs.MaskLaws.{span-deepest, half-at, xor-below}
+use Rattle.links.proofs.MaskLaws.{span-deepest, half-at, xor-below}
 use borrow.Author.Needs.{needs}
-use Rattle.chains.proofs.low_bits.Statement.{statement}
-use Rattle.chains.proofs.low_bits.Tie as tie
+use Rattle.links.proofs.low_bits.Statement.{statement}
+use Rattle.links.proofs.low_bits.Tie as tie
 
 mul-half : tie.Need-mul-half
 mul-half c = search needs

@@ -9,11 +9,11 @@ use Rattle.lists.specs.Lists.{all, upTo}
 use Rattle.lists.proofs.IndexLaws.{all-below-at, all-below-fewer}
 use Rattle.squares.specs.Square.{depth}
 use Rattle.call_spec.specs.Buffers.{zipEntries}
-use Rattle.chains.specs.Links.{entryAt}
-use Rattle.chains.proofs.PartLaws.{chain-none, chain-stopped, chain-joined}
+use Rattle.links.specs.Links.{entryAt}
+use Rattle.entry_chains.proofs.PartLaws.{chain-none, chain-stopped, chain-joined}
 use borrow.Author.Needs.{needs}
-use Rattle.chains.proofs.chain_holds.Statement.{statement}
-use Rattle.chains.proofs.chain_holds.Tie as tie
+use Rattle.entry_chains.proofs.chain_holds.Statement.{statement}
+use Rattle.entry_chains.proofs.chain_holds.Tie as tie
 
 returns : tie.Need-returns
 returns c =

@@ -1,8 +1,8 @@
 use native.Mathlib.Omega.{arith}
-use Rattle.chains.proofs.TestLaws.{item-count, mark-count}
+use Rattle.links.proofs.TestLaws.{item-count, mark-count}
 use borrow.Author.Needs.{needs}
-use Rattle.chains.proofs.count_for.Statement.{statement}
-use Rattle.chains.proofs.count_for.Tie as tie
+use Rattle.links.proofs.count_for.Statement.{statement}
+use Rattle.links.proofs.count_for.Tie as tie
 
 add-result : tie.Need-add-result
 add-result c = search needs

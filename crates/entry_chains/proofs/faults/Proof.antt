@@ -7,10 +7,10 @@ use lib.ListN.{getD}
 use Rattle.lists.specs.Lists.{all, upTo}
 use Rattle.lists.proofs.IndexLaws.{all-below-none, all-below-step, all-below-at}
 use Rattle.squares.specs.Square.{depth}
-use Rattle.chains.specs.Links.{linkedAt, entryAt}
+use Rattle.links.specs.Links.{linkedAt, entryAt}
 use Rattle.numbers.proofs.BitLaws.{or-zero}
-use Rattle.chains.proofs.faults.Statement.{statement}
-use Rattle.chains.proofs.faults.Tie as tie
+use Rattle.entry_chains.proofs.faults.Statement.{statement}
+use Rattle.entry_chains.proofs.faults.Tie as tie
 
 abbrev Inv-loop : tie.InvT-loop
 Inv-loop keys levels items next-keys next-levels next-items n found₀ i₀ found i =

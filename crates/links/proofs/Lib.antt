@@ -1,0 +1,3 @@
+pub mod TestLaws
+pub mod MaskLaws
+pub mod LinkLaws
