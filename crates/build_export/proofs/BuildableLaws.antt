@@ -9,7 +9,7 @@ use lib.ListN.{length}
 use Rattle.lists.specs.Lists.{all}
 use Rattle.lists.proofs.Reflects.{reflects-and, reflects-leb, reflects-eqb}
 use Rattle.plane.specs.Triangle.{proper}
-use Rattle.chart_spec.specs.Table.{tableOf, tableLength}
+use Rattle.chart_spec.specs.Table.{tableOf, tableLength, numbersPerTriangle}
 use Rattle.chart_spec.specs.Cells.{maxEntries}
 use Rattle.build_export.specs.Buildable.{lengthsFit, buildable}
 
@@ -24,7 +24,7 @@ module _ (table keys levels items : List ℕ) where
   pub lengths-fit : {fit : Bool} → fit ≡ lengthsFit table keys levels items → fit ≡ true → Lengths table keys levels items
   unfolding lengthsFit
   lengths-fit e y =
-      let whole = reflects-eqb (length table % 6) 0 in
+      let whole = reflects-eqb (length table % numbersPerTriangle) 0 in
       let few = reflects-leb (length table) tableLength in
       let k = reflects-leb maxEntries (length keys) in
       let l = reflects-leb maxEntries (length levels) in
@@ -33,7 +33,7 @@ module _ (table keys levels items : List ℕ) where
       record { table = h .0 .0 .0 .1; keys = h .0 .0 .1; levels = h .0 .1; items = h .1 }
 
   pub buildable-both : {fit turned : Bool} → fit ≡ lengthsFit table keys levels items → fit ≡ true
-      → turned ≡ all (λ t. proper t) (tableOf table (length table / 6)) → turned ≡ true
+      → turned ≡ all (λ t. proper t) (tableOf table (length table / numbersPerTriangle)) → turned ≡ true
       → buildable table keys levels items ≡ true
   unfolding buildable
   buildable-both e y p z = rw (← e, y, ← p, z)
@@ -43,7 +43,7 @@ module _ (table keys levels items : List ℕ) where
   unfolding buildable
   buildable-lengths e n = rw (← e, n)
 
-  pub buildable-proper : {turned : Bool} → turned ≡ all (λ t. proper t) (tableOf table (length table / 6)) → turned ≡ false
+  pub buildable-proper : {turned : Bool} → turned ≡ all (λ t. proper t) (tableOf table (length table / numbersPerTriangle)) → turned ≡ false
       → buildable table keys levels items ≡ false
   unfolding buildable
   buildable-proper p n = rw (← p, n) (and-false (lengthsFit table keys levels items))

@@ -16,7 +16,7 @@ use Rattle.lists.proofs.FlatMapLaws.{flatMap-length}
 use Rattle.orthtree.specs.Entries.{Entry, chain}
 use Rattle.plane.specs.Triangle.{Triangle, proper}
 use Rattle.squares.specs.Square.{arity, depth}
-use Rattle.chart_spec.specs.Table.{Table, pointAt, triangleAt, tableOf, triangleNumbers, tableNumbers, numbered, noTriangle, tableLength, maxTriangles}
+use Rattle.chart_spec.specs.Table.{Table, pointAt, triangleAt, tableOf, triangleNumbers, tableNumbers, numbered, noTriangle, tableLength, maxTriangles, numbersPerTriangle}
 use Rattle.chart_spec.specs.Cells.{entriesOf, maxEntries}
 use Rattle.chart_laws.proofs.ChainOfTable.{entries-chain}
 use Rattle.chart_laws.proofs.TableLaws.{numbered-at, tableOf-length}
@@ -27,34 +27,34 @@ use Rattle.call_laws.proofs.BufferLaws.{long-enough, table-proper, entr
 -- ---- the table
 
 -- a triangle has six numbers
-six : (t : Triangle) → length (triangleNumbers t) ≡ 6
+numbers-each : (t : Triangle) → length (triangleNumbers t) ≡ numbersPerTriangle
 unfolding triangleNumbers
-six t = refl
+numbers-each t = refl
 
 -- so a table has six for each of its triangles
-pub table-length : (t : Table) → length (tableNumbers t) ≡ 6 * length t
+pub table-length : (t : Table) → length (tableNumbers t) ≡ numbersPerTriangle * length t
 unfolding tableNumbers
-table-length t = flatMap-length (λ s. triangleNumbers s) 6 six t
+table-length t = flatMap-length (λ s. triangleNumbers s) numbersPerTriangle numbers-each t
 
 module _ (t : Table) (rest : List ℕ) (i : ℕ) (h : i < length t) where
   -- number m of triangle i stands at place k
-  number-at : (k m : ℕ) → k ≡ 6 * i + m → m < 6 → getD (tableNumbers t ++ rest) k 0 ≡ getD (triangleNumbers (numbered t i)) m 0
+  number-at : (k m : ℕ) → k ≡ numbersPerTriangle * i + m → m < numbersPerTriangle → getD (tableNumbers t ++ rest) k 0 ≡ getD (triangleNumbers (numbered t i)) m 0
   unfolding tableNumbers numbered
   number-at k m e l =
       List·getD-append (tableNumbers t) rest 0 k (omega (arith, table-length t))
       ∙ ap (λ j. getD (tableNumbers t) j 0) e
-      ∙ getD-stride (λ s. triangleNumbers s) 6 six t i m noTriangle h l
+      ∙ getD-stride (λ s. triangleNumbers s) numbersPerTriangle numbers-each t i m noTriangle h l
 
   -- triangle i
   triangle-at : triangleAt (tableNumbers t ++ rest) i ≡ numbered t i
   unfolding triangleAt pointAt triangleNumbers
   triangle-at =
-      let ax = number-at (6 * i) 0 (omega arith) (omega arith) in
-      let ay = number-at (6 * i + 1) 1 (omega arith) (omega arith) in
-      let bx = number-at (6 * i + 2) 2 (omega arith) (omega arith) in
-      let by = number-at (6 * i + 2 + 1) 3 (omega arith) (omega arith) in
-      let cx = number-at (6 * i + 4) 4 (omega arith) (omega arith) in
-      let cy = number-at (6 * i + 4 + 1) 5 (omega arith) (omega arith) in
+      let ax = number-at (numbersPerTriangle * i) 0 (omega arith) (omega arith) in
+      let ay = number-at (numbersPerTriangle * i + 1) 1 (omega arith) (omega arith) in
+      let bx = number-at (numbersPerTriangle * i + 2) 2 (omega arith) (omega arith) in
+      let by = number-at (numbersPerTriangle * i + 2 + 1) 3 (omega arith) (omega arith) in
+      let cx = number-at (numbersPerTriangle * i + 4) 4 (omega arith) (omega arith) in
+      let cy = number-at (numbersPerTriangle * i + 4 + 1) 5 (omega arith) (omega arith) in
       λ j. record { a = record { x = ax j; y = ay j }; b = record { x = bx j; y = by j }; c = record { x = cx j; y = cy j } }
 
 -- the triangles are read from their numbers, whatever comes after

@@ -14,7 +14,7 @@ use Rattle.lists.proofs.ListsLaws.{all-reflects}
 use Rattle.lists.proofs.EveryLaws.{every-imp}
 use Rattle.lists.proofs.EditedLists.{places-none}
 use Rattle.plane.specs.Triangle.{proper}
-use Rattle.chart_spec.specs.Table.{Table, IsTable, tableLength, tableOf, tableNumbers, sixteenBit}
+use Rattle.chart_spec.specs.Table.{Table, IsTable, tableLength, tableOf, tableNumbers, sixteenBit, numbersPerTriangle}
 use Rattle.chart_spec.specs.Refusals.{done, badLength}
 use Rattle.chart_spec.specs.Edits.{faulty, refuseFaulty, givenTable, loadTable}
 use Rattle.chart_laws.proofs.TableLaws.{tableOf-length, tableNumbers-take}
@@ -37,15 +37,15 @@ or-none false y n = absurd (n tt)
 pub load-table : (ns : List ℕ) (next : Table) → T (sixteenBit ns) → loadTable ns ≡ done next → IsTable next
 unfolding loadTable givenTable faulty
 load-table ns next h e =
-    let n = length ns / 6 in
-    let f = refuseIf-done (not (eqb (length ns % 6) 0) || ltb tableLength (length ns)) badLength e in
-    let g = or-none (eqb (length ns % 6) 0) (ltb tableLength (length ns)) (f .0) in
-    let m = eqb→eq (length ns % 6) 0 (g .0) in
+    let n = length ns / numbersPerTriangle in
+    let f = refuseIf-done (not (eqb (length ns % numbersPerTriangle) 0) || ltb tableLength (length ns)) badLength e in
+    let g = or-none (eqb (length ns % numbersPerTriangle) 0) (ltb tableLength (length ns)) (f .0) in
+    let m = eqb→eq (length ns % numbersPerTriangle) 0 (g .0) in
     let few : tableLength < length ns → ⊥ = λ l. g .1 (lt→ltb tableLength (length ns) l) in
     let r = faulty-done _ _ _ (f .1) in
     let s = places-none (λ t. not (proper t)) 0 (tableOf ns n) (r .0) in
-    let all6 : 6 * n ≡ length ns = omega arith in
-    let numbers : tableNumbers (tableOf ns n) ≡ ns = tableNumbers-take ns n (omega arith) ∙ rw (all6, take-length ns) in
+    let whole : numbersPerTriangle * n ≡ length ns = omega arith in
+    let numbers : tableNumbers (tableOf ns n) ≡ ns = tableNumbers-take ns n (omega arith) ∙ rw (whole, take-length ns) in
     subst IsTable (r .1) (record {
       few = omega (arith, tableOf-length ns n);
       oriented = all-reflects (λ t. proper t) (λ t. reflects-test (proper t)) (tableOf ns n) .from (every-imp (λ t. proper-not (proper t)) s);

@@ -13,7 +13,7 @@ use Rattle.lists.proofs.ListsLaws.{Every, getD-member}
 use Rattle.lists.proofs.FlatMapLaws.{flatMap-append}
 use Rattle.lists.proofs.IndexLaws.{upTo-suc, upTo-length}
 use Rattle.plane.specs.Triangle.{proper}
-use Rattle.chart_spec.specs.Table.{Table, pointAt, triangleAt, tableOf, numbered, noTriangle, triangleNumbers, tableNumbers}
+use Rattle.chart_spec.specs.Table.{Table, pointAt, triangleAt, tableOf, numbered, noTriangle, triangleNumbers, tableNumbers, numbersPerTriangle}
 
 -- a table of n triangles has n
 pub tableOf-length : (ns : List ℕ) (n : ℕ) → length (tableOf ns n) ≡ n
@@ -46,27 +46,27 @@ take-places (suc n) k ns h =
     ∙ ap (λ l. getD ns k 0 ∷ l) (take-places n (suc k) ns (omega arith))
 
 -- those of triangle n
-triangle-take : (ns : List ℕ) (n : ℕ) → 6 * n + 6 ≤ length ns → triangleNumbers (triangleAt ns n) ≡ take 6 (drop (6 * n) ns)
+triangle-take : (ns : List ℕ) (n : ℕ) → numbersPerTriangle * n + numbersPerTriangle ≤ length ns → triangleNumbers (triangleAt ns n) ≡ take numbersPerTriangle (drop (numbersPerTriangle * n) ns)
 unfolding triangleNumbers triangleAt pointAt countFrom
 triangle-take ns n h =
-    let k = 6 * n in
+    let k = numbersPerTriangle * n in
     let a : k + 1 ≡ suc k = omega arith in
     let b : k + 2 ≡ suc (suc k) = omega arith in
     let d : k + 2 + 1 ≡ suc (suc (suc k)) = omega arith in
     let e : k + 4 ≡ suc (suc (suc (suc k))) = omega arith in
     let f : k + 4 + 1 ≡ suc (suc (suc (suc (suc k)))) = omega arith in
-    rw (take-places 6 k ns h) (cc)
+    rw (take-places numbersPerTriangle k ns h) (cc)
 
--- the numbers of the first n triangles are the first 6 n numbers
-pub tableNumbers-take : (ns : List ℕ) (n : ℕ) → 6 * n ≤ length ns → tableNumbers (tableOf ns n) ≡ take (6 * n) ns
+-- the numbers of the first n triangles are the first numbers, so many for each
+pub tableNumbers-take : (ns : List ℕ) (n : ℕ) → numbersPerTriangle * n ≤ length ns → tableNumbers (tableOf ns n) ≡ take (numbersPerTriangle * n) ns
 unfolding tableNumbers tableOf upTo countFrom flatMap
 tableNumbers-take ns zero h = refl
 tableNumbers-take ns (suc n) h =
-    let m : 6 * suc n ≡ 6 * n + 6 = omega arith in
+    let m : numbersPerTriangle * suc n ≡ numbersPerTriangle * n + numbersPerTriangle = omega arith in
     ap (flatMap (λ t. triangleNumbers t)) (tableOf-suc ns n)
     ∙ flatMap-append (λ t. triangleNumbers t) (tableOf ns n) (triangleAt ns n ∷ [])
     ∙ ap₂ _++_ (tableNumbers-take ns n (omega arith)) (append-nil (triangleNumbers (triangleAt ns n)) ∙ triangle-take ns n (omega arith))
-    ∙ sym (take-add (6 * n) 6 ns)
+    ∙ sym (take-add (numbersPerTriangle * n) numbersPerTriangle ns)
     ∙ ap (λ k. take k ns) (sym m)
 
 -- where all triangles of a table have D > 0, so has each that a number below the count stands for
