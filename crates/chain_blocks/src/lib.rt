@@ -1,0 +1,1 @@
+// Blocks of two chains whose cells all overlap, by keys alone. No code.
