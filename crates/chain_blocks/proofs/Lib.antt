@@ -1,1 +1,4 @@
+pub mod JoinedLaws
+pub mod WholeLaws
+pub mod HeadsByKeys
 pub mod Examples

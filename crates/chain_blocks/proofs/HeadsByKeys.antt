@@ -1,0 +1,79 @@
+-- In a list that satisfies the chain rule equal keys beside each other are of one cell, so a part of it has as many cells as blocks of
+-- equal keys.
+-- Assumes nothing.
+use mathlib.Core.Path.{_≡_, refl, _∙_, ap}
+use mathlib.Core.Bool.{true, false, cond}
+use mathlib.Core.List.{List, [], _∷_, map, List·Memᴰ, List·Memᴰ·head, List·Memᴰ·tail, List·Memᴰ·not-nil, List·Memᴰ·cases-cons}
+use mathlib.Core.Logic.{_⊎_, inl, inr}
+use Prim.Native.Nat.{ℕ, zero, suc, _-_, _≤_, _<_}
+use native.Mathlib.Omega.{arith}
+use lib.Dec.{T, eqb}
+use lib.ListN.{length, take, drop}
+use Rattle.lists.proofs.Reflects.{reflects-eqb, reflects-true, reflects-false}
+use Rattle.lists.proofs.ListsLaws.{Every, every-uncons}
+use Rattle.lists.proofs.Order.{Ordered, ordered-none, ordered-more}
+use Rattle.orthtree.specs.Entries.{Entry, cellHeads, cellHeadsAfter, rangeEnd, span, chain}
+use Rattle.orthtree.proofs.EntriesLaws.{span-positive}
+use Rattle.orthtree.proofs.ChainLaws.{SameCell}
+use Rattle.orthtree.proofs.ChainHeadsLaws.{heads-same, heads-next}
+use Rattle.orthtree.proofs.ChainOrderLaws.{Before, chain-ordered}
+use Rattle.chain_blocks.specs.KeyBlocks.{changesAfter, keyBlocks}
+
+-- the elements that a list starts with are elements of it
+take-member : {A : Type 0} (n : ℕ) (l : List A) {x : A} → List·Memᴰ x (take n l) → List·Memᴰ x l
+take-member zero l m = absurd (List·Memᴰ·not-nil m)
+take-member (suc n) [] m = absurd (List·Memᴰ·not-nil m)
+take-member (suc n) (y ∷ ys) m = elim (List·Memᴰ·cases-cons m) [ inl e ↦ List·Memᴰ·head e | inr c ↦ List·Memᴰ·tail (take-member n ys c) ]
+
+-- an ordered list without its first elements, and without its last
+ordered-drop : {A : Type 0} {R : A → A → Type 0} (n : ℕ) {l : List A} → Ordered R l → Ordered R (drop n l)
+ordered-drop zero o = o
+ordered-drop (suc n) ordered-none = ordered-none
+ordered-drop (suc n) (ordered-more r o) = ordered-drop n o
+
+ordered-take : {A : Type 0} {R : A → A → Type 0} (n : ℕ) {l : List A} → Ordered R l → Ordered R (take n l)
+ordered-take zero o = ordered-none
+ordered-take (suc n) ordered-none = ordered-none
+ordered-take (suc n) (ordered-more {xs = xs} r o) = ordered-more (λ y m. r y (take-member n xs m)) (ordered-take n o)
+
+-- the same key again, and another key
+pub changes-same : (k l : ℕ) (ls : List ℕ) → k ≡ l → changesAfter k (l ∷ ls) ≡ changesAfter l ls
+unfolding changesAfter
+changes-same k l ls h = rw (changesAfter, reflects-true (reflects-eqb k l) h)
+
+pub changes-other : (k l : ℕ) (ls : List ℕ) → (k ≡ l → ⊥) → changesAfter k (l ∷ ls) ≡ suc (changesAfter l ls)
+unfolding changesAfter
+changes-other k l ls h = rw (changesAfter, reflects-false (reflects-eqb k l) h)
+
+module _ (arity depth : ℕ) (pos : 0 < arity) where
+  -- the keys of entries
+  abbrev keys : List Entry → List ℕ
+  keys es = map (λ e. e .key) es
+
+  later-key : (e f : Entry) → rangeEnd arity depth e ≤ f .key → e .key ≡ f .key → ⊥
+  unfolding rangeEnd
+  later-key e f h q = let p = span-positive arity depth (e .level) pos in omega arith
+
+  heads-step : (e f : Entry) (es : List Entry) → Before arity depth e f → length (cellHeadsAfter f es) ≡ changesAfter (f .key) (keys es)
+      → length (cellHeadsAfter e (f ∷ es)) ≡ changesAfter (e .key) (keys (f ∷ es))
+  heads-step e f es (inl n) r =
+      rw (heads-same e f es (n .cell), changes-same (e .key) (f .key) (keys es) (n .cell .key)) r
+  heads-step e f es (inr h) r =
+      rw (heads-next e f es (λ s. later-key e f h (s .key)), changes-other (e .key) (f .key) (keys es) (later-key e f h)) (ap suc r)
+
+  heads-after-keys : (e : Entry) (es : List Entry) → Ordered (λ e f. Before arity depth e f) (e ∷ es)
+      → length (cellHeadsAfter e es) ≡ changesAfter (e .key) (keys es)
+  unfolding cellHeadsAfter changesAfter
+  heads-after-keys e [] o = refl
+  heads-after-keys e (f ∷ es) (ordered-more r o) = heads-step e f es (every-uncons r .0) (heads-after-keys f es o)
+
+  heads-keys : (es : List Entry) → Ordered (λ e f. Before arity depth e f) es → length (cellHeads es) ≡ keyBlocks (keys es)
+  unfolding cellHeads keyBlocks
+  heads-keys [] o = refl
+  heads-keys (e ∷ es) o = ap suc (heads-after-keys e es o)
+
+-- a part of a list that satisfies the chain rule has as many cells as blocks of equal keys
+pub heads-by-keys : (arity depth count : ℕ) → 0 < arity → (es : List Entry) → T (chain arity depth count es) → (a r : ℕ)
+    → length (cellHeads (take (r - a) (drop a es))) ≡ keyBlocks (map (λ e. e .key) (take (r - a) (drop a es)))
+heads-by-keys arity depth count pos es rule a r =
+    heads-keys arity depth pos (take (r - a) (drop a es)) (ordered-take (r - a) (ordered-drop a (chain-ordered arity depth count pos es rule)))
