@@ -1,4 +1,10 @@
+pub mod PlaceLaws
+pub mod ChainPlaces
 pub mod JoinedLaws
 pub mod WholeLaws
 pub mod HeadsByKeys
+pub mod KeyBlocksLaws
+pub mod CutLaws
+pub mod RunLaws
+pub mod NextBlock
 pub mod Examples
