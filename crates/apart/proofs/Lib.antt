@@ -1,2 +1,1 @@
-pub mod BoxesLaws
 pub mod NearLaws

@@ -2,6 +2,12 @@ use borrow.Author.Needs.{needs}
 use Rattle.apart.proofs.all_apart.Statement.{statement}
 use Rattle.apart.proofs.all_apart.Tie as tie
 
+few-apart-requires : tie.Need-few-apart-requires
+few-apart-requires c κs = search needs
+
+returns : tie.Need-returns
+returns c = search needs
+
 slice-aggregate-put-boxes : tie.Need-slice-aggregate-put-boxes
 slice-aggregate-put-boxes c = search needs
 
@@ -35,13 +41,15 @@ slice-aggregate-pairs-apart-5 c = search needs
 pairs-apart-requires : tie.Need-pairs-apart-requires
 pairs-apart-requires c κs = (search needs, search needs)
 
-returns : tie.Need-returns
-returns c = search needs
+returns-2 : tie.Need-returns-2
+returns-2 c = search needs
 
 pub all-apart-spec : {M : Type 1} → statement M
 all-apart-spec =
     tie.close
     (tie.spec
+    few-apart-requires
+    returns
     slice-aggregate-put-boxes
     slice-aggregate-put-boxes-2
     slice-aggregate-put-boxes-3
@@ -53,4 +61,4 @@ all-apart-spec =
     slice-aggregate-pairs-apart-4
     slice-aggregate-pairs-apart-5
     pairs-apart-requires
-    returns)
+    returns-2)

@@ -4,8 +4,9 @@ use native.Mathlib.Omega.{arith}
 use borrow.Author.Needs.{needs}
 use Rattle.lists.specs.Lists.{all, upTo}
 use Rattle.lists.proofs.IndexLaws.{all-below-none, all-below-step}
-use Rattle.apart.specs.Boxes.{blockSize, clear, boxAt}
-use Rattle.apart.proofs.BoxesLaws.{places-fewer}
+use Rattle.boxes.specs.Boxes.{clear, boxAt}
+use Rattle.apart.specs.Near.{blockSize}
+use Rattle.boxes.proofs.BoxesLaws.{places-fewer}
 use Rattle.apart.proofs.block_clear.Statement.{statement}
 use Rattle.apart.proofs.block_clear.Tie as tie
 

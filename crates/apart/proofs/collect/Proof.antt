@@ -3,8 +3,8 @@ use Prim.Native.Nat.{_+_, _≤_, _-_}
 use native.Mathlib.Omega.{arith}
 use borrow.Author.Needs.{needs}
 use lib.ListN.{length}
-use Rattle.apart.specs.Boxes.{Near}
-use Rattle.apart.proofs.BoxesLaws.{places-fewer, set-length}
+use Rattle.apart.specs.Near.{Near}
+use Rattle.boxes.proofs.BoxesLaws.{places-fewer, set-length}
 use Rattle.apart.proofs.NearLaws.{near-more}
 use Rattle.apart.proofs.collect.Statement.{statement}
 use Rattle.apart.proofs.collect.Tie as tie

@@ -3,8 +3,8 @@ use Prim.Native.Nat.{_+_, _≤_, _-_}
 use native.Mathlib.Omega.{arith}
 use borrow.Author.Needs.{needs}
 use lib.ListN.{length}
-use Rattle.apart.specs.Boxes.{overlaps, Near}
-use Rattle.apart.proofs.NearLaws.{near-none}
+use Rattle.apart.specs.Near.{boxesOverlap, Near}
+use Rattle.boxes.proofs.CompactLaws.{compact-none}
 use Rattle.apart.proofs.collect_before.Statement.{statement}
 use Rattle.apart.proofs.collect_before.Tie as tie
 
@@ -21,7 +21,7 @@ loop-holds c =
       (omega arith, refl),
       record {
         few = omega arith;
-        listed = near-none (λ n. overlaps (a .lefts .now) (a .tops .now) (a .rights .now) (a .bottoms .now) (a .i) n) (a .near .now);
+        listed = compact-none (λ n. boxesOverlap (a .lefts .now) (a .tops .now) (a .rights .now) (a .bottoms .now) (a .i) n) (a .near .now);
       },
     )
 

@@ -1,6 +1,6 @@
 use mathlib.Core.Path.{refl, sym, _∙_}
 use borrow.Author.Needs.{needs}
-use Rattle.apart.specs.Boxes.{blockSize}
+use Rattle.apart.specs.Near.{blockSize}
 use Rattle.apart.proofs.NearLaws.{near-block}
 use Rattle.apart.proofs.collect_block.Statement.{statement}
 use Rattle.apart.proofs.collect_block.Tie as tie

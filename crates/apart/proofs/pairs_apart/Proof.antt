@@ -8,7 +8,7 @@ use lib.ListN.{length}
 use Rattle.lists.specs.Lists.{all, upTo}
 use Rattle.lists.proofs.IndexLaws.{all-below-none, all-below-fails, all-below-passes}
 use Rattle.chart_laws.proofs.SoundLaws.{apart, sound-below}
-use Rattle.apart.proofs.BoxesLaws.{prepared-fewer}
+use Rattle.boxes.proofs.BoxesLaws.{boxed-fewer}
 use Rattle.apart.proofs.pairs_apart.Statement.{statement}
 use Rattle.apart.proofs.pairs_apart.Tie as tie
 
@@ -29,7 +29,7 @@ is-apart-requires c κs =
     let top = c .before .before .before .before .before .before .before .before .before in
     let a = top .args in
     let l = c .before .before .loop in (
-      prepared-fewer (a .table .now) (a .lefts .now) (a .tops .now) (a .rights .now) (a .bottoms .now) (l .i + 1) (a .n) (omega arith) (top .pre .0),
+      boxed-fewer (a .table .now) (a .lefts .now) (a .tops .now) (a .rights .now) (a .bottoms .now) (l .i + 1) (a .n) (omega arith) (top .pre .0),
       omega (arith, l .inv .0 .1, top .pre .1),
     )
 

@@ -1,19 +1,15 @@
 -- Bounding boxes in four lists of numbers, one place for each triangle, and when two boxes are clear of each other.
 -- Assumes nothing.
 use mathlib.Core.Path.{_≡_}
-use mathlib.Core.Bool.{Bool, true, not, _||_}
+use mathlib.Core.Bool.{Bool, true, _||_}
 use mathlib.Core.List.{List}
 use Prim.Native.Nat.{ℕ, _*_, _≤_, _<_}
 use lib.Dec.{leb}
-use lib.ListN.{length, getD, take}
-use Rattle.lists.specs.Lists.{all, filter, upTo}
+use lib.ListN.{length, getD}
+use Rattle.lists.specs.Lists.{all}
 use Rattle.plane.specs.Triangle.{proper}
 use Rattle.plane.specs.Box.{Box, triangleBox}
 use Rattle.chart_spec.specs.Table.{numbersPerTriangle, triangleAt, tableOf}
-
--- how many boxes are tested at a time
-abbrev pub blockSize : ℕ
-blockSize = 16
 
 -- two boxes have no more than a border in common
 abbrev pub clear : Box → Box → Bool
@@ -38,22 +34,8 @@ Boxes table lefts tops rights bottoms n =
     (i : ℕ) → i < n → boxAt lefts tops rights bottoms i ≡ triangleBox (triangleAt table i)
 
 -- the first n triangles of a table have D > 0, and their boxes are in the lists
-pub record Prepared (table lefts tops rights bottoms : List ℕ) (n : ℕ) : Type 0 where
+pub record BoxedTable (table lefts tops rights bottoms : List ℕ) (n : ℕ) : Type 0 where
   pub rows : numbersPerTriangle * n ≤ length table
   pub places : Places lefts tops rights bottoms n
   pub oriented : all (λ t. proper t) (tableOf table n) ≡ true
   pub boxes : Boxes table lefts tops rights bottoms n
-
--- the boxes at places i and n overlap
-abbrev pub overlaps : List ℕ → List ℕ → List ℕ → List ℕ → ℕ → ℕ → Bool
-overlaps lefts tops rights bottoms i n =
-    not (clear (boxAt lefts tops rights bottoms i) (boxAt lefts tops rights bottoms n))
-
--- the first c numbers of a list are the places below j whose boxes overlap box i
-pub record Near (lefts tops rights bottoms near : List ℕ) (i j c : ℕ) : Type 0 where
-  pub few : c ≤ j
-  pub listed : take c near ≡ filter (λ n. overlaps lefts tops rights bottoms i n) (upTo j)
-
--- the first c numbers of a list are below i
-abbrev pub Before : List ℕ → ℕ → ℕ → Type 0
-Before near i c = (k : ℕ) → k < c → getD near k 0 < i

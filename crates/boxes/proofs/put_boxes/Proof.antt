@@ -5,10 +5,10 @@ use borrow.Author.Needs.{needs}
 use lib.ListN.{length}
 use Rattle.plane.specs.Box.{triangleBox}
 use Rattle.chart_spec.specs.Table.{triangleAt}
-use Rattle.apart.specs.Boxes.{Boxes}
-use Rattle.apart.proofs.BoxesLaws.{places-fewer, places-kept, set-length, boxes-none, boxes-more}
-use Rattle.apart.proofs.put_boxes.Statement.{statement}
-use Rattle.apart.proofs.put_boxes.Tie as tie
+use Rattle.boxes.specs.Boxes.{Boxes}
+use Rattle.boxes.proofs.BoxesLaws.{places-fewer, places-kept, set-length, boxes-none, boxes-more}
+use Rattle.boxes.proofs.put_boxes.Statement.{statement}
+use Rattle.boxes.proofs.put_boxes.Tie as tie
 
 abbrev Inv-loop : tie.InvT-loop
 Inv-loop table n lefts₀ tops₀ rights₀ bottoms₀ i₀ lefts tops rights bottoms i =

@@ -1,6 +1,6 @@
 use borrow.Author.Needs.{needs}
-use Rattle.apart.proofs.is_clear.Statement.{statement}
-use Rattle.apart.proofs.is_clear.Tie as tie
+use Rattle.boxes.proofs.is_clear.Statement.{statement}
+use Rattle.boxes.proofs.is_clear.Tie as tie
 
 mul-result : tie.Need-mul-result
 mul-result c = search needs

@@ -15,7 +15,7 @@ use Rattle.plane.specs.Interior.{interiorsMeet}
 use Rattle.separation.proofs.BoxLaws.{Clear, clear-apart}
 use Rattle.chart_spec.specs.Table.{triangleAt}
 use Rattle.chart_laws.proofs.ProperLaws.{proper-at, proper-fewer}
-use Rattle.apart.specs.Boxes.{clear, boxAt, Places, Boxes, Prepared}
+use Rattle.boxes.specs.Boxes.{clear, boxAt, Places, Boxes, BoxedTable}
 
 -- what the test of two boxes decides
 clear-reflects : (b d : Box) → Reflects (clear b d) (Clear b d)
@@ -35,22 +35,23 @@ places-fewer ls ts rs bs m n h p = record {
 }
 
 -- what holds of the first n triangles holds of fewer
-pub prepared-fewer : (table ls ts rs bs : List ℕ) (m n : ℕ) → m ≤ n → Prepared table ls ts rs bs n → Prepared table ls ts rs bs m
-prepared-fewer table ls ts rs bs m n h p = record {
+pub boxed-fewer : (table ls ts rs bs : List ℕ) (m n : ℕ) → m ≤ n → BoxedTable table ls ts rs bs n → BoxedTable table ls ts rs bs m
+boxed-fewer table ls ts rs bs m n h p = record {
   rows = omega (arith, p .rows);
   places = places-fewer ls ts rs bs m n h (p .places);
   oriented = proper-fewer table m n (p .oriented) h;
   boxes = λ i l. p .boxes i (omega arith);
 }
 
--- triangles i and j share no ground where their boxes are clear of each other
-pub boxes-apart : (table ls ts rs bs : List ℕ) (n i j : ℕ) → Prepared table ls ts rs bs n → i < n → j < n
-    → T (clear (boxAt ls ts rs bs i) (boxAt ls ts rs bs j)) → interiorsMeet (triangleAt table i) (triangleAt table j) ≡ false
-boxes-apart table ls ts rs bs n i j p h k c =
-    clear-apart (triangleAt table i) (triangleAt table j)
-    (rw (proper-at table n i (p .oriented) h) tt) (rw (proper-at table n j (p .oriented) k) tt)
-    (subst (λ b. Clear b (triangleBox (triangleAt table j))) (p .boxes i h)
-    (subst (λ d. Clear (boxAt ls ts rs bs i) d) (p .boxes j k) (clear-reflects (boxAt ls ts rs bs i) (boxAt ls ts rs bs j) .to c)))
+-- triangles i and j of two tables share no ground where their boxes are clear of each other
+pub boxes-apart : {table ls ts rs bs : List ℕ} {n : ℕ} → BoxedTable table ls ts rs bs n
+    → {table′ ls′ ts′ rs′ bs′ : List ℕ} {m : ℕ} → BoxedTable table′ ls′ ts′ rs′ bs′ m → (i j : ℕ) → i < n → j < m
+    → T (clear (boxAt ls ts rs bs i) (boxAt ls′ ts′ rs′ bs′ j)) → interiorsMeet (triangleAt table i) (triangleAt table′ j) ≡ false
+boxes-apart {table} {ls} {ts} {rs} {bs} {n} p {table′} {ls′} {ts′} {rs′} {bs′} {m} q i j h k c =
+    clear-apart (triangleAt table i) (triangleAt table′ j)
+    (rw (proper-at table n i (p .oriented) h) tt) (rw (proper-at table′ m j (q .oriented) k) tt)
+    (subst (λ b. Clear b (triangleBox (triangleAt table′ j))) (p .boxes i h)
+    (subst (λ d. Clear (boxAt ls ts rs bs i) d) (q .boxes j k) (clear-reflects (boxAt ls ts rs bs i) (boxAt ls′ ts′ rs′ bs′ j) .to c)))
 
 -- ---- storing boxes
 

@@ -2,8 +2,8 @@ use mathlib.Core.Path.{ap}
 use borrow.Author.Needs.{needs}
 use lib.ListN.{set}
 use Rattle.plane.specs.Box.{triangleBox}
-use Rattle.apart.proofs.put_box.Statement.{statement}
-use Rattle.apart.proofs.put_box.Tie as tie
+use Rattle.boxes.proofs.put_box.Statement.{statement}
+use Rattle.boxes.proofs.put_box.Tie as tie
 
 triangle-at-requires : tie.Need-triangle-at-requires
 triangle-at-requires c κs = search needs

@@ -1,0 +1,2 @@
+pub mod BoxesLaws
+pub mod CompactLaws
