@@ -20,11 +20,8 @@ use Rattle.squares.specs.declared.Square.{Square}
 use Rattle.squares.specs.Square.{arity, depth, squareKey}
 use Rattle.squares.proofs.SquareLeavesLaws.{whole-tiles}
 use Rattle.chart_spec.specs.Table.{Table}
+use Rattle.chart_spec.specs.Overlay.{keysOf, rangesOverlap, cellMeetings}
 use Rattle.chart_spec.specs.Cells.{stopped, cellsIn, cells, trianglesMeeting, orMark, entryOf, cellEntries, entriesOf}
-
--- how many keys a square covers
-abbrev pub keysOf : Square → ℕ
-keysOf s = span arity depth (s .level)
 
 -- the cells of a table tile the keys
 pub cells-tile : (table : Table) → Tiles (λ s. squareKey s) (λ s. span arity depth (s .level)) 0 (cells table) (2 ^ 32)
@@ -61,10 +58,6 @@ cell-heads-levels table = ap (map (λ e. e .level)) (cell-heads table) ∙ map-m
 pub cell-heads-count : (table : Table) → length (cellHeads (entriesOf table)) ≡ length (cells table)
 cell-heads-count table = ap length (cell-heads table) ∙ length-map (cells table) (λ s. firstEntry table s)
 
--- the test that the key ranges of two squares overlap: each starts before the other ends
-unfoldable pub rangesOverlap : Square → Square → Bool
-rangesOverlap q r = ltb (squareKey q) (squareKey r + keysOf r) && ltb (squareKey r) (squareKey q + keysOf q)
-
 -- "whose key ranges overlap, that is, have a key in common"
 pub record RangesOverlap (q r : Square) : Type 0 where
   pub key : ℕ
@@ -91,15 +84,15 @@ rangesOverlap-reflects q r =
 module _ (s t : Table) where
   -- "the meetings, the number of pairs of cells (one from each chart) whose key ranges overlap"
   pub meetings-of-cells : meetings arity depth (entriesOf s) (entriesOf t)
-      ≡ sumOf (λ q. sumOf (λ r. elim (rangesOverlap q r) [ true ↦ 1 | false ↦ 0 ]) (cells t)) (cells s)
-  unfolding rangesOverlap overlaps rangeEnd entryOf
+      ≡ cellMeetings s t
+  unfolding cellMeetings rangesOverlap overlaps rangeEnd entryOf
   meetings-of-cells =
       meetings-of-heads arity depth (λ q. firstEntry s q) (λ r. firstEntry t r) (cells s) (cells t) (entriesOf s) (entriesOf t)
       (cell-heads s) (cell-heads t)
 
   -- at most cells + cells - 1
   pub meetings-of-cells-bound : meetings arity depth (entriesOf s) (entriesOf t) + 1 ≤ length (cells s) + length (cells t)
-  unfolding rangesOverlap
+  unfolding cellMeetings rangesOverlap
   meetings-of-cells-bound =
       rw meetings-of-cells
       (tilings-meet (λ r. squareKey r) (λ r. keysOf r) (λ q. squareKey q) (λ q. keysOf q) (omega arith)

@@ -23,7 +23,7 @@ use Rattle.plane.specs.Interior.{CommonInterior, interiorsMeet}
 use Rattle.separation.proofs.Separation.{interiors-meet-iff}
 use Rattle.squares.specs.Square.{arity, depth}
 use Rattle.chart_spec.specs.Table.{Table, numbered}
-use Rattle.chart_spec.specs.Overlay.{Pair, pairListed, pairsListed}
+use Rattle.chart_spec.specs.Overlay.{Pair, pair, Earlier, pairListed, pairsListed}
 use Rattle.chart_laws.proofs.TableLaws.{proper-at}
 
 -- "a cell listing i and a cell listing j overlap so and some point is strictly inside both triangles", where i and j are numbers of
@@ -42,14 +42,6 @@ shared-swap h = record {
   listed = together-swap (h .listed);
   common = record { point = h .common .point; above = h .common .above; first = h .common .second; second = h .common .first };
 }
-
--- the pair of two numbers
-abbrev pub pair : ℕ → ℕ → Pair
-pair i j = record { i = i; j = j }
-
--- "ascending by i, then j"
-abbrev pub Earlier : Pair → Pair → Type 0
-Earlier p q = (p .i < q .i) ⊎ ((p .i ≡ q .i) × (p .j < q .j))
 
 -- of two pairs not both are the earlier one
 earlier-asym : (p q : Pair) → Earlier p q → Earlier q p → ⊥

@@ -35,11 +35,11 @@ use Rattle.squares.proofs.ZOrderLaws.{InGrid, InSquare, point-in-square}
 use Rattle.squares.proofs.SquareLeavesLaws.{leaf-of-point}
 use Rattle.chart_spec.specs.Table.{Table, numbered, noTriangle, triangleNumbers, tableNumbers, sixteenBit, IsTable}
 use Rattle.chart_spec.specs.Cells.{stopped, cellsIn, cells, trianglesMeeting, orMark, entryOf, cellEntries, entriesOf}
-use Rattle.chart_spec.specs.Overlay.{pairsListed}
+use Rattle.chart_spec.specs.Overlay.{pairsListed, pair, SharesGround}
 use Rattle.chart_laws.proofs.TableLaws.{proper-at}
 use Rattle.chart_laws.proofs.EntriesOfTable.{meeting-filter}
 use Rattle.chart_laws.proofs.ChainOfTable.{cells-aligned}
-use Rattle.chart_laws.proofs.OverlayLaws.{pair, pairs-listed-iff}
+use Rattle.chart_laws.proofs.OverlayLaws.{pairs-listed-iff}
 
 -- the corners of the triangle are points of the grid
 pub record Corners (t : Triangle) : Type 0 where
@@ -123,12 +123,6 @@ module _ (table : Table) (i : ℕ) (h : i < length table) where
         member = cell-entry q (c .member) (holdsAt-meets (numbered table i) (squareBox q) (fraction z) good w t (floor-box z w q (c .has)));
         has = (refl, record { starts = k .starts; ends = k .ends });
       }
-
--- "Pair i, j shares ground when some point lies strictly inside triangle i of the first plain table and triangle j of the second"
-pub record SharesGround (s t : Table) (i j : ℕ) : Type 0 where
-  pub first : i < length s
-  pub second : j < length t
-  pub common : CommonInterior (numbered s i) (numbered t j)
 
 module _ (s t : Table) (sok : IsTable s) (tok : IsTable t) where
   -- triangles that share ground are listed in overlapping cells

@@ -8,3 +8,4 @@ pub mod CellsExamples
 pub mod OverlayExamples
 pub mod ReadingExamples
 pub mod Examples
+pub mod SharedGroundExamples

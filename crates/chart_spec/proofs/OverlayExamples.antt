@@ -10,13 +10,10 @@ use Rattle.plane.specs.declared.Point.{Point}
 use Rattle.plane.specs.Triangle.{Triangle}
 use Rattle.chart_spec.specs.Table.{Table}
 use Rattle.chart_spec.specs.Refusals.{Outcome, refused, done, tooManyPairs}
-use Rattle.chart_spec.specs.Overlay.{Pair, OverlayAnswer, pairNumbers, pairListed, pairsListed, withinPairs, overlayOf}
+use Rattle.chart_spec.specs.Overlay.{Pair, pair, OverlayAnswer, pairNumbers, pairListed, pairsListed, withinPairs, overlayOf}
 use Rattle.chart_spec.proofs.Evaluate.{evaluate}
 use Rattle.chart_spec.proofs.MarkedCases.{at, overlayNumbers}
 use Rattle.chart_spec.proofs.EditExamples.{tri}
-
-abbrev pair : ℕ → ℕ → Pair
-pair i j = record { i = i; j = j }
 
 abbrev pub entry : ℕ → ℕ → ℕ → Entry
 entry k l i = record { key = k; level = l; item = i }

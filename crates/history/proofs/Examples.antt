@@ -9,30 +9,10 @@ use lib.ListN.{length, replicate}
 use Rattle.plane.specs.Triangle.{Triangle}
 use Rattle.chart_spec.specs.Table.{Table}
 use Rattle.chart_spec.specs.Cells.{cells}
-use Rattle.chart_spec.specs.Overlay.{Pair}
+use Rattle.chart_spec.specs.Overlay.{pair}
 use Rattle.chart_spec.proofs.MarkedCases.{at}
-use Rattle.chart_laws.proofs.OverlayLaws.{pair}
-use Rattle.chart_laws.proofs.MeetingsOfTable.{rangesOverlap}
-use Rattle.chart_laws.proofs.SharedGround.{SharesGround}
 use Rattle.call_spec.proofs.Evaluate.{evaluate}
-use Rattle.history.specs.Histories.{cellMeetings, overlayAnswer}
-
--- a triangle whose cells are four of level 2, then three of level 1
-abbrev corner : Table
-corner = record { a = at 0 0; b = at 65535 0; c = at 0 65535 } ∷ []
-
--- two triangles whose cells are one of level 1, thirteen in the top right, one of level 1, four of level 2
-abbrev two : Table
-two =
-    record { a = at 40000 5000; b = at 45000 5000; c = at 60000 45000 }
-    ∷ record { a = at 65535 65535; b = at 0 40000; c = at 60000 45000 }
-    ∷ []
-
--- 4 + 13 + 1 + 4: more than the cells of either, and fewer than all of them
-cellMeetings-example : length (cells corner) ∷ length (cells two) ∷ cellMeetings corner two ∷ cellMeetings two [] ∷ cellMeetings [] corner ∷ []
-    ≡ 7 ∷ 19 ∷ 22 ∷ 19 ∷ 7 ∷ []
-unfolding evaluate cellMeetings rangesOverlap
-cellMeetings-example = refl
+use Rattle.history.specs.Histories.{overlayAnswer}
 
 -- two pairs in a list with one place more than asked, which stays
 listed-example : overlayAnswer (pair 3 5 ∷ pair 4 1 ∷ []) 8 (replicate 8193 7)
@@ -47,12 +27,3 @@ limit-example : map (λ n. overlayAnswer (replicate n (pair 3 3)) 8 (replicate 8
     ∷ []
 unfolding evaluate overlayAnswer
 limit-example = refl
-
--- triangle 0 of the one shares ground with triangle 1 of the other: (36001/3, 129001/3) is strictly inside both
-shares-example : SharesGround corner two 0 1
-unfolding evaluate
-shares-example = record {
-  first = omega arith;
-  second = omega arith;
-  common = record { point = record { X = pos 36001; Y = pos 129001; W = 3 }; above = omega arith; first = tt; second = tt };
-}

@@ -9,6 +9,7 @@ use Prim.Native.Nat.{ℕ, _≤_}
 use borrow.Author.Tests.{le-ltb}
 use lib.Dec.{ltb}
 use lib.ListN.{length, drop, replicate}
+use Rattle.lists.proofs.Order.{ordered-at}
 use Rattle.orthtree.specs.Entries.{meetings}
 use Rattle.squares.specs.Square.{arity, depth}
 use Rattle.chart_spec.specs.Table.{Table, IsTable}
@@ -22,7 +23,7 @@ use Rattle.call_spec.specs.Buffers.{Chart, tooShort, chartTable, chartEntries, 
 use Rattle.call_spec.specs.Calls.{Overlaid, pairsRefused, overlaidBy, overlayCall}
 use Rattle.call_laws.proofs.IndexedLaws.{Editable, indexed-table, indexed-entries, indexed-editable}
 use Rattle.call_laws.proofs.OverwriteLaws.{Fits}
-use Rattle.history.specs.Histories.{cellMeetings, overlayAnswer, TablesOverlaid}
+use Rattle.history.specs.Histories.{overlayAnswer, TablesOverlaid}
 
 -- the pairs are within the limit or not: the answer is the same
 answer-same : (ps : List Pair) (m : ℕ) (before : List ℕ) → overlaidBy before (withinPairs ps m) ≡ overlayAnswer ps m before
@@ -50,14 +51,14 @@ module _ (c d : Chart) (long : tooShort c ≡ false) (wide : tooShort d ≡ fals
       rw (first .long, second .long, le-ltb (length before) pairsLength room, first .chained, second .chained, indexed-table c s, indexed-table d t, indexed-entries c s, indexed-entries d t)
 
   pub indexed-overlay : IsTable s → IsTable t → TablesOverlaid s t before (overlayCall (indexedChart c s) (indexedChart d t) before)
-  unfolding overlayOf cellMeetings
+  unfolding overlayOf
   indexed-overlay good fine =
       let ps = pairsListed s (entriesOf s) t (entriesOf t) in
       let m = meetings arity depth (entriesOf s) (entriesOf t) in
       record {
         shared = ps;
         exactly = pairs-of-tables s t good fine;
-        ascending = pairs-ascend s (entriesOf s) t (entriesOf t);
+        ascending = λ m n d h l. ordered-at m n d (pairs-ascend s (entriesOf s) t (entriesOf t)) h l;
         answer = passes ∙ answer-same ps m before ∙ ap (λ n. overlayAnswer ps n before) (meetings-of-cells s t);
         bound = rw (← meetings-of-cells s t) (meetings-of-cells-bound s t);
       }

@@ -5,24 +5,15 @@ use mathlib.Core.Path.{_≡_}
 use mathlib.Core.Bool.{true, false}
 use mathlib.Core.List.{List, _++_, List·Memᴰ}
 use mathlib.Core.Logic.{_↔_}
-use Prim.Native.Nat.{ℕ, _+_, _≤_}
+use Prim.Native.Nat.{ℕ, _+_, _≤_, _<_}
 use lib.Dec.{ltb}
-use lib.ListN.{length, drop, replicate}
-use Rattle.lists.specs.Lists.{sumOf}
-use Rattle.lists.proofs.Order.{Ordered}
+use lib.ListN.{length, getD, drop, replicate}
 use Rattle.chart_spec.specs.Table.{Table}
 use Rattle.chart_spec.specs.Cells.{cells, entriesOf}
 use Rattle.chart_spec.specs.Edits.{Event, plainTable}
-use Rattle.chart_spec.specs.Overlay.{Pair, pairNumbers, maxPairs}
-use Rattle.chart_laws.proofs.OverlayLaws.{pair, Earlier}
-use Rattle.chart_laws.proofs.SharedGround.{SharesGround}
-use Rattle.chart_laws.proofs.MeetingsOfTable.{rangesOverlap}
+use Rattle.chart_spec.specs.Overlay.{Pair, pair, Earlier, pairNumbers, maxPairs, SharesGround, cellMeetings}
 use Rattle.call_spec.specs.Buffers.{Chart, chartTable, chartEntries, indexedChart, padded, pairsLength}
 use Rattle.call_spec.specs.Calls.{Overlaid}
-
--- "the number of pairs of cells of the plain tables, one of each, whose key ranges overlap"
-unfoldable pub cellMeetings : Table → Table → ℕ
-cellMeetings s t = sumOf (λ q. sumOf (λ r. elim (rangesOverlap q r) [ true ↦ 1 | false ↦ 0 ]) (cells t)) (cells s)
 
 -- the answer where the pairs ps share ground, with m meetings: "When more than 4,096 pairs share ground, it returns 12, and the
 -- pair count and the meetings are 0", with document 01's "8,192 zeros in pairs". "Otherwise it returns 0 and lists" them, "the pair
@@ -40,7 +31,7 @@ overlayAnswer ps m before =
 pub record TablesOverlaid (s t : Table) (before : List ℕ) (o : Overlaid) : Type 0 where
   pub shared : List Pair
   pub exactly : (i j : ℕ) → List·Memᴰ (pair i j) shared ↔ SharesGround s t i j
-  pub ascending : Ordered (λ p q. Earlier p q) shared
+  pub ascending : (m n : ℕ) (d : Pair) → m < n → n < length shared → Earlier (getD shared m d) (getD shared n d)
   pub answer : o ≡ overlayAnswer shared (cellMeetings s t) before
   pub bound : cellMeetings s t + 1 ≤ length (cells s) + length (cells t)
 

@@ -1,0 +1,80 @@
+-- Examples of Overlay.antt: the order of pairs, pairs that share ground, and the meetings of two tables' cells.
+-- Assumes nothing.
+use mathlib.Core.Path.{_≡_, refl}
+use mathlib.Core.Bool.{true, false}
+use mathlib.Core.List.{[], _∷_}
+use mathlib.Core.Logic.{inl, inr}
+use native.Mathlib.Omega.{arith}
+use lib.IntN.{pos}
+use lib.ListN.{length}
+use Rattle.squares.specs.declared.Square.{Square}
+use Rattle.chart_spec.specs.Table.{Table}
+use Rattle.chart_spec.specs.Cells.{cells}
+use Rattle.chart_spec.specs.Overlay.{pair, Earlier, SharesGround, rangesOverlap, cellMeetings}
+use Rattle.chart_spec.proofs.Evaluate.{evaluate}
+use Rattle.chart_spec.proofs.MarkedCases.{at}
+
+-- i decides, then j
+earlier-i-example : Earlier (pair 1 9) (pair 2 3)
+earlier-i-example = inl (omega arith)
+
+earlier-j-example : Earlier (pair 2 3) (pair 2 4)
+earlier-j-example = inr (refl, omega arith)
+
+-- no pair comes before itself, before one with a lower i, or before one with the same i and a lower j
+later-examples : ((Earlier (pair 2 3) (pair 2 3) → ⊥) × (Earlier (pair 2 3) (pair 1 9) → ⊥)) × (Earlier (pair 2 4) (pair 2 3) → ⊥)
+later-examples = ((no-same, no-lower), no-lower-j)
+  where
+    no-same : Earlier (pair 2 3) (pair 2 3) → ⊥
+    no-same (inl h) = omega arith
+    no-same (inr h) = omega arith
+
+    no-lower : Earlier (pair 2 3) (pair 1 9) → ⊥
+    no-lower (inl h) = omega arith
+    no-lower (inr h) = omega arith
+
+    no-lower-j : Earlier (pair 2 4) (pair 2 3) → ⊥
+    no-lower-j (inl h) = omega arith
+    no-lower-j (inr h) = omega arith
+
+-- the top left quarter, the one right of it, and the second quarter of that
+abbrev first : Square
+first = record { x = 0; y = 0; level = 1 }
+
+abbrev next : Square
+next = record { x = 32768; y = 0; level = 1 }
+
+abbrev inner : Square
+inner = record { x = 49152; y = 0; level = 2 }
+
+-- a square within another overlaps it, neighbours do not
+rangesOverlap-example : rangesOverlap next inner ∷ rangesOverlap inner next ∷ rangesOverlap first next ∷ rangesOverlap next first ∷ rangesOverlap inner first ∷ rangesOverlap first inner ∷ []
+    ≡ true ∷ true ∷ false ∷ false ∷ false ∷ false ∷ []
+unfolding evaluate
+rangesOverlap-example = refl
+
+-- a triangle whose cells are four of level 2, then three of level 1
+abbrev corner : Table
+corner = record { a = at 0 0; b = at 65535 0; c = at 0 65535 } ∷ []
+
+-- two triangles whose cells are one of level 1, thirteen in the top right, one of level 1, four of level 2
+abbrev two : Table
+two =
+    record { a = at 40000 5000; b = at 45000 5000; c = at 60000 45000 }
+    ∷ record { a = at 65535 65535; b = at 0 40000; c = at 60000 45000 }
+    ∷ []
+
+-- the cells of each, and 4 + 13 + 1 + 4 meetings: more than the cells of either, and fewer than all of them
+cellMeetings-example : length (cells corner) ∷ length (cells two) ∷ cellMeetings corner two ∷ cellMeetings two [] ∷ cellMeetings [] corner ∷ []
+    ≡ 7 ∷ 19 ∷ 22 ∷ 19 ∷ 7 ∷ []
+unfolding evaluate
+cellMeetings-example = refl
+
+-- triangle 0 of the one shares ground with triangle 1 of the other: (36001/3, 129001/3) is strictly inside both
+shares-example : SharesGround corner two 0 1
+unfolding evaluate
+shares-example = record {
+  first = omega arith;
+  second = omega arith;
+  common = record { point = record { X = pos 36001; Y = pos 129001; W = 3 }; above = omega arith; first = tt; second = tt };
+}
