@@ -1,8 +1,7 @@
 -- A list that satisfies the chain rule, by places: what stands at the next place, and where the last cell ends.
 -- Assumes nothing.
 use mathlib.Core.Path.{_≡_}
-use mathlib.Core.List.{List, [], _∷_}
-use mathlib.Core.Logic.{_⊎_, inl, inr}
+use mathlib.Core.List.{List, _∷_}
 use Prim.Native.Nat.{ℕ, zero, suc, _-_, _≤_, _<_}
 use native.Mathlib.Decide.{decLe}
 use native.Mathlib.Omega.{arith}
@@ -10,7 +9,6 @@ use lib.Dec.{T}
 use lib.ListN.{length, getD}
 use Rattle.lists.proofs.Order.{ordered-at}
 use Rattle.orthtree.specs.Entries.{Entry, span, rangeEnd, chain}
-use Rattle.orthtree.proofs.EntriesLaws.{span-positive}
 use Rattle.orthtree.proofs.ChainLaws.{Follows, ChainAfter, last, link, ChainFrom, end, start, chain-reflects}
 use Rattle.orthtree.proofs.ChainOrderLaws.{Before, before-end, chain-ordered}
 

@@ -1,9 +1,7 @@
 -- Examples of the definitions.
 -- Assumes nothing.
 use mathlib.Core.Path.{_≡_, refl}
-use mathlib.Core.Bool.{cond}
-use mathlib.Core.List.{List, [], _∷_, map}
-use lib.Dec.{ltb, eqb}
+use mathlib.Core.List.{[], _∷_, map}
 use Rattle.chain_blocks.specs.KeyBlocks.{changesAfter, keyBlocks, keyFrom}
 
 -- none, all the same, all different, and a key that comes back

@@ -1,29 +1,22 @@
 -- In a list that satisfies the chain rule equal keys beside each other are of one cell, so a part of it has as many cells as blocks of
 -- equal keys.
 -- Assumes nothing.
-use mathlib.Core.Path.{_≡_, refl, _∙_, ap}
-use mathlib.Core.Bool.{true, false, cond}
-use mathlib.Core.List.{List, [], _∷_, map, List·Memᴰ, List·Memᴰ·head, List·Memᴰ·tail, List·Memᴰ·not-nil, List·Memᴰ·cases-cons}
-use mathlib.Core.Logic.{_⊎_, inl, inr}
+use mathlib.Core.Path.{_≡_, refl, ap}
+use mathlib.Core.List.{List, [], _∷_, map}
+use mathlib.Core.Logic.{inl, inr}
 use Prim.Native.Nat.{ℕ, zero, suc, _-_, _≤_, _<_}
 use native.Mathlib.Omega.{arith}
-use lib.Dec.{T, eqb}
+use lib.Dec.{T}
 use lib.ListN.{length, take, drop}
-use Rattle.lists.proofs.Reflects.{reflects-eqb, reflects-true, reflects-false}
-use Rattle.lists.proofs.ListsLaws.{Every, every-uncons}
+use Rattle.lists.proofs.ListsLaws.{every-uncons}
 use Rattle.lists.proofs.Order.{Ordered, ordered-none, ordered-more}
-use Rattle.orthtree.specs.Entries.{Entry, cellHeads, cellHeadsAfter, rangeEnd, span, chain}
+use Rattle.orthtree.specs.Entries.{Entry, cellHeads, cellHeadsAfter, rangeEnd, chain}
 use Rattle.orthtree.proofs.EntriesLaws.{span-positive}
-use Rattle.orthtree.proofs.ChainLaws.{SameCell}
 use Rattle.orthtree.proofs.ChainHeadsLaws.{heads-same, heads-next}
 use Rattle.orthtree.proofs.ChainOrderLaws.{Before, chain-ordered}
 use Rattle.chain_blocks.specs.KeyBlocks.{changesAfter, keyBlocks}
-
--- the elements that a list starts with are elements of it
-take-member : {A : Type 0} (n : ℕ) (l : List A) {x : A} → List·Memᴰ x (take n l) → List·Memᴰ x l
-take-member zero l m = absurd (List·Memᴰ·not-nil m)
-take-member (suc n) [] m = absurd (List·Memᴰ·not-nil m)
-take-member (suc n) (y ∷ ys) m = elim (List·Memᴰ·cases-cons m) [ inl e ↦ List·Memᴰ·head e | inr c ↦ List·Memᴰ·tail (take-member n ys c) ]
+use Rattle.chain_blocks.proofs.PlaceLaws.{take-member}
+use Rattle.chain_blocks.proofs.KeyBlocksLaws.{changes-same, changes-other}
 
 -- an ordered list without its first elements, and without its last
 ordered-drop : {A : Type 0} {R : A → A → Type 0} (n : ℕ) {l : List A} → Ordered R l → Ordered R (drop n l)
@@ -35,15 +28,6 @@ ordered-take : {A : Type 0} {R : A → A → Type 0} (n : ℕ) {l : List A} → 
 ordered-take zero o = ordered-none
 ordered-take (suc n) ordered-none = ordered-none
 ordered-take (suc n) (ordered-more {xs = xs} r o) = ordered-more (λ y m. r y (take-member n xs m)) (ordered-take n o)
-
--- the same key again, and another key
-pub changes-same : (k l : ℕ) (ls : List ℕ) → k ≡ l → changesAfter k (l ∷ ls) ≡ changesAfter l ls
-unfolding changesAfter
-changes-same k l ls h = rw (changesAfter, reflects-true (reflects-eqb k l) h)
-
-pub changes-other : (k l : ℕ) (ls : List ℕ) → (k ≡ l → ⊥) → changesAfter k (l ∷ ls) ≡ suc (changesAfter l ls)
-unfolding changesAfter
-changes-other k l ls h = rw (changesAfter, reflects-false (reflects-eqb k l) h)
 
 module _ (arity depth : ℕ) (pos : 0 < arity) where
   -- the keys of entries

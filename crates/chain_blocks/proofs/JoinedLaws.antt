@@ -2,19 +2,18 @@
 -- The idea: a cell that ends at or before the key and one that starts at it or after it have no key in common.
 -- Assumes nothing.
 use mathlib.Core.Path.{_≡_, refl, _∙_, ap, ap₂}
-use mathlib.Core.Bool.{Bool, true, false, _&&_, _||_}
+use mathlib.Core.Bool.{Bool, true, false, _||_}
 use mathlib.Core.List.{List, [], _∷_, _++_, List·Memᴰ, List·Memᴰ·append-cases, Memᴰ·append-left, Memᴰ·append-right}
 use mathlib.Core.Logic.{_⊎_, inl, inr}
 use Prim.Native.Nat.{ℕ, _+_, _≤_, _<_}
 use native.Mathlib.Omega.{arith}
-use lib.Dec.{T, ltb}
 use Rattle.lists.specs.Lists.{sumOf}
-use Rattle.lists.proofs.Reflects.{Reflects, reflects-and, reflects-or, reflects-iff, reflects-ltb, reflects-false}
+use Rattle.lists.proofs.Reflects.{reflects-and, reflects-or, reflects-iff, reflects-ltb, reflects-false}
 use Rattle.lists.proofs.ListsLaws.{Every, every-uncons}
 use Rattle.lists.proofs.EditedLists.{sumOf-append}
 use Rattle.lists.proofs.IndexLaws.{reflects-same}
 use Rattle.lists.proofs.SumLaws.{sum-agree}
-use Rattle.orthtree.specs.Entries.{Entry, sameCell, cellHeads, cellHeadsAfter, span, rangeEnd, overlaps, meetings, listedTogether}
+use Rattle.orthtree.specs.Entries.{Entry, sameCell, cellHeads, cellHeadsAfter, rangeEnd, overlaps, meetings, listedTogether}
 use Rattle.orthtree.proofs.EntriesLaws.{span-positive}
 use Rattle.orthtree.proofs.ChainLaws.{SameCell}
 use Rattle.orthtree.proofs.ChainHeadsLaws.{heads-next, heads-members}

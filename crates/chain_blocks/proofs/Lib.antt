@@ -2,9 +2,10 @@ pub mod PlaceLaws
 pub mod ChainPlaces
 pub mod JoinedLaws
 pub mod WholeLaws
-pub mod HeadsByKeys
 pub mod KeyBlocksLaws
+pub mod HeadsByKeys
 pub mod CutLaws
 pub mod RunLaws
 pub mod NextBlock
+pub mod BlockLaws
 pub mod Examples

@@ -3,24 +3,18 @@
 -- The idea: the run of the list that has the larger cell is that cell, and every entry of the other run starts in it.
 -- Assumes nothing.
 use mathlib.Core.Path.{_≡_, sym, subst}
-use mathlib.Core.List.{List, map, List·Memᴰ}
+use mathlib.Core.List.{List}
 use mathlib.Core.Logic.{_⊎_, inl, inr}
-use Prim.Native.Nat.{ℕ, zero, suc, _+_, _-_, _%_, _≤_, _<_, max}
+use Prim.Native.Nat.{ℕ, _-_, _≤_, _<_, max}
 use native.Mathlib.Decide.{decLe}
 use native.Mathlib.Omega.{arith}
 use lib.Dec.{T}
 use lib.ListN.{length, getD, take, drop}
-use Rattle.lists.proofs.ListsLaws.{Every, getD-member}
-use Rattle.lists.proofs.PartLaws.{part-every}
+use Rattle.lists.proofs.ListsLaws.{Every}
 use Rattle.orthtree.specs.Entries.{Entry, span, rangeEnd, overlaps, chain}
-use Rattle.orthtree.proofs.EntriesLaws.{CommonKey, span-positive, overlaps-reflects}
-use Rattle.orthtree.proofs.RangeLaws.{Within, spans-nested}
-use Rattle.orthtree.proofs.ChainLaws.{SameCell, NextItem, same-end, Follows}
-use Rattle.orthtree.proofs.ChainOrderLaws.{Before, chain-fits, chain-keys-rise, chain-apart}
+use Rattle.orthtree.proofs.EntriesLaws.{overlaps-reflects}
 use Rattle.chain_blocks.specs.KeyBlocks.{CellEnd, RunEnd, keyFrom}
-use Rattle.chain_blocks.proofs.PlaceLaws.{take-every, drop-every, take-at, drop-at, place-any}
-use Rattle.chain_blocks.proofs.ChainPlaces.{chain-step, chain-last, chain-places, chain-within}
-use Rattle.chain_blocks.proofs.KeyBlocksLaws.{from-key, from-end, KeysOf, keys-at}
+use Rattle.chain_blocks.proofs.KeyBlocksLaws.{KeysOf}
 use Rattle.chain_blocks.proofs.CutLaws.{Cut}
 use Rattle.chain_blocks.proofs.RunLaws.{starts-before, Larger, cell-ends, run-grows, run-cut, run-part, run-cell, larger-at}
 

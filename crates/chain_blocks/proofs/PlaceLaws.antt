@@ -1,12 +1,13 @@
 -- What holds at the places of a list, and of the elements before a place and from it on.
 -- Assumes nothing.
-use mathlib.Core.Path.{_≡_, refl, sym}
-use mathlib.Core.List.{List, [], _∷_, map}
+use mathlib.Core.Path.{_≡_, refl, sym, _∙_, ap}
+use mathlib.Core.List.{List, [], _∷_, _++_, map, List·Memᴰ, List·Memᴰ·head, List·Memᴰ·tail, List·Memᴰ·not-nil, List·Memᴰ·cases-cons}
+use mathlib.Core.Logic.{inl, inr}
 use Prim.Native.Nat.{ℕ, zero, suc, _+_, _-_, _≤_, _<_}
 use native.Mathlib.Nat.{sub-zero, add-sub-of-le}
 use native.Mathlib.Omega.{arith}
 use lib.ListN.{length, getD, take, drop, length-take, length-drop}
-use lib.Seq.{getD-take, getD-drop, take-all}
+use lib.Seq.{getD-take, getD-drop, take-all, take-add}
 use Rattle.lists.proofs.ListsLaws.{Every, getD-member}
 use Rattle.lists.proofs.PartLaws.{part-every}
 
@@ -41,3 +42,13 @@ pub place-any : {A : Type 0} (l : List A) (i : ℕ) (c d : A) → i < length l �
 place-any [] i c d h = absurd (omega arith)
 place-any (x ∷ xs) zero c d h = refl
 place-any (x ∷ xs) (suc i) c d h = place-any xs i c d (omega arith)
+
+-- the elements that a list starts with are elements of it
+pub take-member : {A : Type 0} (n : ℕ) (l : List A) {x : A} → List·Memᴰ x (take n l) → List·Memᴰ x l
+take-member zero l m = absurd (List·Memᴰ·not-nil m)
+take-member (suc n) [] m = absurd (List·Memᴰ·not-nil m)
+take-member (suc n) (y ∷ ys) m = elim (List·Memᴰ·cases-cons m) [ inl e ↦ List·Memᴰ·head e | inr c ↦ List·Memᴰ·tail (take-member n ys c) ]
+
+-- the elements before a later place are those before an earlier one, and the part between the two
+pub take-part : {A : Type 0} (f t : ℕ) (l : List A) → f ≤ t → take t l ≡ take f l ++ take (t - f) (drop f l)
+take-part f t l h = ap (λ n. take n l) (sym (add-sub-of-le h)) ∙ take-add f (t - f) l

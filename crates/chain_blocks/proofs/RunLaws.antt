@@ -5,19 +5,19 @@
 -- starts there is no larger.
 -- Assumes nothing.
 use mathlib.Core.Path.{_≡_, refl, sym, _∙_, ap}
-use mathlib.Core.List.{List, map, List·Memᴰ}
-use mathlib.Core.Logic.{_⊎_, inl, inr}
-use Prim.Native.Nat.{ℕ, zero, suc, _+_, _-_, _%_, _≤_, _<_, max}
+use mathlib.Core.List.{List, List·Memᴰ}
+use mathlib.Core.Logic.{inl, inr}
+use Prim.Native.Nat.{ℕ, zero, suc, _-_, _%_, _≤_, _<_}
 use native.Mathlib.Decide.{decLe}
 use native.Mathlib.Omega.{arith}
 use lib.Dec.{T}
 use lib.ListN.{length, getD, take, drop}
 use Rattle.lists.proofs.ListsLaws.{Every, getD-member}
 use Rattle.lists.proofs.PartLaws.{part-every}
-use Rattle.orthtree.specs.Entries.{Entry, span, rangeEnd, overlaps, chain}
-use Rattle.orthtree.proofs.EntriesLaws.{CommonKey, span-positive, overlaps-reflects}
+use Rattle.orthtree.specs.Entries.{Entry, span, rangeEnd, chain}
+use Rattle.orthtree.proofs.EntriesLaws.{span-positive}
 use Rattle.orthtree.proofs.RangeLaws.{Within, spans-nested}
-use Rattle.orthtree.proofs.ChainLaws.{SameCell, NextItem, same-end, Follows}
+use Rattle.orthtree.proofs.ChainLaws.{SameCell, same-end, Follows}
 use Rattle.orthtree.proofs.ChainOrderLaws.{Before, chain-fits, chain-keys-rise, chain-apart}
 use Rattle.chain_blocks.specs.KeyBlocks.{CellEnd, RunEnd, keyFrom}
 use Rattle.chain_blocks.proofs.PlaceLaws.{take-every, drop-every, take-at, drop-at, place-any}

@@ -1,6 +1,6 @@
 -- Lists of entries of which each of the one overlaps each of the other.
 -- Assumes nothing.
-use mathlib.Core.Path.{_≡_, refl, sym, _∙_}
+use mathlib.Core.Path.{_≡_, _∙_}
 use mathlib.Core.Bool.{true, false, _&&_}
 use mathlib.Core.List.{List, [], _∷_}
 use Prim.Native.Nat.{ℕ, _*_, _<_}
@@ -8,7 +8,7 @@ use native.Mathlib.Omega.{arith}
 use lib.Dec.{T, eqb}
 use lib.ListN.{length}
 use Rattle.lists.specs.Lists.{any, sumOf}
-use Rattle.lists.proofs.Reflects.{Reflects, reflects-and, reflects-iff, reflects-eqb, test-true}
+use Rattle.lists.proofs.Reflects.{reflects-and, reflects-iff, reflects-eqb, test-true}
 use Rattle.lists.proofs.ListsLaws.{Every, Some, any-reflects}
 use Rattle.lists.proofs.IndexLaws.{reflects-same}
 use Rattle.lists.proofs.SumLaws.{sum-agree, sum-ones}
