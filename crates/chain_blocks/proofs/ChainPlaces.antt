@@ -56,10 +56,11 @@ module _ (arity depth : ℕ) (d : Entry) where
     pub chain-last : (i : ℕ) → suc i ≡ length es → rangeEnd arity depth (getD es i d) ≡ span arity depth 0
     chain-last i l = from-last from i l
 
-    -- the first starts at 0, and there is one
+    -- the first starts at 0
     pub chain-first : 0 < length es → getD es 0 d .key ≡ 0
     chain-first l = from-first from l
 
+    -- where there is none, the tree has no key
     pub chain-none : 0 ≡ length es → 0 ≡ span arity depth 0
     chain-none l = from-none from l
 

@@ -1,7 +1,7 @@
 -- Examples of the definitions.
 -- Assumes nothing.
 use mathlib.Core.Path.{_≡_, refl}
-use mathlib.Core.List.{[], _∷_, map}
+use mathlib.Core.List.{[], _∷_, _++_, map}
 use Rattle.chain_blocks.specs.KeyBlocks.{changesAfter, keyBlocks, keyFrom}
 
 -- none, all the same, all different, and a key that comes back
@@ -16,7 +16,7 @@ changes-example : map (changesAfter 3) ([] ∷ (3 ∷ []) ∷ (4 ∷ []) ∷ (3 
 unfolding changesAfter
 changes-example = refl
 
--- the keys at places 0 and 1 of the first two, and the end at place 2 and after, though there is a third key
-from-example : map (keyFrom (3 ∷ 5 ∷ 9 ∷ []) 2 16) (0 ∷ 1 ∷ 2 ∷ 3 ∷ []) ≡ 3 ∷ 5 ∷ 16 ∷ 16 ∷ []
+-- the keys at places 0 and 1 of the first two, and the end at place 2 and after, though there is a third key; 0 where a key is missing
+from-example : map (keyFrom (3 ∷ 5 ∷ 9 ∷ []) 2 16) (0 ∷ 1 ∷ 2 ∷ 3 ∷ []) ++ (keyFrom (3 ∷ []) 2 16 1 ∷ []) ≡ 3 ∷ 5 ∷ 16 ∷ 16 ∷ 0 ∷ []
 unfolding keyFrom
 from-example = refl

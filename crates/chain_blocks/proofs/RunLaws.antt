@@ -66,20 +66,20 @@ module _ (arity depth : ℕ) (pos : 0 < arity) where
       cell-ends a zero c = absurd (omega (arith, c .after))
       cell-ends a (suc j) c =
           let low : a ≤ j = omega (arith, c .after) in
-          let in-list : j < n = omega (arith, c .within) in
-          let in-list′ : j < length es = omega (arith, keys .count) in
-          let one = keys-at keys d a (omega arith) in
-          let two = keys-at keys d j in-list in
-          let e = same-ends a j low in-list′ (omega (arith, c .same j low (omega arith))) in
+          let inner : j < n = omega (arith, c .within) in
+          let within : j < length es = omega (arith, keys .count) in
+          let same = c .same j low (omega arith) in
+          let at-a = keys-at keys d a (omega arith) in
+          let at-j = keys-at keys d j inner in
+          let e = same-ends a j low within (omega arith) in
           elim (decLe n (suc j)) [
             | yes h ↦ let s : suc j ≡ length es = omega (arith, keys .count) in
                 from-end ks n (span arity depth 0) (suc j) h ∙ sym (chain-last arity depth d count pos es rule j s) ∙ e
             | no h ↦ let l : suc j < n = omega arith in
-                let three = keys-at keys d (suc j) l in
-                let o = c .same j low (omega arith) in
+                let at-next = keys-at keys d (suc j) l in
                 let s = next-end (at j) (at (suc j)) (chain-step arity depth d count pos es rule j (omega (arith, keys .count)))
                 (λ q. c .other l (omega arith)) in
-                from-key ks n (span arity depth 0) (suc j) l ∙ three ∙ s ∙ e
+                from-key ks n (span arity depth 0) (suc j) l ∙ at-next ∙ s ∙ e
           ]
 
       module _ {k a : ℕ} (cut : Cut arity depth k a es) (more : a < length es) {e : ℕ} (g : Larger k e) (reach : rangeEnd arity depth (at a) ≤ e) where
