@@ -4,9 +4,9 @@ use mathlib.Core.Path.{_≡_, refl}
 use mathlib.Core.List.{[], _∷_, _++_, map}
 use Rattle.chain_blocks.specs.KeyBlocks.{changesAfter, keyBlocks, keyFrom}
 
--- none, all the same, all different, and a key that comes back
-blocks-example : map keyBlocks ([] ∷ (7 ∷ []) ∷ (0 ∷ 0 ∷ 0 ∷ []) ∷ (0 ∷ 4 ∷ 8 ∷ []) ∷ (0 ∷ 0 ∷ 4 ∷ 5 ∷ 5 ∷ 5 ∷ 8 ∷ 0 ∷ []) ∷ [])
-    ≡ 0 ∷ 1 ∷ 1 ∷ 3 ∷ 5 ∷ []
+-- none, one, the same and another, all the same, all different, and a key that comes back
+blocks-example : map keyBlocks ([] ∷ (7 ∷ []) ∷ (7 ∷ 7 ∷ 9 ∷ []) ∷ (0 ∷ 0 ∷ 0 ∷ []) ∷ (0 ∷ 4 ∷ 8 ∷ []) ∷ (0 ∷ 0 ∷ 4 ∷ 5 ∷ 5 ∷ 5 ∷ 8 ∷ 0 ∷ []) ∷ [])
+    ≡ 0 ∷ 1 ∷ 2 ∷ 1 ∷ 3 ∷ 5 ∷ []
 unfolding keyBlocks changesAfter
 blocks-example = refl
 
