@@ -11,7 +11,7 @@ use Rattle.lists.proofs.ListsLaws.{Every}
 use Rattle.orthtree.specs.Entries.{Entry}
 use Rattle.chart_spec.specs.Cells.{maxEntries}
 use Rattle.call_spec.specs.Buffers.{padded}
-use Rattle.quadtree.specs.Build.{packed}
+use Rattle.leaves.specs.Packed.{packed}
 use Rattle.entry_lists.specs.Lists.{keyOf, levelOf, itemOf, Listed}
 use Rattle.entry_lists.proofs.StoreLaws.{take-sets}
 use Rattle.entry_lists.proofs.PackLaws.{Packable, keys-packed, levels-packed, items-packed}

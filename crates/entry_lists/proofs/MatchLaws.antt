@@ -18,7 +18,7 @@ use Rattle.orthtree.specs.Entries.{Entry}
 use Rattle.chart_spec.specs.Cells.{maxEntries}
 use Rattle.call_spec.specs.Buffers.{zipEntries, sameEntries}
 use Rattle.call_laws.proofs.EntriesLaws.{sameEntries-reflects, first-count, first-at}
-use Rattle.quadtree.specs.Build.{packed}
+use Rattle.leaves.specs.Packed.{packed}
 use Rattle.entry_lists.specs.Lists.{packedAt}
 use Rattle.entry_lists.proofs.PackLaws.{Packable, packed-injective}
 use Rattle.entry_lists.proofs.ListedLaws.{Packed, packed-count, packed-take}

@@ -13,7 +13,7 @@ use Rattle.chart_spec.specs.Table.{tableOf}
 use Rattle.chart_spec.specs.Cells.{entriesOf}
 use Rattle.chart_laws.proofs.ChainOfTable.{entries-bounds}
 use Rattle.chart_laws.proofs.TableLaws.{tableOf-length}
-use Rattle.quadtree.specs.Build.{packed}
+use Rattle.leaves.specs.Packed.{packed}
 use Rattle.entry_lists.specs.Lists.{keyOf, levelOf, itemOf}
 
 -- level and item are within their places of a packed entry

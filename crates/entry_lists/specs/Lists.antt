@@ -7,7 +7,7 @@ use lib.ListN.{length, getD}
 use Rattle.orthtree.specs.Entries.{Entry}
 use Rattle.chart_spec.specs.Cells.{maxEntries}
 use Rattle.call_spec.specs.Buffers.{padded}
-use Rattle.quadtree.specs.Build.{packed}
+use Rattle.leaves.specs.Packed.{packed}
 
 -- key, level and item of a packed entry
 abbrev pub keyOf : ℕ → ℕ

@@ -12,7 +12,7 @@ ghost use Rattle.plane.specs.Triangle.{proper};
 ghost use Rattle.chart_spec.specs.Table.{maxTriangles, numbersPerTriangle, tableOf};
 ghost use Rattle.chart_spec.specs.Cells.{entriesOf, maxEntries};
 ghost use Rattle.call_spec.specs.Buffers.{padded, zipEntries, sameEntries};
-ghost use Rattle.quadtree.specs.Build.{packed};
+ghost use Rattle.leaves.specs.Packed.{packed};
 ghost use Rattle.entry_lists.specs.Lists.{keyOf, levelOf, itemOf, packedAt, Listed};
 
 // Zeros from place `from` up to place `to`.
@@ -132,6 +132,7 @@ pub fn build_into(
         &mut corners,
         &mut stack,
         &mut entries,
+        tables::MOST_ENTRIES,
     );
     if m > tables::MOST_ENTRIES {
         return 16385;
@@ -189,6 +190,7 @@ pub fn entries_match(
         &mut corners,
         &mut stack,
         &mut entries,
+        tables::MOST_ENTRIES,
     );
     if r != m {
         return false;

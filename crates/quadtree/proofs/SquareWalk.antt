@@ -27,10 +27,12 @@ use Rattle.chart_laws.proofs.EntriesOfTable.{entriesIn-stopped, entriesIn-split
 use Rattle.chart_laws.proofs.TableLaws.{tableOf-length}
 use Rattle.shapes.specs.Shape.{triangleMeetsAt}
 use Rattle.shapes.proofs.ShapeLaws.{triangle-meets-at}
-use Rattle.quadtree.specs.Build.{part, packed, Ready, Prepared, Candidates, Built}
-use Rattle.quadtree.proofs.StackLaws.{filter-length}
-use Rattle.quadtree.proofs.StopLaws.{framed, corners-small, meeting-below}
-use Rattle.quadtree.proofs.WalkLaws.{filter-agree, part-stored, take-before, ready-stored}
+use Rattle.candidates.specs.Stack.{part, Ready, Prepared}
+use Rattle.leaves.specs.Packed.{packed}
+use Rattle.quadtree.specs.Build.{Candidates, Built}
+use Rattle.candidates.proofs.StackLaws.{filter-length}
+use Rattle.stopping.proofs.StopLaws.{framed, corners-small, meeting-below}
+use Rattle.candidates.proofs.ReadyLaws.{filter-agree, part-stored, take-before, ready-stored}
 
 quarters-four : (s : Square) → length (quarters s) ≡ 4
 unfolding quarters
@@ -68,15 +70,15 @@ module _ (n : ℕ) (ns sh o : List ℕ) (h : Prepared n ns sh o) (s : Square) (p
       go (i ∷ is) = ap (λ r. (squareKey s * 4294967296 + s .level * 65536 + i) ∷ r) (go is)
 
   -- what a leaf leaves
-  pub built-leaf : (at r t : ℕ) (out out′ l l′ is : List ℕ) (head : ℕ)
+  pub built-leaf : (most at r t : ℕ) (out out′ l l′ is : List ℕ) (head : ℕ)
       → stopped (tableOf ns n) s ≡ true
       → is ≡ trianglesMeeting (tableOf ns n) s
       → head ≡ squareKey s * 4294967296 + s .level * 65536
-      → (at + length (orMark is) ≤ 16384 → (r ≡ at + length (orMark is)) × (out′ ≡ sets out at (map (λ i. head + i) (orMark is))))
-      → (16384 < at + length (orMark is) → r ≡ 16385)
+      → (at + length (orMark is) ≤ most → (r ≡ at + length (orMark is)) × (out′ ≡ sets out at (map (λ i. head + i) (orMark is))))
+      → (most < at + length (orMark is) → r ≡ most + 1)
       → take t l′ ≡ take t l → length out′ ≡ length out → length l′ ≡ length l
-      → Built (entriesIn (tableOf ns n) s) at r t out out′ l l′
-  built-leaf at r t out out′ l l′ is head st ei eh fits over kept outs stacks =
+      → Built (entriesIn (tableOf ns n) s) most at r t out out′ l l′
+  built-leaf most at r t out out′ l l′ is head st ei eh fits over kept outs stacks =
       let pc = packed-cell head eh in
       let len : length (orMark is) ≡ length (cellEntries (tableOf ns n) s) =
       ap (λ x. length (orMark x)) ei
@@ -93,7 +95,7 @@ module _ (n : ℕ) (ns sh o : List ℕ) (h : Prepared n ns sh o) (s : Square) (p
         kept = kept;
         outs = outs;
         stacks = stacks;
-        end = elim (decLe (at + length (orMark is)) 16384) [
+        end = elim (decLe (at + length (orMark is)) most) [
           | yes g ↦ let x = fits g in omega (arith, x .0)
           | no g ↦ let x = over (omega arith) in omega arith
         ];

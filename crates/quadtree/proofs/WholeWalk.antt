@@ -24,14 +24,10 @@ use Rattle.chart_laws.proofs.TableLaws.{tableOf-length}
 use Rattle.shapes.specs.Shape.{shapeOf, offsetsOf}
 use Rattle.shapes.proofs.ShapeLaws.{shape-length, offsets-length}
 use Rattle.lists.proofs.FlatMapLaws.{flatMap-length}
-use Rattle.quadtree.specs.Build.{part, Ready, Prepared, Candidates}
-use Rattle.quadtree.proofs.WalkLaws.{part-stored, ready-stored}
-
--- a list that is stored from place 0 on stands there
-pub take-stored : (l v : List ℕ) (n : ℕ) → length v ≡ n → n ≤ length l → take n (sets l 0 v) ≡ v
-take-stored l v n e h =
-    let p : 0 + length v - 0 ≡ n = omega arith in
-    sym (ap (λ m. take m (sets l 0 v)) p) ∙ part-stored l v 0 (omega arith)
+use Rattle.candidates.specs.Stack.{part, Ready, Prepared}
+use Rattle.quadtree.specs.Build.{Candidates}
+use Rattle.candidates.proofs.ReadyLaws.{ready-stored}
+use Rattle.candidates.proofs.ReadyLaws.{take-stored}
 
 pub part-whole : (n : ℕ) (l : List ℕ) → part 0 n l ≡ take n l
 part-whole n l =

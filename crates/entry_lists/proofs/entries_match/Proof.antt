@@ -25,7 +25,7 @@ slice-aggregate-build-5 : tie.Need-slice-aggregate-build-5
 slice-aggregate-build-5 c = search needs
 
 build-requires : tie.Need-build-requires
-build-requires c κs = (c .before .before .before .before .before .before .before .before .before .pre .0, ((omega arith, (omega arith, omega arith)), (omega arith, omega arith)))
+build-requires c κs = (c .before .before .before .before .before .before .before .before .before .pre .0, ((omega arith, (omega arith, omega arith)), (omega arith, (omega arith, omega arith))))
 
 returns : tie.Need-returns
 returns c =

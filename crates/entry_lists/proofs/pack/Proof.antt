@@ -1,6 +1,6 @@
 use mathlib.Core.Path.{refl}
 use borrow.Author.Needs.{needs}
-use Rattle.quadtree.specs.Build.{packed}
+use Rattle.leaves.specs.Packed.{packed}
 use Rattle.entry_lists.proofs.pack.Statement.{statement}
 use Rattle.entry_lists.proofs.pack.Tie as tie
 

@@ -12,7 +12,8 @@ use Rattle.chart_spec.specs.Table.{tableOf}
 use Rattle.chart_spec.specs.Cells.{entriesIn}
 use Rattle.shapes.specs.Shape.{coordinates}
 use Rattle.quadtree.specs.Build.{Built}
-use Rattle.quadtree.proofs.WalkLaws.{built-none, built-join, ready-fits, ready-kept, part-kept, take-less}
+use Rattle.quadtree.proofs.WalkLaws.{built-none, built-join}
+use Rattle.candidates.proofs.ReadyLaws.{ready-fits, ready-kept, part-kept, take-less}
 use Rattle.quadtree.proofs.SquareWalk.{Narrowed, after-narrow, narrow-room, level-below, key-small, built-leaf, quarter-tree, quarter-level, quarter-first, quarter-candidates, quarters-more, quarters-all}
 use borrow.Fn.Kinds.{In}
 use borrow.Fn.PlainCycle.{Measures, is, falls, and}
@@ -20,11 +21,11 @@ use Rattle.quadtree.proofs.build_square.Reads as build-square
 use Rattle.quadtree.proofs.build_square.Kinds as build-square-kinds
 use Rattle.quadtree.proofs.+build_square.Lts-build_square as build-square-lts
 use Rattle.quadtree.proofs.frame_of.Reads as frame-of-reads
-use Rattle.quadtree.proofs.head_of.Reads as head-of-reads
-use Rattle.quadtree.proofs.is_stopped.Reads as is-stopped-reads
+use Rattle.leaves.proofs.head_of.Reads as head-of-reads
+use Rattle.stopping.proofs.is_stopped.Reads as is-stopped-reads
 use Rattle.quadtree.proofs.key_step.Reads as key-step-reads
-use Rattle.quadtree.proofs.narrow.Reads as narrow-reads
-use Rattle.quadtree.proofs.put_leaf.Reads as put-leaf-reads
+use Rattle.candidates.proofs.narrow.Reads as narrow-reads
+use Rattle.leaves.proofs.put_leaf.Reads as put-leaf-reads
 use Rattle.quadtree.proofs.quarter.Reads as quarter-reads
 use Rattle.quadtree.proofs.+build_square.{statement}
 use Rattle.quadtree.proofs.+build_square.Tie.{close}
@@ -62,13 +63,17 @@ calls t = (
 )
 
 abbrev build-square-Inv-loop : build-square-lts.InvT-loop
-build-square-Inv-loop corners n shape offsets stack₀ from to s key out₀ at top step first₀ next₀ k₀ stack out first next k =
+build-square-Inv-loop corners n shape offsets stack₀ from to s key out₀ at most top step first₀ next₀ k₀ stack out first next k =
     (k ≤ 4) × ((first ≡ squareKey s + k * span 4 16 (suc (s .level)))
-    × Built (flatMap (λ x. entriesIn (tableOf (coordinates corners) n) x) (take k (quarters s))) at next top out₀ out stack₀ stack)
+    × Built (flatMap (λ x. entriesIn (tableOf (coordinates corners) n) x) (take k (quarters s))) most at next top out₀ out stack₀ stack)
 
 abbrev build-square-μ-loop : build-square-lts.MeasureT-loop
-build-square-μ-loop corners n shape offsets stack₀ from to s key out₀ at top step first₀ next₀ k₀ stack out first next k =
+build-square-μ-loop corners n shape offsets stack₀ from to s key out₀ at most top step first₀ next₀ k₀ stack out first next k =
     4 - k
+
+build-square-add-result : (t : ℕ) → build-square-lts.Need-add-result (calls t) (build-square-at t) build-square.Post build-square-Inv-loop build-square-μ-loop
+build-square-add-result t c =
+    omega (arith, c .before .before .before .before .before .before .pre .1 .1 .1 .1 .1 .0)
 
 build-square-returns : (t : ℕ) → build-square-lts.Need-returns (calls t) (build-square-at t) build-square.Post build-square-Inv-loop build-square-μ-loop
 build-square-returns t c =
@@ -121,7 +126,7 @@ build-square-put-leaf-requires t c κs =
     let h = pre .0 .1 .0 in
     let tr = pre .0 .1 .1 .1 in
     let w = after-narrow (a .n) (coordinates (a .corners .now)) (a .shape .now) (a .offsets .now) h (a .s) tr (a .from) (a .to) _ (a .stack .now) _ _ (pre .0 .0) (pre .0 .1 .1 .0) (c .before .before .before .before .before .before .before .before .before .before .frame-of .ensures .0) (pre .1 .1 .0) (c .before .before .before .before .before .before .before .before .narrow .ensures .0) (c .before .before .before .before .before .before .before .before .narrow .ensures .1) in
-    ((w .ready .order, w .ready .within), (pre .1 .1 .1 .0, (c .before .before .before .before .before .before .before .before .before .before .before .if1 .left, c .before .head-of .ensures .1)))
+    ((w .ready .order, w .ready .within), (pre .1 .1 .1 .0, (c .before .before .before .before .before .before .before .before .before .before .before .if1 .left, (c .before .head-of .ensures .1, pre .1 .1 .1 .1 .0))))
 
 build-square-same-length : (t : ℕ) → build-square-lts.Need-same-length (calls t) (build-square-at t) build-square.Post build-square-Inv-loop build-square-μ-loop
 build-square-same-length t c =
@@ -139,7 +144,7 @@ build-square-returns-2 t c =
     let tr = pre .0 .1 .1 .1 in
     let w = after-narrow (a .n) (coordinates (a .corners .now)) (a .shape .now) (a .offsets .now) h (a .s) tr (a .from) (a .to) _ (a .stack .now) _ _ (pre .0 .0) (pre .0 .1 .1 .0) (c .before .before .before .before .before .before .before .before .before .before .before .before .before .frame-of .ensures .0) (pre .1 .1 .0) (c .before .before .before .before .before .before .before .before .before .before .before .narrow .ensures .0) (c .before .before .before .before .before .before .before .before .before .before .before .narrow .ensures .1) in
     let st = sym (c .before .before .before .before .before .before .before .is-stopped .ensures) ∙ c .before .before .before .before .before .before .if2 .taken in
-    built-leaf (a .n) (coordinates (a .corners .now)) (a .shape .now) (a .offsets .now) h (a .s) tr (a .at) _ (a .to) (a .out .now) _ (a .stack .now) _ _ _ st (w .triangles)
+    built-leaf (a .n) (coordinates (a .corners .now)) (a .shape .now) (a .offsets .now) h (a .s) tr (a .most) (a .at) _ (a .to) (a .out .now) _ (a .stack .now) _ _ _ st (w .triangles)
     (c .before .before .before .before .head-of .ensures .0 ∙ ap (λ x. x * 4294967296 + a .s .level * 65536) (pre .1 .0))
     (c .before .before .put-leaf .ensures .0) (c .before .before .put-leaf .ensures .1) (w .kept) (search needs) (w .same)
 
@@ -205,7 +210,7 @@ build-square-build-square-requires t c κs =
             rw (m, inv .stacks) (w .room),
             (
               rw (inv .outs) (pre .1 .1 .1 .0),
-              inv .end,
+              (pre .1 .1 .1 .1 .0, inv .end),
             ),
           ),
         ),
@@ -288,6 +293,7 @@ pub +build-square-spec : {M : Type 1} → statement M
     build-square.Post
     build-square-Inv-loop
     build-square-μ-loop
+    (build-square-add-result t)
     (build-square-returns t)
     (build-square-frame-of-requires t)
     (build-square-narrow-requires t)

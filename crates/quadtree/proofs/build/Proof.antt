@@ -33,7 +33,7 @@ build-square-requires c κs =
           (p .1 .0 .0) (p .1 .0 .1 .0) (p .1 .1 .0) (λ k. omega (arith, c .before .before .before .before .before .before .before .before .before .before .slice-known8 .given k)) (p .0 .1),
       (
         whole-key ∙ sym (ap squareKey w),
-        (whole-room (a .n) (a .table .now) (a .stack .now) _ _ u w (p .1 .1 .0), (p .1 .1 .1, omega arith)),
+        (whole-room (a .n) (a .table .now) (a .stack .now) _ _ u w (p .1 .1 .0), (p .1 .1 .1 .0, (p .1 .1 .1 .1, omega arith))),
       ),
     )
 

@@ -1,0 +1,4 @@
+pub mod MaskLaws
+pub mod EndLaws
+pub mod CoordinateLaws
+pub mod StopLaws
