@@ -165,7 +165,7 @@ fn near_apart(table: &[u16], near: &[usize], i: usize, c: usize) -> bool
     let s = tables::triangle_at(table, i);
     let mut k = 0;
     while k < c {
-        if geometry::interiors_meet(s, tables::triangle_at(table, near[k])) {
+        if interiors::interiors_meet(s, tables::triangle_at(table, near[k])) {
             return false;
         }
         k += 1;
@@ -222,7 +222,7 @@ fn each_apart(table: &[u16], i: usize) -> bool
     let s = tables::triangle_at(table, i);
     let mut k = 0;
     while k < i {
-        if geometry::interiors_meet(s, tables::triangle_at(table, k)) {
+        if interiors::interiors_meet(s, tables::triangle_at(table, k)) {
             return false;
         }
         k += 1;

@@ -49,7 +49,7 @@ fn doubled(t: [Point; 3]) -> u64
     requires { ⌜ proper (triangleOf t) ≡ true ⌝ }
     ensures { λ r. ⌜ (r ≡ doubledArea (triangleOf t)) × (r < 17179869184) ⌝ }
 {
-    let d = geometry::orientation(t[0], t[1], t[2]);
+    let d = orientation::orientation(t[0], t[1], t[2]);
     d.high - d.low
 }
 

@@ -1,5 +1,5 @@
 use Rattle.plane.specs.Triangle.{rotated, cornerAt}
-use Rattle.geometry.proofs.Widths.{mod-add}
+use Rattle.orientation.proofs.Widths.{mod-add}
 use borrow.Author.Needs.{needs}
 use Rattle.geometry.proofs.rotated.Statement.{statement}
 use Rattle.geometry.proofs.rotated.Tie as tie

@@ -2,9 +2,9 @@ use native.Mathlib.Nat.{lt-of-lt-of-le}
 use lib.Dec.{lit≤}
 use mathlib.Core.Path.{refl}
 use borrow.Author.Needs.{needs}
-use Rattle.geometry.proofs.Widths.{below}
-use Rattle.geometry.proofs.product.Statement.{statement}
-use Rattle.geometry.proofs.product.Tie as tie
+use Rattle.orientation.proofs.Widths.{below}
+use Rattle.orientation.proofs.product.Statement.{statement}
+use Rattle.orientation.proofs.product.Tie as tie
 
 mul-result : tie.Need-mul-result
 mul-result c = record { fits = lt-of-lt-of-le (below 16 (search needs) (search needs)) (lit≤ tt) }

@@ -3,8 +3,8 @@ use mathlib.Core.Bool.{_||_}
 use Rattle.plane.specs.Triangle.{triangleOf, cornerAt}
 use Rattle.plane.specs.Interior.{someCornerInner}
 use borrow.Author.Needs.{needs}
-use Rattle.geometry.proofs.some_corner_inner.Statement.{statement}
-use Rattle.geometry.proofs.some_corner_inner.Tie as tie
+use Rattle.interiors.proofs.some_corner_inner.Statement.{statement}
+use Rattle.interiors.proofs.some_corner_inner.Tie as tie
 
 array-copy-out-is-inner : tie.Need-array-copy-out-is-inner
 array-copy-out-is-inner c = search needs

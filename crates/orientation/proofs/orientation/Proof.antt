@@ -1,9 +1,9 @@
 use mathlib.Core.Path.{ap₂}
 use Prim.Native.Nat.{_+_}
-use Rattle.geometry.proofs.Sums.{sums-orient}
+use Rattle.orientation.proofs.Sums.{sums-orient}
 use borrow.Author.Needs.{needs}
-use Rattle.geometry.proofs.orientation.Statement.{statement}
-use Rattle.geometry.proofs.orientation.Tie as tie
+use Rattle.orientation.proofs.orientation.Statement.{statement}
+use Rattle.orientation.proofs.orientation.Tie as tie
 
 product-requires : tie.Need-product-requires
 product-requires c κs = search needs

@@ -7,7 +7,7 @@ use lib.IntN.{ℤ, pos, _-ℤ_}
 use lib.Signed.{ltZ, leZ}
 use Rattle.plane.specs.declared.Point.{Point}
 use Rattle.plane.specs.Point.{orient}
-use Rattle.plane.proofs.Difference.{Diff, diff, diff-unique, diff-above, diff-nonneg}
+use Rattle.plane.proofs.Difference.{diff, diff-unique, diff-above, diff-nonneg}
 use Rattle.plane.proofs.OrientLaws.{orientHigh, orientLow, orient-difference}
 
 -- the difference of the two sums is D

@@ -1,7 +1,7 @@
-use Rattle.geometry.proofs.Sums.{sums-nonneg}
+use Rattle.orientation.proofs.Sums.{sums-nonneg}
 use borrow.Author.Needs.{needs}
-use Rattle.geometry.proofs.is_not_outer.Statement.{statement}
-use Rattle.geometry.proofs.is_not_outer.Tie as tie
+use Rattle.orientation.proofs.is_not_outer.Statement.{statement}
+use Rattle.orientation.proofs.is_not_outer.Tie as tie
 
 orientation-requires : tie.Need-orientation-requires
 orientation-requires c κs = search needs

@@ -4,8 +4,8 @@ use borrow.Author.Needs.{needs}
 use borrow.Author.Tests.{not-true, not-false}
 use Rattle.plane.specs.Triangle.{triangleOf, cornerAt}
 use Rattle.plane.specs.Interior.{someCornerInner, noSideSeparates}
-use Rattle.geometry.proofs.no_side_separates.Statement.{statement}
-use Rattle.geometry.proofs.no_side_separates.Tie as tie
+use Rattle.interiors.proofs.no_side_separates.Statement.{statement}
+use Rattle.interiors.proofs.no_side_separates.Tie as tie
 
 -- "and" of three fails at its first, and at its second
 first-fails : {x : Bool} (y z : Bool) → false ≡ x → false ≡ x && y && z

@@ -4,8 +4,8 @@ use borrow.Author.Needs.{needs}
 use borrow.Author.Tests.{not-true, not-false}
 use Rattle.plane.specs.Triangle.{triangleOf}
 use Rattle.plane.specs.Interior.{noSideSeparates, interiorsMeet}
-use Rattle.geometry.proofs.interiors_meet.Statement.{statement}
-use Rattle.geometry.proofs.interiors_meet.Tie as tie
+use Rattle.interiors.proofs.interiors_meet.Statement.{statement}
+use Rattle.interiors.proofs.interiors_meet.Tie as tie
 
 -- "and" fails at its first
 first-fails : {x : Bool} (y : Bool) → false ≡ x → false ≡ x && y
