@@ -76,7 +76,7 @@ pub fn split(
     match changes::judge_edit(table, keys, levels, items, triangles, entries) {
         Judged::Fine => {
             let mut scratch = [0u16; tables::TABLE_NUMBERS];
-            let made = table_edits::split_table(table, triangles, i, p, &mut scratch);
+            let made = vertex_insertion::split_table(table, triangles, i, p, &mut scratch);
             finish(
                 made,
                 &scratch,
@@ -109,7 +109,7 @@ pub fn take_out(
     match changes::judge_edit(table, keys, levels, items, triangles, entries) {
         Judged::Fine => {
             let mut scratch = [0u16; tables::TABLE_NUMBERS];
-            let made = table_edits::take_out_table(table, triangles, p, &mut scratch);
+            let made = vertex_removal::take_out_table(table, triangles, p, &mut scratch);
             finish(
                 made,
                 &scratch,
@@ -143,7 +143,7 @@ pub fn flip(
     match changes::judge_edit(table, keys, levels, items, triangles, entries) {
         Judged::Fine => {
             let mut scratch = [0u16; tables::TABLE_NUMBERS];
-            let made = table_edits::flip_table(table, triangles, i, j, &mut scratch);
+            let made = edge_flip::flip_table(table, triangles, i, j, &mut scratch);
             finish(
                 made,
                 &scratch,

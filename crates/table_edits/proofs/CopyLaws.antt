@@ -5,14 +5,14 @@ use mathlib.Core.List.{List, [], _∷_, _++_, append-nil, append-assoc}
 use Prim.Native.Nat.{ℕ, suc, _+_, _*_, _-_, _≤_, _<_}
 use native.Mathlib.Numerals.{add-one}
 use native.Mathlib.Omega.{arith}
-use lib.ListN.{length, drop, drop-of-length-le}
+use lib.ListN.{length, set, drop, drop-of-length-le}
 use lib.Seq.{drop-append-le}
 use Rattle.lists.specs.Lists.{upTo, countFrom}
 use Rattle.plane.specs.declared.Point.{Point}
 use Rattle.plane.specs.Triangle.{Triangle, triangleOf, cornerAt, corners}
-use Rattle.chart_spec.specs.Table.{triangleAt, tableOf}
+use Rattle.chart_spec.specs.Table.{numbersPerTriangle, triangleAt, tableOf}
 use Rattle.chart_laws.proofs.TableLaws.{tableOf-length, tableOf-suc}
-use Rattle.table_edits.proofs.RowLaws.{withRow, withRow-length, rows-append}
+use Rattle.table_edits.proofs.RowLaws.{withRow, withRow-length, rows-append, rows-set}
 
 -- the rows first, .., i - 1 of ns stand behind the first m rows that the scratch table had
 pub record Appending (ns : List ℕ) (first end : ℕ) (o : List ℕ) (m : ℕ) (o′ : List ℕ) (i : ℕ) : Type 0 where
@@ -41,7 +41,7 @@ triangle-read t e = ap triangleOf e
 
 -- one more
 pub appending-next : {ns o o′ o″ : List ℕ} {first end m i : ℕ} {s : List Point} → Appending ns first end o m o′ i → i < end
-    → 6 * (m + (end - first)) ≤ length o → s ≡ corners (triangleAt ns i) → o″ ≡ withRow o′ (m + (i - first)) (triangleOf s)
+    → numbersPerTriangle * (m + (end - first)) ≤ length o → s ≡ corners (triangleAt ns i) → o″ ≡ withRow o′ (m + (i - first)) (triangleOf s)
     → Appending ns first end o m o″ (i + 1)
 appending-next {ns} {o} {o′} {o″} {first} {end} {m} {i} {s} a h room read wrote =
     let t = triangleAt ns i in
@@ -72,3 +72,9 @@ appending-end {ns} {o} {o′} {first} {end} {m} {i} a h =
 pub whole-copy : (ns o o′ : List ℕ) (n : ℕ) → tableOf o′ (0 + (n - 0)) ≡ tableOf o 0 ++ drop 0 (tableOf ns n) → tableOf o′ n ≡ tableOf ns n
 unfolding tableOf upTo countFrom
 whole-copy ns o o′ n e = let k : n ≡ 0 + (n - 0) = omega arith in ap (tableOf o′) k ∙ e
+
+-- a whole table copied, then a triangle written into one of its rows
+pub row-replaced : (ns o o₁ o₂ : List ℕ) (n i : ℕ) (x : Triangle) → i < n → numbersPerTriangle * n ≤ length o₁
+    → tableOf o₁ (0 + (n - 0)) ≡ tableOf o 0 ++ drop 0 (tableOf ns n) → o₂ ≡ withRow o₁ i x → tableOf o₂ n ≡ set (tableOf ns n) i x
+row-replaced ns o o₁ o₂ n i x h room e₁ e₂ =
+    ap (λ l. tableOf l n) e₂ ∙ rows-set o₁ i n x h room ∙ ap (λ l. set l i x) (whole-copy ns o o₁ n e₁)

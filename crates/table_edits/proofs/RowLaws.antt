@@ -12,7 +12,7 @@ use lib.ListN.{length, getD, set, length-set}
 use lib.Seq.{sets, length-sets, getD-set-same, getD-set-other, set-at, set-append-left}
 use Rattle.lists.specs.Lists.{upTo, countFrom}
 use Rattle.plane.specs.Triangle.{Triangle}
-use Rattle.chart_spec.specs.Table.{pointAt, triangleAt, tableOf, triangleNumbers}
+use Rattle.chart_spec.specs.Table.{numbersPerTriangle, pointAt, triangleAt, tableOf, triangleNumbers}
 use Rattle.chart_laws.proofs.TableLaws.{tableOf-length, tableOf-suc}
 
 -- a place before a run of stores, or after it, keeps its number
@@ -36,30 +36,30 @@ getD-sets-same (v ∷ vs) l i (suc j) h b =
 
 -- the list of numbers with the triangle t in row i
 abbrev pub withRow : List ℕ → ℕ → Triangle → List ℕ
-withRow ns i t = sets ns (6 * i) (triangleNumbers t)
+withRow ns i t = sets ns (numbersPerTriangle * i) (triangleNumbers t)
 
 -- as long as before
 pub withRow-length : (ns : List ℕ) (i : ℕ) (t : Triangle) → length (withRow ns i t) ≡ length ns
-withRow-length ns i t = length-sets ns (6 * i) (triangleNumbers t)
+withRow-length ns i t = length-sets ns (numbersPerTriangle * i) (triangleNumbers t)
 
 -- the triangle of that row
-pub row-same : (ns : List ℕ) (i : ℕ) (t : Triangle) → 6 * (i + 1) ≤ length ns → triangleAt (withRow ns i t) i ≡ t
+pub row-same : (ns : List ℕ) (i : ℕ) (t : Triangle) → numbersPerTriangle * (i + 1) ≤ length ns → triangleAt (withRow ns i t) i ≡ t
 unfolding triangleAt pointAt triangleNumbers
 row-same ns i t h =
-    let at : (j : ℕ) → j < 6 → getD (withRow ns i t) (6 * i + j) 0 ≡ getD (triangleNumbers t) j 0 = λ j b.
-    getD-sets-same (triangleNumbers t) ns (6 * i) j b (omega arith) in
-    let e : 6 * i + 2 + 1 ≡ 6 * i + 3 = omega arith in
-    let f : 6 * i + 4 + 1 ≡ 6 * i + 5 = omega arith in
-    let g : 6 * i ≡ 6 * i + 0 = omega arith in
-    let read : (k j : ℕ) → k ≡ 6 * i + j → j < 6 → getD (withRow ns i t) k 0 ≡ getD (triangleNumbers t) j 0 = λ k j q b.
+    let at : (j : ℕ) → j < numbersPerTriangle → getD (withRow ns i t) (numbersPerTriangle * i + j) 0 ≡ getD (triangleNumbers t) j 0 = λ j b.
+    getD-sets-same (triangleNumbers t) ns (numbersPerTriangle * i) j b (omega arith) in
+    let e : numbersPerTriangle * i + 2 + 1 ≡ numbersPerTriangle * i + 3 = omega arith in
+    let f : numbersPerTriangle * i + 4 + 1 ≡ numbersPerTriangle * i + 5 = omega arith in
+    let g : numbersPerTriangle * i ≡ numbersPerTriangle * i + 0 = omega arith in
+    let read : (k j : ℕ) → k ≡ numbersPerTriangle * i + j → j < numbersPerTriangle → getD (withRow ns i t) k 0 ≡ getD (triangleNumbers t) j 0 = λ k j q b.
     ap (λ m. getD (withRow ns i t) m 0) q ∙ at j b in
     λ z. record {
-      a = record { x = read (6 * i) 0 g (omega arith) z; y = read (6 * i + 1) 1 refl (omega arith) z };
-      b = record { x = read (6 * i + 2) 2 refl (omega arith) z; y = read (6 * i + 2 + 1) 3 e (omega arith) z };
-      c = record { x = read (6 * i + 4) 4 refl (omega arith) z; y = read (6 * i + 4 + 1) 5 f (omega arith) z };
+      a = record { x = read (numbersPerTriangle * i) 0 g (omega arith) z; y = read (numbersPerTriangle * i + 1) 1 refl (omega arith) z };
+      b = record { x = read (numbersPerTriangle * i + 2) 2 refl (omega arith) z; y = read (numbersPerTriangle * i + 2 + 1) 3 e (omega arith) z };
+      c = record { x = read (numbersPerTriangle * i + 4) 4 refl (omega arith) z; y = read (numbersPerTriangle * i + 4 + 1) 5 f (omega arith) z };
     }
 
-clear : (i j k : ℕ) → (j < i) ⊎ (i < j) → 6 * j ≤ k → k < 6 * j + 6 → (k < 6 * i) ⊎ (6 * i + 6 ≤ k)
+clear : (i j k : ℕ) → (j < i) ⊎ (i < j) → numbersPerTriangle * j ≤ k → k < numbersPerTriangle * j + numbersPerTriangle → (k < numbersPerTriangle * i) ⊎ (numbersPerTriangle * i + numbersPerTriangle ≤ k)
 clear i j k (inl h) a b = inl (omega arith)
 clear i j k (inr h) a b = inr (omega arith)
 
@@ -67,12 +67,12 @@ clear i j k (inr h) a b = inr (omega arith)
 pub row-other : (ns : List ℕ) (i j : ℕ) (t : Triangle) → (j < i) ⊎ (i < j) → triangleAt (withRow ns i t) j ≡ triangleAt ns j
 unfolding triangleAt pointAt triangleNumbers
 row-other ns i j t h =
-    let read : (k : ℕ) → 6 * j ≤ k → k < 6 * j + 6 → getD (withRow ns i t) k 0 ≡ getD ns k 0 = λ k a b.
-    getD-sets-other (triangleNumbers t) ns (6 * i) k (clear i j k h a b) in
+    let read : (k : ℕ) → numbersPerTriangle * j ≤ k → k < numbersPerTriangle * j + numbersPerTriangle → getD (withRow ns i t) k 0 ≡ getD ns k 0 = λ k a b.
+    getD-sets-other (triangleNumbers t) ns (numbersPerTriangle * i) k (clear i j k h a b) in
     λ z. record {
-      a = record { x = read (6 * j) (omega arith) (omega arith) z; y = read (6 * j + 1) (omega arith) (omega arith) z };
-      b = record { x = read (6 * j + 2) (omega arith) (omega arith) z; y = read (6 * j + 2 + 1) (omega arith) (omega arith) z };
-      c = record { x = read (6 * j + 4) (omega arith) (omega arith) z; y = read (6 * j + 4 + 1) (omega arith) (omega arith) z };
+      a = record { x = read (numbersPerTriangle * j) (omega arith) (omega arith) z; y = read (numbersPerTriangle * j + 1) (omega arith) (omega arith) z };
+      b = record { x = read (numbersPerTriangle * j + 2) (omega arith) (omega arith) z; y = read (numbersPerTriangle * j + 2 + 1) (omega arith) (omega arith) z };
+      c = record { x = read (numbersPerTriangle * j + 4) (omega arith) (omega arith) z; y = read (numbersPerTriangle * j + 4 + 1) (omega arith) (omega arith) z };
     }
 
 -- the rows before it
@@ -85,14 +85,14 @@ rows-before ns i (suc n) t h =
     ∙ sym (tableOf-suc ns n)
 
 -- a triangle written behind the first n is appended to them
-pub rows-append : (ns : List ℕ) (n : ℕ) (t : Triangle) → 6 * (n + 1) ≤ length ns
+pub rows-append : (ns : List ℕ) (n : ℕ) (t : Triangle) → numbersPerTriangle * (n + 1) ≤ length ns
     → tableOf (withRow ns n t) (suc n) ≡ tableOf ns n ++ (t ∷ [])
 rows-append ns n t h =
     tableOf-suc (withRow ns n t) n
     ∙ ap₂ (λ l s. l ++ (s ∷ [])) (rows-before ns n n t (omega arith)) (row-same ns n t h)
 
 -- a triangle written into one of the first n rows replaces what stood there
-pub rows-set : (ns : List ℕ) (i n : ℕ) (t : Triangle) → i < n → 6 * n ≤ length ns
+pub rows-set : (ns : List ℕ) (i n : ℕ) (t : Triangle) → i < n → numbersPerTriangle * n ≤ length ns
     → tableOf (withRow ns i t) n ≡ set (tableOf ns n) i t
 rows-set ns i zero t h b = absurd (omega arith)
 rows-set ns i (suc n) t h b = go (decLe (suc i) n) (λ l. rows-set ns i n t l (omega arith))

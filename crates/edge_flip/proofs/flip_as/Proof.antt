@@ -1,0 +1,88 @@
+use mathlib.Core.Path.{sym, _∙_, ap, ap₂}
+use mathlib.Core.Bool.{_&&_}
+use native.Mathlib.Omega.{arith}
+use borrow.Author.Tests.{not-true, not-false}
+use Rattle.plane.specs.Triangle.{triangleOf, cornerAt}
+use Rattle.chart_spec.specs.Table.{tableOf}
+use Rattle.chart_spec.specs.Refusals.{done}
+use Rattle.chart_spec.specs.Edits.{triangle}
+use Rattle.edge_flip.proofs.FlipSteps.{as-refused, as-made, second-row}
+use borrow.Author.Needs.{needs}
+use Rattle.edge_flip.proofs.flip_as.Statement.{statement}
+use Rattle.edge_flip.proofs.flip_as.Tie as tie
+
+array-copy-out-t14 : tie.Need-array-copy-out-t14
+array-copy-out-t14 c = search needs
+
+array-copy-out-t17 : tie.Need-array-copy-out-t17
+array-copy-out-t17 c = search needs
+
+array-copy-out-t20 : tie.Need-array-copy-out-t20
+array-copy-out-t20 c = search needs
+
+array-copy-out-t14-2 : tie.Need-array-copy-out-t14-2
+array-copy-out-t14-2 c = search needs
+
+array-copy-out-t20-2 : tie.Need-array-copy-out-t20-2
+array-copy-out-t20-2 c = search needs
+
+array-copy-out-t17-2 : tie.Need-array-copy-out-t17-2
+array-copy-out-t17-2 c = search needs
+
+is-proper-requires : tie.Need-is-proper-requires
+is-proper-requires c κs = search needs
+
+is-proper-requires-2 : tie.Need-is-proper-requires-2
+is-proper-requires-2 c κs = search needs
+
+returns : tie.Need-returns
+unfolding triangle triangleOf cornerAt
+returns c =
+    let a = c .before .before .before .before .before .before .before .before .before .before .before .args in
+    let both = ap₂ _&&_ (c .before .before .is-proper .ensures) (c .before .is-proper2 .ensures) in (
+      sym (as-refused (tableOf (a .table .now) (a .n)) (a .i) (a .j) (triangleOf (a .t5)) (triangleOf (a .t6))
+          (sym both ∙ not-true (c .before .before .is-proper .result && c .before .is-proper2 .result) (c .if1 .taken))),
+      omega arith,
+    )
+
+replace-row-requires : tie.Need-replace-row-requires
+replace-row-requires c κs = search needs
+
+put-triangle-requires : tie.Need-put-triangle-requires
+put-triangle-requires c κs = search needs
+
+same-length : tie.Need-same-length
+same-length c = search needs
+
+returns-2 : tie.Need-returns-2
+unfolding triangle triangleOf cornerAt
+returns-2 c =
+    let a = c .before .before .before .before .before .before .before .before .before .before .before .before .before .before .before .before .before .before .before .args in
+    let s = a .t5 in
+    let u = a .t6 in
+    let both = ap₂ _&&_ (c .before .before .before .before .before .before .before .before .before .before .is-proper .ensures) (c .before .before .before .before .before .before .before .before .before .is-proper2 .ensures) in
+    let rows = second-row (c .before .before .before .before .before .before .replace-row .last .1 .1 .1 .1 .0) (c .before .before .put-triangle .last .0) (a .n) (a .j) (triangle (cornerAt u 2) (cornerAt s 1) (cornerAt s 2))
+    (c .before .before .before .before .before .before .before .before .before .before .before .before .before .before .before .before .before .before .before .pre .0 .1) (omega arith) (c .before .before .before .before .before .before .replace-row .ensures) (c .before .before .put-triangle .ensures) in (
+      ap done rows
+          ∙ sym (as-made (tableOf (a .table .now) (a .n)) (a .i) (a .j) (triangleOf s) (triangleOf u)
+          (sym both ∙ not-false (c .before .before .before .before .before .before .before .before .before .before .is-proper .result && c .before .before .before .before .before .before .before .before .before .is-proper2 .result) (c .before .before .before .before .before .before .before .before .if1 .left))),
+      omega arith,
+    )
+
+pub flip-as-spec : {M : Type 1} → statement M
+flip-as-spec =
+    tie.close
+    (tie.spec
+    array-copy-out-t14
+    array-copy-out-t17
+    array-copy-out-t20
+    array-copy-out-t14-2
+    array-copy-out-t20-2
+    array-copy-out-t17-2
+    is-proper-requires
+    is-proper-requires-2
+    returns
+    replace-row-requires
+    put-triangle-requires
+    same-length
+    returns-2)

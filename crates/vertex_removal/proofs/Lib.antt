@@ -1,0 +1,2 @@
+pub mod TakeOutSteps
+pub mod MergeRows

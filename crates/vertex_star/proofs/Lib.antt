@@ -1,0 +1,2 @@
+pub mod AroundSteps
+pub mod EndingLaws

@@ -1,0 +1,58 @@
+// The star of a vertex: the triangles of a plain table that have a point as a corner, one after another, and each rotated to end in it.
+
+use plane::Point;
+ghost use mathlib.Core.Path.{_≡_};
+ghost use mathlib.Core.List.{[], _∷_};
+ghost use Prim.Native.Nat.{_+_, _*_, _≤_, _<_};
+ghost use lib.ListN.{length, drop};
+ghost use Rattle.lists.specs.Lists.{placesFrom};
+ghost use Rattle.plane.specs.Triangle.{triangleOf};
+ghost use Rattle.chart_spec.specs.Table.{numbersPerTriangle, triangleAt, tableOf};
+ghost use Rattle.chart_spec.specs.Edits.{hasCorner, endingIn};
+
+// The triangle has p as a corner.
+fn has_corner(s: [Point; 3], p: Point) -> bool
+    ensures { λ o. ⌜ o ≡ hasCorner p (triangleOf s) ⌝ }
+{
+    table_edits::same_point(p, s[0])
+        | table_edits::same_point(p, s[1])
+        | table_edits::same_point(p, s[2])
+}
+
+// The lowest number, from `first` on, of a triangle with p as a corner. If there is none, a number that no triangle has.
+pub fn next_around(table: &[u16], n: usize, p: Point, first: usize) -> usize
+    requires { ⌜ numbersPerTriangle * n ≤ length (now table) ⌝ }
+    ensures { λ r. ⌜ (first ≤ r) × (r ≤ n + first) ⌝ }
+    ensures { λ r. ⌜ (r < n → placesFrom (λ t. hasCorner p t) first (drop first (tableOf (now (table .entry)) n)) ≡ r ∷ placesFrom (λ t. hasCorner p t) (r + 1) (drop (r + 1) (tableOf (now (table .entry)) n))) ⌝ }
+    ensures { λ r. ⌜ (n ≤ r → placesFrom (λ t. hasCorner p t) first (drop first (tableOf (now (table .entry)) n)) ≡ []) ⌝ }
+{
+    let mut i = first;
+    while i < n {
+        if has_corner(tables::triangle_at(table, i), p) {
+            return i;
+        }
+        i += 1;
+    }
+    i
+}
+
+// The triangle rotated to end in its corner p.
+fn ending_in(s: [Point; 3], p: Point) -> [Point; 3]
+    ensures { λ r. ⌜ triangleOf r ≡ endingIn p (triangleOf s) ⌝ }
+{
+    if table_edits::same_point(p, s[2]) {
+        return geometry::rotated(s, 0);
+    }
+    if table_edits::same_point(p, s[1]) {
+        return geometry::rotated(s, 2);
+    }
+    geometry::rotated(s, 1)
+}
+
+// Triangle i of a table, rotated to end in its corner p.
+pub fn row_ending_in(table: &[u16], i: usize, p: Point) -> [Point; 3]
+    requires { ⌜ numbersPerTriangle * (i + 1) ≤ length (now table) ⌝ }
+    ensures { λ r. ⌜ triangleOf r ≡ endingIn p (triangleAt (now (table .entry)) i) ⌝ }
+{
+    ending_in(tables::triangle_at(table, i), p)
+}
