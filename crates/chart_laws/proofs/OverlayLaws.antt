@@ -14,8 +14,8 @@ use Rattle.lists.proofs.Reflects.{Reflects, reflects-and}
 use Rattle.lists.proofs.ListsLaws.{Every, upTo-to, upTo-from}
 use Rattle.lists.proofs.EveryLaws.{every-map}
 use Rattle.lists.proofs.MemberLaws.{filter-to, filter-from, flatMap-to, flatMap-from}
-use Rattle.lists.proofs.Order.{Ordered, ordered-imp}
-use Rattle.lists.proofs.OrderLaws.{ordered-map, ordered-filter, ordered-flatMap, upTo-ordered, ordered-once, ordered-unique}
+use Rattle.lists.proofs.Order.{Ordered, ordered-imp, ordered-map, ordered-filter}
+use Rattle.lists.proofs.OrderLaws.{ordered-flatMap, upTo-ordered, ordered-once, ordered-unique}
 use Rattle.orthtree.specs.Entries.{Entry}
 use Rattle.orthtree.proofs.TogetherLaws.{ListedTogether, listedTogether-reflects, together-swap}
 use Rattle.plane.specs.Triangle.{proper}
@@ -83,7 +83,7 @@ module _ (s : Table) (es : List Entry) (t : Table) (fs : List Entry) where
   row-ascends : (i : ℕ) → Ordered (λ p q. Earlier p q) (row i)
   row-ascends i =
       ordered-map (λ j. pair i j)
-      (ordered-imp (λ j l h. inr (refl, h)) (ordered-filter (λ j. pairListed s es t fs i j) (upTo-ordered (length t))))
+      (ordered-imp (λ j l h. inr (refl, h .0)) (ordered-filter (λ j. pairListed s es t fs i j) (upTo-ordered (length t))))
 
   -- the pairs ascend by i, then j, whatever the tables and entries are
   pub pairs-ascend : Ordered (λ p q. Earlier p q) (pairsListed s es t fs)

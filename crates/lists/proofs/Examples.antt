@@ -6,7 +6,7 @@ use mathlib.Core.List.{List, [], _∷_, map}
 use mathlib.Core.Option.{Option, none, some}
 use Prim.Native.Nat.{ℕ}
 use lib.Dec.{ltb}
-use Rattle.lists.specs.Lists.{all, any, filter, first, placesFrom, without, sumOf, countFrom, upTo}
+use Rattle.lists.specs.Lists.{all, any, filter, first, runLength, placesFrom, without, sumOf, countFrom, upTo}
 
 abbrev large : ℕ → Bool
 large n = ltb 4 n
@@ -26,6 +26,10 @@ filter-example = refl
 first-example : map (λ l. first large l) ((1 ∷ 7 ∷ 9 ∷ []) ∷ (1 ∷ 2 ∷ []) ∷ []) ≡ some 7 ∷ none ∷ []
 unfolding first
 first-example = refl
+
+run-example : map (λ l. runLength large l) ((9 ∷ 5 ∷ 1 ∷ 7 ∷ []) ∷ (1 ∷ 9 ∷ []) ∷ (6 ∷ 8 ∷ 7 ∷ []) ∷ []) ≡ 2 ∷ 0 ∷ 3 ∷ []
+unfolding runLength
+run-example = refl
 
 places-example : placesFrom large 3 (9 ∷ 1 ∷ 5 ∷ 7 ∷ 4 ∷ []) ≡ 3 ∷ 5 ∷ 6 ∷ []
 unfolding placesFrom

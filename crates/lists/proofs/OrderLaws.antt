@@ -1,4 +1,4 @@
--- Ordered lists that are built from others, and that in a list that is ordered strictly no element stands twice, and its elements
+-- Ordered lists that are joined, and that in a list that is ordered strictly no element stands twice, and its elements
 -- determine it.
 -- Each law is an induction along the order.
 -- Assumes nothing.
@@ -23,21 +23,6 @@ ordered-append ordered-none p h = p
 ordered-append (ordered-more {x = x} {xs = xs} r o) p h =
     let g = every-uncons h in
     ordered-more (every-append xs r (g .0)) (ordered-append o p (g .1))
-
--- a list of images
-pub ordered-map : {A B : Type 0} {R : B → B → Type 0} (f : A → B) {l : List A} → Ordered (λ x y. R (f x) (f y)) l → Ordered R (map f l)
-ordered-map f ordered-none = ordered-none
-ordered-map {R = R} f (ordered-more {x = x} {xs = xs} r o) = ordered-more (every-map (λ b. R (f x) b) f xs r) (ordered-map f o)
-
--- the elements that pass a test
-pub ordered-filter : {A : Type 0} {R : A → A → Type 0} (f : A → Bool) {l : List A} → Ordered R l → Ordered R (filter f l)
-unfolding filter
-ordered-filter f ordered-none = ordered-none
-ordered-filter {R = R} f (ordered-more {x = x} {xs = xs} r o) = go (f x) (ordered-filter f o)
-  where
-    go : (b : Bool) → Ordered R (filter f xs) → Ordered R (elim b [ true ↦ x ∷ filter f xs | false ↦ filter f xs ])
-    go true p = ordered-more (λ y m. r y (filter-to f xs m .0)) p
-    go false p = p
 
 -- many ordered lists joined, where each element of an earlier one stands in the relation to each of a later one
 pub ordered-flatMap : {A B : Type 0} {R : A → A → Type 0} {S : B → B → Type 0} (f : A → List B) {l : List A}

@@ -12,16 +12,11 @@ use native.Mathlib.Nat.{sub-zero, zero-sub, suc-sub-suc}
 use native.Mathlib.Omega.{arith}
 use lib.Dec.{T}
 use lib.ListN.{length, getD, take, drop}
-use Rattle.lists.specs.Lists.{filter}
+use Rattle.lists.specs.Lists.{filter, runLength}
 use Rattle.lists.proofs.Reflects.{Reflects, test-true, test-false}
 use Rattle.lists.proofs.ListsLaws.{Every, Some, every-uncons, some-uncons}
 use Rattle.lists.proofs.FilterLaws.{filter-pass, filter-fail}
 use Rattle.lists.proofs.Order.{Ordered, ordered-uncons}
-
--- how many elements at the start of the list pass the test
-unfoldable pub runLength : {A : Type 0} → (A → Bool) → List A → ℕ
-runLength f [] = 0
-runLength f (x ∷ xs) = elim (f x) [ true ↦ suc (runLength f xs) | false ↦ 0 ]
 
 -- a test that, where it holds of an element, holds of all before it
 abbrev pub Falling : {A : Type 0} → (A → Bool) → List A → Type 0

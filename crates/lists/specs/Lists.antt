@@ -27,6 +27,11 @@ module _ {ℓ} {A : Type ℓ} where
   first f [] = none
   first f (x ∷ xs) = elim (f x) [ true ↦ some x | false ↦ first f xs ]
 
+  -- how many elements at the start pass the test
+  unfoldable pub runLength : (A → Bool) → List A → ℕ
+  runLength f [] = 0
+  runLength f (x ∷ xs) = elim (f x) [ true ↦ suc (runLength f xs) | false ↦ 0 ]
+
   -- the places of the elements that pass the test, ascending, where the first element has place k
   unfoldable pub placesFrom : (A → Bool) → ℕ → List A → List ℕ
   placesFrom f k [] = []

@@ -8,20 +8,14 @@ use Prim.Native.Nat.{ℕ, suc, _+_, _≤_, _<_}
 use native.Mathlib.Nat.{add-zero, zero-add}
 use native.Mathlib.Omega.{arith}
 use lib.ListN.{length}
-use Rattle.lists.specs.Lists.{all, placesFrom}
-use Rattle.lists.proofs.Runs.{runLength, run-unique}
+use Rattle.lists.specs.Lists.{all, placesFrom, runLength}
+use Rattle.lists.proofs.Runs.{run-unique}
 use Rattle.plane.specs.Triangle.{proper}
 use Rattle.chart_spec.specs.Table.{Table, tableOf, triangleAt, numbered, noTriangle}
 use Rattle.chart_spec.specs.Refusals.{refused, done, faultyTriangle}
 use Rattle.chart_spec.specs.Edits.{faulty, refuseFaulty}
 use Rattle.chart_laws.proofs.TableLaws.{numbered-at, tableOf-length}
 use Rattle.load.specs.Faulty.{firstFaulty}
-
--- how many triangles with D > 0 there are before it
-faulty-run : (t : Table) → runLength (λ s. proper s) t ≡ firstFaulty t
-unfolding runLength firstFaulty
-faulty-run [] = refl
-faulty-run (s ∷ t) = ap (λ (n : ℕ). elim (proper s) [ true ↦ suc n | false ↦ 0 ]) (faulty-run t)
 
 -- a search that has passed i triangles with D > 0, and ends at the next one or at the end of the table
 pub faulty-found : (ns : List ℕ) (n i : ℕ) → i ≤ n → ((k : ℕ) → k < i → proper (triangleAt ns k) ≡ true)
@@ -32,7 +26,6 @@ faulty-found ns n i h p q =
     run-unique (λ s. proper s) (tableOf ns n) i noTriangle (omega arith)
     (λ k l. ap (λ s. proper s) (numbered-at ns n k (omega arith)) ∙ p k l)
     (λ l. ap (λ s. proper s) (numbered-at ns n i (omega arith)) ∙ q (omega arith))
-    ∙ faulty-run (tableOf ns n)
 
 -- ---- a table with no such triangle, and the refusal of one that has some
 
@@ -43,7 +36,7 @@ all-choice false m n h f = absurd (omega arith)
 
 -- the search ends at the end of the table: each triangle has D > 0
 pub faulty-none : (t : Table) → length t ≤ firstFaulty t → all (λ s. proper s) t ≡ true
-unfolding all firstFaulty
+unfolding all runLength
 faulty-none [] h = refl
 faulty-none (s ∷ t) h = all-choice (proper s) (firstFaulty t) (length t) h (faulty-none t)
 
@@ -69,7 +62,7 @@ some-choice false k m n is u h f = ap (λ i. refused (faultyTriangle i)) (sym (a
 -- refusal 5 with the lowest place, where the first triangle has place k
 refuse-some : (k : ℕ) (t u : Table) → firstFaulty t < length t
     → refuseFaulty (placesFrom (λ s. not (proper s)) k t) u ≡ refused (faultyTriangle (k + firstFaulty t))
-unfolding firstFaulty placesFrom refuseFaulty
+unfolding runLength placesFrom refuseFaulty
 refuse-some k [] u h = absurd (omega arith)
 refuse-some k (s ∷ t) u h =
     some-choice (proper s) k (firstFaulty t) (length t) (placesFrom (λ s. not (proper s)) (suc k) t) u h (refuse-some (suc k) t u)

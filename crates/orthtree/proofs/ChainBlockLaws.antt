@@ -10,10 +10,10 @@ use native.Mathlib.Nat.{lt-of-not-le}
 use native.Mathlib.Omega.{arith}
 use lib.Dec.{T, leb, leb→le, le→leb}
 use lib.ListN.{take, drop}
-use Rattle.lists.specs.Lists.{filter}
+use Rattle.lists.specs.Lists.{filter, runLength}
 use Rattle.lists.proofs.Reflects.{Reflects, reflects-iff}
 use Rattle.lists.proofs.Order.{ordered-imp}
-use Rattle.lists.proofs.Runs.{runLength, filter-block, block-some}
+use Rattle.lists.proofs.Runs.{filter-block, block-some}
 use Rattle.orthtree.specs.Entries.{Entry, span, rangeEnd, covers, chain}
 use Rattle.orthtree.proofs.EntriesLaws.{InRange, covers-reflects}
 use Rattle.orthtree.proofs.ChainOrderLaws.{Before, before-key, before-end, chain-ordered, chain-cover}

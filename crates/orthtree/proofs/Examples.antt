@@ -6,8 +6,7 @@ use mathlib.Core.Bool.{Bool, true, false}
 use mathlib.Core.List.{List, [], _∷_, _++_, map, flatMap}
 use Prim.Native.Nat.{ℕ, _+_, _*_}
 use lib.Dec.{ltb}
-use Rattle.lists.specs.Lists.{all, any, filter, sumOf}
-use Rattle.lists.proofs.Runs.{runLength}
+use Rattle.lists.specs.Lists.{all, any, filter, sumOf, runLength}
 use Rattle.orthtree.specs.Morton.{lowestBits, mortonKey}
 use Rattle.orthtree.specs.Leaves.{leavesBelow}
 use Rattle.orthtree.specs.Entries.{Entry, emptyMark, isMark, sameCell, cellHeads, cellHeadsAfter, span, rangeEnd, covers, overlaps, meetings, listedTogether, entryFits, follows, chainAfter, chain}
