@@ -1,0 +1,4 @@
+pub mod WalkLaws
+pub mod SetLaws
+pub mod EntryLaws
+pub mod StepLaws
