@@ -32,7 +32,7 @@ cast-if1 c = omega (arith, c .shared-slice-known2 .given (c .before .before .loo
 returns : tie.Need-returns Inv-loop μ-loop
 returns c =
     let a = c .before .before .before .before .before .args in
-    run-met (a .keys .now) (a .n) (a .a) (a .end) (c .before .before .before .loop .inv) (λ l. c .if1 .taken)
+    run-met (a .keys .now) (a .n) (a .a) (a .end) (c .before .before .before .loop .inv) (λ l. omega (arith, c .if1 .taken))
 
 sub-change : tie.Need-sub-change Inv-loop μ-loop
 sub-change c = search needs
@@ -67,7 +67,7 @@ loop-less c = search needs
 loop-again : tie.Need-loop-again Inv-loop μ-loop
 loop-again c =
     let a = c .before .before .before .before .before .before .before .before .args in
-    run-more (a .keys .now) (a .n) (a .a) (a .end) (c .before .before .before .before .before .before .loop .inv) (c .before .before .before .before .before .loop-test .taken) (c .before .before .before .before .before .before .before .before .pre .1) (c .before .before .before .if1 .left) (c .change .ensures)
+    run-more (a .keys .now) (a .n) (a .a) (a .end) (c .before .before .before .before .before .before .loop .inv) (c .before .before .before .before .before .loop-test .taken) (c .before .before .before .before .before .before .before .before .pre .1) (omega (arith, c .before .before .before .if1 .left)) (c .change .ensures)
 
 returns-2 : tie.Need-returns-2 Inv-loop μ-loop
 returns-2 c =
