@@ -2,7 +2,7 @@
 -- The idea: the load leaves the chart of the empty table, whatever the buffers and counts held, and each event keeps the chart that
 -- of the plain table.
 -- Assumes nothing.
-use mathlib.Core.Path.{_≡_, refl, _∙_, ap}
+use mathlib.Core.Path.{_≡_, _∙_, ap}
 use mathlib.Core.Bool.{false}
 use mathlib.Core.List.{List, [], _∷_}
 use Prim.Native.Nat.{_≤_}

@@ -1,16 +1,9 @@
 -- Examples of Histories.antt.
 -- Assumes nothing.
 use mathlib.Core.Path.{_≡_, refl}
-use mathlib.Core.List.{List, [], _∷_, _++_, map}
-use Prim.Native.Nat.{ℕ}
-use native.Mathlib.Omega.{arith}
-use lib.IntN.{pos}
-use lib.ListN.{length, replicate}
-use Rattle.plane.specs.Triangle.{Triangle}
-use Rattle.chart_spec.specs.Table.{Table}
-use Rattle.chart_spec.specs.Cells.{cells}
+use mathlib.Core.List.{[], _∷_, _++_, map}
+use lib.ListN.{replicate}
 use Rattle.chart_spec.specs.Overlay.{pair}
-use Rattle.chart_spec.proofs.MarkedCases.{at}
 use Rattle.call_spec.proofs.Evaluate.{evaluate}
 use Rattle.history.specs.Histories.{overlayAnswer}
 

@@ -19,8 +19,8 @@ use Rattle.chart_spec.specs.Overlay.{Pair, pairNumbers, pairsListed, maxPairs, 
 use Rattle.chart_laws.proofs.OverlayLaws.{pairs-ascend}
 use Rattle.chart_laws.proofs.SharedGround.{pairs-of-tables}
 use Rattle.chart_laws.proofs.MeetingsOfTable.{meetings-of-cells, meetings-of-cells-bound}
-use Rattle.call_spec.specs.Buffers.{Chart, tooShort, chartTable, chartEntries, indexedChart, padded, pairsLength}
-use Rattle.call_spec.specs.Calls.{Overlaid, pairsRefused, overlaidBy, overlayCall}
+use Rattle.call_spec.specs.Buffers.{Chart, tooShort, indexedChart, padded, pairsLength}
+use Rattle.call_spec.specs.Calls.{pairsRefused, overlaidBy, overlayCall}
 use Rattle.call_laws.proofs.IndexedLaws.{Editable, indexed-table, indexed-entries, indexed-editable}
 use Rattle.call_laws.proofs.OverwriteLaws.{Fits}
 use Rattle.history.specs.Histories.{overlayAnswer, TablesOverlaid}

@@ -1,0 +1,4 @@
+pub mod EncodingLaws
+pub mod CallLaws
+pub mod RunLaws
+pub mod Examples
