@@ -22,6 +22,8 @@
 //!
 //! Commands without a printed line:
 //!   len BUF N [V]        make BUF N places long; new places get V (default 0)
+//!   lend BUF N           calls get the first N places of BUF, until the next
+//!                        len or lend of it; they do not see the places after
 //!   set BUF INDEX V ...  put values at INDEX and the places after it
 //!   fill BUF V           put V at every place
 //!   counts C N M         counts of triangles and entries of chart C
@@ -121,6 +123,38 @@ fn entries_text(input: &str) -> String {
 pub struct Bench {
     charts: [Chart; 2],
     pairs: Vec<u16>,
+    /// How many places of each buffer calls get, in the order above.
+    lent: [usize; 9],
+}
+
+/// The places of a chart that calls do not see.
+struct Rest {
+    table: Vec<u16>,
+    keys: Vec<u32>,
+    levels: Vec<u8>,
+    tris: Vec<u16>,
+}
+
+fn hide(c: &mut Chart, lent: &[usize]) -> Rest {
+    Rest {
+        table: c.table.split_off(lent[0]),
+        keys: c.keys.split_off(lent[1]),
+        levels: c.levels.split_off(lent[2]),
+        tris: c.tris.split_off(lent[3]),
+    }
+}
+
+fn show(c: &mut Chart, rest: Rest) {
+    c.table.extend(rest.table);
+    c.keys.extend(rest.keys);
+    c.levels.extend(rest.levels);
+    c.tris.extend(rest.tris);
+}
+
+/// The place of a buffer in the order above.
+fn buffer_number(name: &str) -> Option<usize> {
+    let names = ["table0", "keys0", "levels0", "tris0", "table1", "keys1", "levels1", "tris1", "pairs"];
+    names.iter().position(|n| *n == name)
 }
 
 fn hash(b: &Bench) -> u64 {
@@ -193,7 +227,9 @@ impl Buf<'_> {
 
 impl Bench {
     fn new() -> Bench {
-        Bench { charts: [Chart::blank(), Chart::blank()], pairs: vec![0; PAIRS_LEN] }
+        let four = [TABLE_LEN, ENTRY_LEN, ENTRY_LEN, ENTRY_LEN];
+        let lent = [&four[..], &four[..], &[PAIRS_LEN]].concat().try_into().expect("nine");
+        Bench { charts: [Chart::blank(), Chart::blank()], pairs: vec![0; PAIRS_LEN], lent }
     }
 
     fn buf(&mut self, name: &str) -> Option<Buf<'_>> {
@@ -218,7 +254,6 @@ impl Bench {
     /// command that prints nothing; None when the line is not understood.
     fn line(&mut self, w: &[&str]) -> Option<Option<String>> {
         let num = |i: usize| -> Option<u64> { w.get(i)?.parse().ok() };
-        let coord = |i: usize| -> Option<u16> { w.get(i)?.parse().ok() };
         let name = w[0];
         let exact = |n: usize| if w.len() == n { Some(()) } else { None };
         match name {
@@ -229,6 +264,16 @@ impl Bench {
                     return None;
                 }
                 self.buf(w[1])?.resize(n as usize, v)?;
+                self.lent[buffer_number(w[1])?] = n as usize;
+                return Some(None);
+            }
+            "lend" => {
+                exact(3)?;
+                let n = num(2)? as usize;
+                if n > self.buf(w[1])?.len() {
+                    return None;
+                }
+                self.lent[buffer_number(w[1])?] = n;
                 return Some(None);
             }
             "set" => {
@@ -273,9 +318,33 @@ impl Bench {
                 let c = &self.charts[chart_number(w[1])?];
                 return Some(Some(format!("sum {}", checksum(c))));
             }
+            "copy" => {
+                exact(3)?;
+                let (from, to) = (chart_number(w[1])?, chart_number(w[2])?);
+                self.charts[to] = self.charts[from].clone();
+                self.lent.copy_within(4 * from..4 * from + 4, 4 * to);
+                return Some(None);
+            }
             "echo" => return Some(Some(w.join(" "))),
             _ => {}
         }
+        let lent = self.lent;
+        let rests = [hide(&mut self.charts[0], &lent[..4]), hide(&mut self.charts[1], &lent[4..8])];
+        let hidden = self.pairs.split_off(lent[8]);
+        let said = self.call(w)?;
+        for (chart, rest) in self.charts.iter_mut().zip(rests) {
+            show(chart, rest);
+        }
+        self.pairs.extend(hidden);
+        Some(said.map(|said| format!("{said} {:016x}", hash(self))))
+    }
+
+    /// What a call on the lent places prints, without its hash.
+    fn call(&mut self, w: &[&str]) -> Option<Option<String>> {
+        let num = |i: usize| -> Option<u64> { w.get(i)?.parse().ok() };
+        let coord = |i: usize| -> Option<u16> { w.get(i)?.parse().ok() };
+        let name = w[0];
+        let exact = |n: usize| if w.len() == n { Some(()) } else { None };
         let c = chart_number(w.get(1)?)?;
         let edited = |r: Refusal, chart: &Chart| {
             format!("{name} {} {} {} {}", r.number, r.triangle, chart.n, chart.m)
@@ -285,12 +354,6 @@ impl Bench {
             "counts" => {
                 exact(4)?;
                 (chart.n, chart.m) = (num(2)?, num(3)?);
-                return Some(None);
-            }
-            "copy" => {
-                exact(3)?;
-                let to = chart_number(w[2])?;
-                self.charts[to] = self.charts[c].clone();
                 return Some(None);
             }
             "load" => {
@@ -349,7 +412,7 @@ impl Bench {
             }
             _ => return None,
         };
-        Some(Some(format!("{said} {:016x}", hash(self))))
+        Some(Some(said))
     }
 }
 

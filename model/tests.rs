@@ -225,6 +225,16 @@ fn short_buffers() {
 }
 
 #[test]
+fn lent_places() {
+    // Calls see the lent places alone; those after them stay.
+    let got = said(
+        "len keys0 16400\nfill keys0 9\nlend keys0 16383\nload 0\nlend keys0 16384\nload 0\nlend keys0 16385\nload 0\n\
+         dump keys0 16382 16386",
+    );
+    assert_eq!(got, ["load 1 0 0 0", "load 0 0 0 1", "load 0 0 0 1", "dump keys0 16400 0 0 9 9"]);
+}
+
+#[test]
 fn chain_faults() {
     let good = loaded(&uv());
     assert!(good.chain_holds() && good.is_filed());

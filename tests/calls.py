@@ -2,14 +2,20 @@
 """Runs public calls on sound and damaged charts by the proved program (crates/test_calls) and by the reference model, and
 compares what they answer and what the buffers hold afterwards.
 
-usage: calls.py SEED COUNT
+usage: calls.py SEED COUNT    compares
+       calls.py store         writes the program's stored case, crates/test_calls/stdin and stdout, the latter by the model
 
 The boundaries of document 01's numbers come first: buffers one place short, lists of wrong lengths, triangles with D = 0 and
 D < 0, 16,384 and 16,385 entries, 512 and 513 triangles. Then every fault of the chain rule, one after another, each once with
-nothing else amiss, and counts that are too high. Then COUNT charts that are loaded, read, damaged at random and read again.
+nothing else amiss, and counts that are too high. Then entries that are not those of the table, each refusal of each edit, and
+every way in which the triangles of an edit can be turned. Then COUNT charts that are loaded, read, damaged at random and read
+again, and COUNT lists of edits, on meshes and on tables that overlap.
 
-Buffers are lent longer than asked. Before each load every place of them holds something other than 0, and so does every place
-beyond the asked length during every call; the checksum that is compared goes over all that is lent.
+A take-out cannot be refused with 11: it takes sides away and adds none, so every cell of the new table is one or more of the old,
+and no cell lists more triangles than those did together.
+
+Buffers have more places than are asked. Before each load every place holds something other than 0, lent or not; the checksum
+that is compared goes over all places of the chart.
 
 It fails when the engines differ, when a call whose number is known by its making gives another, when something that is to be met
 was not met (see `WANTED`), and when either engine ends with a status other than 0, says something on its standard error or
@@ -24,10 +30,11 @@ sys.path.insert(0, os.path.dirname(os.path.abspath(__file__)))
 import quadtree
 
 PROGRAM = os.path.join(quadtree.ROOT, "target", "bin", "test_calls")
-BUFFERS = ["table0", "keys0", "levels0", "tris0"]
+STORED = os.path.join(quadtree.ROOT, "crates", "test_calls")
+BUFFERS = ["table", "keys", "levels", "tris"]
 TABLE, KEYS, LEVELS, ITEMS = range(4)
 NEEDED = [3072, 16384, 16384, 16384]
-# the most that the program can lend
+# the places that the program has
 LONGEST = [3100, 16500, 16500, 16500]
 WIDTHS = [65536, 2**32, 256, 65536]
 MARK = 65535
@@ -36,52 +43,71 @@ V = (65535, 65535, 0, 65535, 65535, 0)
 FLAT = (0, 0, 5, 5, 9, 9)
 REVERSED = (0, 0, 0, 5, 5, 0)
 SOMEWHERE = [(0, 0), (32768, 32767), (32768, 32768), (65535, 0), (65535, 65535)]
-CALLS = {"load": 1, "locate": 2, "listing": 3, "sound": 4, "area": 5}
+CALLS = {"load": 1, "locate": 2, "listing": 3, "sound": 4, "area": 5, "split": 10, "takeout": 11, "flip": 12}
+EDITS = ["split", "takeout", "flip"]
+# U split at INNER, then V; and an edit of each kind that this table allows
+INNER = (10000, 10000)
+PARTS = [(0, 0, 65535, 0) + INNER, (65535, 0, 0, 65535) + INNER, (0, 65535, 0, 0) + INNER, V]
+ALLOWED = [("split", 3, 50000, 50000), ("takeout", *INNER), ("flip", 1, 3)]
 
 
 class Script:
     """Steps for both engines. Each call goes with what it is to show and the number that it is to give, where that is known."""
 
-    def __init__(self, rng):
+    def __init__(self, rng, short=False):
         self.rng = rng
+        self.short = short
         self.steps = []
         self.shown = []
-        self.lent = list(NEEDED)
+        self.chart = 0
 
-    def call(self, shows, number, *step):
-        self.steps.append(step)
+    def on(self, chart):
+        self.chart = chart
+
+    def call(self, shows, number, what, *operands):
+        self.steps.append((what, self.chart, list(operands)))
         self.shown.append((shows, number))
 
     def load(self, numbers, shows="", number=None):
         """A load into buffers that hold anything."""
         self.junk()
-        self.call(shows, number, "load", list(numbers))
+        self.call(shows, number, "load", *numbers)
 
     def table(self, triangles, shows="", number=None):
         self.load([c for t in triangles for c in t], shows, number)
 
     def read(self, *points, shows="", number=None):
         for p in points:
-            self.call(shows, number, "locate", p)
-            self.call(shows, number, "listing", p)
+            self.call(shows, number, "locate", *p)
+            self.call(shows, number, "listing", *p)
 
     def measure(self, shows="", number=None):
         self.call(shows, number, "sound")
         self.call(shows, number, "area")
 
+    def edit(self, shows="", number=None):
+        """The three edits, which are all refused or whose effect is not of interest."""
+        for edit in ALLOWED:
+            self.call(shows, number, *edit)
+
     def put(self, buffer, place, *values):
         """Values at a place and those after it."""
-        self.steps.append(("put", buffer, place, [v % WIDTHS[buffer] for v in values]))
+        self.steps.append(("put", self.chart, buffer, place, [v % WIDTHS[buffer] for v in values]))
 
     def fill(self, buffer, value):
-        self.steps.append(("fill", buffer, value % WIDTHS[buffer]))
+        self.steps.append(("fill", self.chart, buffer, value % WIDTHS[buffer]))
 
     def counts(self, n, m):
-        self.steps.append(("counts", n, m))
+        self.steps.append(("counts", self.chart, n, m))
+
+    def entries(self, n, entries):
+        """Entries in the three lists, and the counts."""
+        for k, column in zip((KEYS, LEVELS, ITEMS), zip(*entries)):
+            self.put(k, 0, *column)
+        self.counts(n, len(entries))
 
     def lend(self, buffer, n):
-        self.lent[buffer] = n
-        self.steps.append(("lend", buffer, n))
+        self.steps.append(("lend", self.chart, buffer, n))
 
     def drawn_values(self, buffer, n):
         return [self.rng.randrange(1, WIDTHS[buffer]) for _ in range(n)]
@@ -91,43 +117,58 @@ class Script:
         for k in range(4):
             self.fill(k, self.rng.randrange(1, WIDTHS[k]))
         for k in range(4):
-            if self.lent[k] > NEEDED[k]:
-                self.put(k, NEEDED[k], *self.drawn_values(k, self.lent[k] - NEEDED[k]))
+            more = 2 if self.short else LONGEST[k] - NEEDED[k]
+            self.put(k, NEEDED[k], *self.drawn_values(k, more))
+
+
+def program_data(steps):
+    """The steps as the program reads them."""
+
+    def step(what, chart, buffer=0, a=0, b=0, c=0):
+        return struct.pack("<BBHII", what, 4 * chart + buffer, a, b, c)
+
+    data = []
+    for what, chart, *rest in steps:
+        if what == "load":
+            data.append(step(1, chart, a=len(rest[0])) + struct.pack(f"<{len(rest[0])}H", *rest[0]))
+        elif what == "split":
+            t, x, y = rest[0]
+            data.append(step(10, chart, b=t, c=x + 65536 * y))
+        elif what in CALLS:
+            data.append(step(CALLS[what], chart, 0, 0, *rest[0]))
+        elif what == "put":
+            data += [step(6, chart, rest[0], rest[1] + k, v) for k, v in enumerate(rest[2])]
+        elif what == "lend":
+            data.append(step(7, chart, *rest))
+        elif what == "counts":
+            data.append(step(8, chart, 0, 0, *rest))
+        elif what == "fill":
+            data.append(step(9, chart, rest[0], 0, rest[1]))
+    return b"".join(data)
 
 
 def program_lines(steps):
-    data = []
-    for s in steps:
-        if s[0] == "load":
-            data.append(struct.pack("<BBHII", 1, 0, len(s[1]), 0, 0) + struct.pack(f"<{len(s[1])}H", *s[1]))
-        elif s[0] in CALLS:
-            data.append(struct.pack("<BBHII", CALLS[s[0]], 0, 0, *(s[1] if len(s) > 1 else (0, 0))))
-        elif s[0] == "put":
-            data += [struct.pack("<BBHII", 6, s[1], s[2] + k, v, 0) for k, v in enumerate(s[3])]
-        elif s[0] == "lend":
-            data.append(struct.pack("<BBHII", 7, s[1], s[2], 0, 0))
-        elif s[0] == "counts":
-            data.append(struct.pack("<BBHII", 8, 0, 0, s[1], s[2]))
-        elif s[0] == "fill":
-            data.append(struct.pack("<BBHII", 9, s[1], 0, s[2], 0))
-    return quadtree.run([PROGRAM], b"".join(data)).split("\n")[:-1]
+    return quadtree.run([PROGRAM], program_data(steps)).split("\n")[:-1]
 
 
 def model_lines(steps):
     """The model's lines, with the checksum of the buffers in place of its own hash."""
     text = []
-    for s in steps:
-        if s[0] == "put":
-            text.append(f"set {BUFFERS[s[1]]} {s[2]} " + " ".join(map(str, s[3])))
-        elif s[0] == "fill":
-            text.append(f"fill {BUFFERS[s[1]]} {s[2]}")
-        elif s[0] == "counts":
-            text.append(f"counts 0 {s[1]} {s[2]}")
-        elif s[0] == "lend":
-            text.append(f"len {BUFFERS[s[1]]} {s[2]}")
+    for chart in range(2):
+        for k, name in enumerate(BUFFERS):
+            text += [f"len {name}{chart} {LONGEST[k]}", f"lend {name}{chart} {NEEDED[k]}"]
+    for what, chart, *rest in steps:
+        if what == "put":
+            text.append(f"set {BUFFERS[rest[0]]}{chart} {rest[1]} " + " ".join(map(str, rest[2])))
+        elif what == "fill":
+            text.append(f"fill {BUFFERS[rest[0]]}{chart} {rest[1]}")
+        elif what == "counts":
+            text.append(f"counts {chart} {rest[0]} {rest[1]}")
+        elif what == "lend":
+            text.append(f"lend {BUFFERS[rest[0]]}{chart} {rest[1]}")
         else:
-            text.append(s[0] + " 0" + "".join(f" {v}" for v in (s[1] if len(s) > 1 else [])))
-            text.append("sum 0")
+            text.append(f"{what} {chart} " + " ".join(map(str, rest[0])))
+            text.append(f"sum {chart}")
     lines = quadtree.run([quadtree.MODEL, "calls"], "\n".join(text).encode()).split("\n")[:-1]
     return [call.rsplit(" ", 1)[0] + " " + total.split()[1] for call, total in zip(lines[::2], lines[1::2])]
 
@@ -139,6 +180,7 @@ def lengths(s):
     """Buffers of the asked length, one place short, none at all, and longer."""
     s.read(*SOMEWHERE[:2], shows="counts 0 and 0", number=2)
     s.measure("counts 0 and 0", 2)
+    s.edit("counts 0 and 0", 2)
     s.table([U, V], "buffers as asked", 0)
     s.read(*SOMEWHERE, shows="buffers as asked", number=0)
     s.measure("buffers as asked", 0)
@@ -147,22 +189,28 @@ def lengths(s):
     s.table([U, V], "longer buffers", 0)
     s.read(*SOMEWHERE, shows="longer buffers", number=0)
     s.measure("longer buffers", 0)
+    for edit in ALLOWED:
+        s.table(PARTS, number=0)
+        s.call("longer buffers", 0, *edit)
     for k in range(4):
         for short in (NEEDED[k] - 1, 0):
             shows = f"short {BUFFERS[k]}"
-            s.table([U, V], number=0)
+            s.table(PARTS, number=0)
             s.lend(k, short)
             s.read(SOMEWHERE[1], shows=shows, number=1)
             s.measure(shows, 1)
+            s.edit(shows, 1)
             s.counts(600, 0)
             s.read(SOMEWHERE[1], shows="1 before 2", number=1)
             s.measure("1 before 2", 1)
+            s.edit("1 before 2", 1)
             s.table([U], shows, 1)
             s.load([1] * 7, "1 before 4", 1)
             s.table([FLAT], "1 before 5", 1)
             s.lend(k, NEEDED[k])
-            s.table([U, V], f"{BUFFERS[k]} as asked", 0)
+            s.table(PARTS, f"{BUFFERS[k]} as asked", 0)
             s.read(SOMEWHERE[1], number=0)
+            s.call(f"{BUFFERS[k]} as asked", 0, *ALLOWED[k % 3])
             s.lend(k, LONGEST[k])
 
 
@@ -254,13 +302,24 @@ def damaged(s):
                 s.put(*change)
         s.read((1, 1), (40000, 60000), shows=shows, number=number)
         s.measure(shows, number)
-    # places that the counts do not reach hold anything
+        if changes:
+            s.edit(shows, number or 3)
+
+
+def unused(s):
+    """Places that the counts do not reach hold anything, and an edit that is done leaves 0 there."""
     s.table([U, V])
     s.put(TABLE, 12, *s.drawn_values(TABLE, 3060))
     for k in (KEYS, LEVELS, ITEMS):
         s.put(k, 10, *s.drawn_values(k, 16374))
     s.read((1, 1), (40000, 60000), (65535, 65535), shows="unused places", number=0)
     s.measure("unused places", 0)
+    for edit in ALLOWED:
+        s.table(PARTS)
+        s.put(TABLE, 24, *s.drawn_values(TABLE, 40))
+        for k in (KEYS, LEVELS, ITEMS):
+            s.put(k, 16000, *s.drawn_values(k, 384))
+        s.call("unused places", 0, *edit)
 
 
 def grid(first=0, last=16, item=MARK):
@@ -301,11 +360,10 @@ CHAINS = {
 def hand_made(s):
     for shows, (entries, number) in CHAINS.items():
         s.table([U, V])
-        for k, column in zip((KEYS, LEVELS, ITEMS), zip(*entries)):
-            s.put(k, 0, *column)
-        s.counts(2, len(entries))
+        s.entries(2, entries)
         s.read((1, 1), (40000, 60000), shows=shows, number=number)
         s.measure(shows, number)
+        s.edit(shows, number or 3)
 
 
 def chain(more):
@@ -323,15 +381,15 @@ def fullest(s):
             number = 0 if (more, n) == (0, 512) else 2
             s.table([U] * 512)
             s.put(TABLE, 3072, *U)
-            for k, column in zip((KEYS, LEVELS, ITEMS), zip(*chain(more))):
-                s.put(k, 0, *column)
-            s.counts(n, 16384 + more)
+            s.entries(n, chain(more))
             s.read((1, 1), (65535, 65535), shows=shows, number=number)
             s.measure(shows, number)
+            s.edit(shows, number or 3)
 
 
 def drawn(s):
     """A chart that is read at its corners and elsewhere, then damaged at random."""
+    s.on(s.rng.randrange(2))
     table = s.rng.choice([quadtree.KINDS[name] for name in ("soup", "mesh", "slivers", "borders", "repeated", "copies")])(s.rng)
     s.table(table, "drawn")
     points = [t[2 * k : 2 * k + 2] for t in s.rng.sample(table, min(3, len(table))) for k in range(3)] if table else []
@@ -343,6 +401,345 @@ def drawn(s):
         s.put(buffer, s.rng.choice([0, 1, 2, s.rng.randrange(40)]), s.rng.choice([0, 1, 4, 16, 17, 2**30, 65535, s.rng.randrange(600)]))
         s.read(points[-1], shows="drawn damage")
         s.measure("drawn damage")
+        s.edit("drawn damage")
+
+
+# ---- edits of plain tables
+
+
+def corners(t):
+    return [tuple(t[2 * k : 2 * k + 2]) for k in range(3)]
+
+
+def turned(t, k):
+    """The triangle with its corner k first."""
+    return tuple(t[2 * k :]) + tuple(t[: 2 * k])
+
+
+def inside(t, p):
+    a, b, c = corners(t)
+    return all(quadtree.orientation(u + v + p) > 0 for u, v in ((a, b), (b, c), (c, a)))
+
+
+def split(table, i, p):
+    a, b, c = corners(table[i])
+    return table[:i] + [a + b + p] + table[i + 1 :] + [b + c + p, c + a + p]
+
+
+def shared(table, i, j):
+    """The corners at which a side of i starts and the same side of j, the other way round; none where there is none."""
+    for k in range(3):
+        for m in range(3):
+            (a, b, _), (c, d, _) = corners(turned(table[i], k)), corners(turned(table[j], m))
+            if (a, b) == (d, c):
+                return k, m
+    return None
+
+
+def flip(table, i, j):
+    """The table after a flip, or nothing."""
+    found = shared(table, i, j)
+    if not found:
+        return None
+    (a, b, c), d = corners(turned(table[i], found[0])), corners(turned(table[j], found[1]))[2]
+    first, second = a + d + c, d + b + c
+    if min(quadtree.orientation(first), quadtree.orientation(second)) <= 0:
+        return None
+    new = list(table)
+    new[i], new[j] = first, second
+    return new
+
+
+def take_out(table, p):
+    """The table after a take-out, or nothing."""
+    places = [i for i, t in enumerate(table) if p in corners(t)]
+    if len(places) != 3:
+        return None
+    ends = [corners(turned(table[i], (corners(table[i]).index(p) + 1) % 3)) for i in places]
+    a, b, _ = ends[0]
+    for second, third in (ends[1:], ends[:0:-1]):
+        if second[0] == b and second[1] == third[0] and third[1] == a:
+            new = [a + b + second[1] if i == places[0] else t for i, t in enumerate(table)]
+            return [t for i, t in enumerate(new) if i not in places[1:]]
+    return None
+
+
+def entries_of(table):
+    return [tuple(map(int, line.split())) for line in quadtree.by_model(table)[1:]]
+
+
+# ---- edits that are run
+
+
+def cell_of(entries, i):
+    """The places of the entries in the cell of entry i."""
+    return [k for k, e in enumerate(entries) if e[:2] == entries[i][:2]]
+
+
+def stale(s):
+    """Entries that satisfy the chain rule and are those of the table but for one entry, or one cell."""
+    table = PARTS + [V, (20000, 3000, 24000, 3000, 20000, 5000)]
+    good = entries_of(table)
+    n, last = len(table), len(good) - 1
+    alone = next(i for i in range(len(good)) if len(cell_of(good, i)) == 1)
+    several = next(i for i in range(len(good)) if len(cell_of(good, i)) > 2 and cell_of(good, i)[0] == i)
+    key, level, item = good[alone]
+    size = 4 ** (15 - level)
+    charts = {
+        "another item": good[:alone] + [(key, level, (item + 1) % n)] + good[alone + 1 :],
+        "the mark for an item": good[:alone] + [(key, level, MARK)] + good[alone + 1 :],
+        "a cell divided": good[:alone] + [(key + k * size, level + 1, item) for k in range(4)] + good[alone + 1 :],
+        "cells joined": joined(good),
+        "the first of a cell missing": good[:several] + good[several + 1 :],
+        "another of a cell missing": good[: several + 1] + good[several + 2 :],
+        "one more in a cell": good[: alone + 1] + [(key, level, n - 1)] + good[alone + 1 :],
+        "the last entry missing": good[:last],
+        "one more at the end": good + [good[last][:2] + (good[last][2] + 1,)],
+    }
+    charts = {shows: (table, entries) for shows, entries in charts.items()}
+    charts["another key"] = moved()
+    for shows, (table, entries) in charts.items():
+        s.table(table, number=0)
+        s.entries(len(table), entries)
+        s.read((1, 1), shows=f"stale: {shows}", number=0)
+        s.edit(f"stale: {shows}", 3)
+    for edit in (("split", n, 0, 0), ("flip", 0, n), ("split", 0, 0, 0), ("takeout", 1, 1), ("flip", 0, 0)):
+        s.call("3 before the others", 3, *edit)
+    # the same entries, and another table
+    s.table(PARTS, number=0)
+    s.put(TABLE, 4, 10001)
+    s.edit("stale: another table", 3)
+    s.counts(4, 0)
+    s.edit("2 before 3", 2)
+
+
+def moved():
+    """A table and entries of which one has another key: it ends its cell, and goes to the next, which has the same level."""
+    table = [(0, 0, 32768, 0, 0, 32768)] * 2 + [(32768, 0, 65535, 0, 32768, 32768)]
+    good = entries_of(table)
+    for i in range(1, len(good) - 1):
+        before, one, after = good[i - 1 : i + 2]
+        if before[:2] == one[:2] and one[1] == after[1] and one[2] < after[2] < MARK and one[0] < after[0]:
+            return table, good[:i] + [(after[0],) + one[1:]] + good[i + 1 :]
+    raise ValueError("no such entry")
+
+
+def joined(entries):
+    """Four cells that are quarters of one square, joined to it with the items of the first."""
+    heads = [i for i in range(len(entries)) if i == 0 or entries[i][:2] != entries[i - 1][:2]]
+    for i, a in enumerate(heads[:-4]):
+        key, level, _ = entries[a]
+        four = [entries[h] for h in heads[i : i + 4]]
+        if {e[1] for e in four} == {level} and key % 4 ** (17 - level) == 0:
+            first = entries[a : heads[i + 1]]
+            return entries[:a] + [(key, level - 1, e[2]) for e in first] + entries[heads[i + 4] :]
+    raise ValueError("no four quarters")
+
+
+# points of U and what a split there gives
+POINTS = {
+    (0, 0): 7,
+    (65535, 0): 7,
+    (20000, 0): 7,
+    (0, 20000): 7,
+    (32768, 32767): 7,
+    (32768, 32768): 7,
+    (65535, 65535): 7,
+    (32767, 32767): 0,
+    (1, 1): 0,
+    (65533, 1): 0,
+    (10000, 10000): 0,
+}
+
+
+def splits(s):
+    for p, number in POINTS.items():
+        s.table([U, V], number=0)
+        s.call("a point inside" if number == 0 else "a point not inside", number, "split", 0, *p)
+        s.call("", None, "split", 2 if number == 0 else 0, 5, 5)
+    s.table([], number=0)
+    s.call("no triangle", 6, "split", 0, 1, 1)
+    s.table([V, U, U], number=0)
+    for t in (3, 4, 65535, 65537, 2**32 - 1):
+        s.call("a triangle that is not there", 6, "split", t, 1, 1)
+    s.call("the last of three", 0, "split", 2, 1, 1)
+    s.call("a repeated triangle", 0, "split", 1, 2, 2)
+    s.call("one of its parts", 0, "split", 5, 100, 101)
+    # the most triangles
+    for n in (509, 510, 511, 512):
+        s.table([U] * n, number=0)
+        if n == 512:
+            s.call("6 before 10", 6, "split", 512, 1, 1)
+            s.call("7 before 10", 7, "split", 511, 0, 0)
+        fits = n + 2 <= 512
+        s.call(f"split of {n}", 0 if fits else 10, "split", n - 1, *INNER)
+        if fits:
+            s.call(f"split of {n + 2}", 10, "split", 0, *INNER)
+    # 511 triangles with 16,352 entries and some marks: a split would list more
+    s.table([(0, 0, 21845, 0, 0, 21845)] * 511, number=0)
+    s.call("10 before 11", 10, "split", 0, 7001, 7000)
+
+
+def take_outs(s):
+    around = PARTS[:3]
+    for first in range(3):
+        for second in range(3):
+            for third in range(3):
+                for swapped in (False, True):
+                    a, b, c = (turned(t, k) for t, k in zip(around, (first, second, third)))
+                    table = [V, a] + ([c, V, b] if swapped else [b, V, c]) + [V]
+                    shows = f"corners {(2 - first) % 3} {(2 - second) % 3} {(2 - third) % 3}" + (" swapped" if swapped else "")
+                    s.table(table, number=0)
+                    s.call(shows, 0, "takeout", *INNER)
+    s.call("no triangle has the point", 8, "takeout", *INNER)
+    p, q, r = around
+    outer = (0, 0, 65535, 0, 65535, 1)
+    tables = {
+        "one triangle has the point": [p, V],
+        "two triangles have the point": [p, q, V],
+        "four triangles have the point": [p, q, r, p],
+        "a triangle twice": [p, p, q],
+        "a fan": [p, q, (0, 65535, 0, 60000) + INNER],
+        "a gap": [p, (65535, 1, 0, 65535) + INNER, r],
+        "three apart": [(0, 0, 9, 0) + INNER, (65535, 0, 65535, 9) + INNER, (0, 65535, 0, 65526) + INNER],
+        "none": [outer, V],
+    }
+    for shows, table in tables.items():
+        s.table(table, number=0)
+        s.call(shows, 8, "takeout", *INNER)
+    s.table([], number=0)
+    s.call("no triangle", 8, "takeout", 0, 0)
+    # a corner at (0, 0) and triangles that overlap those around the point
+    s.table([U, U] + around + [U], number=0)
+    s.call("among overlaps", 0, "takeout", *INNER)
+    s.call("a corner of four", 8, "takeout", 0, 0)
+    # split, take out: the table is as it was
+    s.table([V, U], number=0)
+    s.call("split to be taken out", 0, "split", 1, *INNER)
+    s.call("taken out again", 0, "takeout", *INNER)
+
+
+def flips(s):
+    for i in range(3):
+        for j in range(3):
+            for back in (False, True):
+                s.table([turned(U, i), turned(V, j), U], number=0)
+                # the side of U starts at its corner 1, that of V at its corner 1
+                shows = f"sides {(1 - i) % 3} {(1 - j) % 3}"
+                s.call(shows, 0, "flip", *((1, 0) if back else (0, 1)))
+                s.call("flipped back", 0, "flip", 0, 1)
+    s.table([U, V], number=0)
+    for i, j in ((2, 0), (0, 2), (2, 2), (0, 65535), (2**32 - 1, 1), (1, 2**32 - 1)):
+        s.call("a triangle that is not there", 6, "flip", i, j)
+    for i in range(2):
+        s.call("a triangle with itself", 9, "flip", i, i)
+    s.table([], number=0)
+    s.call("no triangle", 6, "flip", 0, 0)
+    base = (0, 0, 100, 0, 50, 80)
+    tables = {
+        "no side shared": [base, (200, 0, 300, 0, 250, 80)],
+        "a corner shared": [base, (100, 0, 200, 0, 150, 80)],
+        "the side in the same direction": [base, (0, 0, 100, 0, 50, 90)],
+        "a repeated triangle": [base, turned(base, 1)],
+        "a part of the side shared": [(0, 10, 100, 10, 50, 80), (99, 10, 0, 10, 50, 0)],
+        "the first with D = 0": [(0, 10, 100, 10, 0, 80), (100, 10, 0, 10, 0, 0)],
+        "the second with D = 0": [(0, 10, 100, 10, 100, 80), (100, 10, 0, 10, 100, 0)],
+        "the first with D < 0": [(10, 10, 100, 10, 0, 80), (100, 10, 10, 10, 0, 0)],
+        "the second with D < 0": [(0, 10, 90, 10, 100, 80), (90, 10, 0, 10, 100, 0)],
+    }
+    for shows, table in tables.items():
+        s.table(table, number=0)
+        s.call(shows, 9, "flip", 0, 1)
+        s.call(shows, 9, "flip", 1, 0)
+    s.table([U, V, U, V], number=0)
+    s.call("among overlaps", 0, "flip", 2, 1)
+    s.call("among overlaps", 0, "flip", 0, 3)
+
+
+def exactly_after(rng, total, edit):
+    """A table and an edit of it after which it has exactly that many entries, and no more than allowed before: copies of
+    triangles that the edit leaves alone add as many as cells list them."""
+    while True:
+        base = [quadtree.drawn(rng, lambda: [quadtree.anywhere(rng) for _ in "abc"]) for _ in range(rng.choice([3, 4, 5]))]
+        if edit == "split":
+            p = tuple(sum(c) // 3 for c in zip(*corners(base[0])))
+            new, operands = split(base, 0, p) if inside(base[0], p) else None, (0, *p)
+        else:
+            a, b, c, d = (quadtree.anywhere(rng) for _ in "abcd")
+            base[:1] = [a + b + c, b + a + d]
+            good = min(map(quadtree.orientation, base[:2])) > 0
+            new, operands = flip(base, 0, 1) if good else None, (0, 1)
+        before, after = (quadtree.by_model(t) if new else ["over"] for t in (base, new))
+        if "over" in (before[0], after[0]):
+            continue
+        kept = [i for i, t in enumerate(base) if new[i] == t]
+        adds = [[sum(int(line.split()[2]) == i for line in lines[1:]) for i in kept] for lines in (before, after)]
+        copies = fewest(adds[1], total - int(after[0]))
+        if copies is not None and len(base) + len(copies) <= 510 and int(before[0]) + sum(adds[0][i] for i in copies) <= quadtree.LIMIT:
+            return base + [base[kept[i]] for i in copies], operands
+
+
+def fewest(counts, total):
+    """The fewest places of counts, with repetition, whose counts sum to the total; nothing where there are none."""
+    last = [None] * (total + 1)
+    many = [0] + [total + 1] * total
+    for reached in range(1, total + 1):
+        for i, c in enumerate(counts):
+            if c <= reached and many[reached - c] + 1 < many[reached]:
+                many[reached], last[reached] = many[reached - c] + 1, i
+    if total < 0 or many[total] > total:
+        return None
+    places = []
+    while total:
+        places.append(last[total])
+        total -= counts[last[total]]
+    return places
+
+
+def full(s):
+    """Edits after which the table has 16,384 and 16,385 entries."""
+    for edit in ("split", "flip"):
+        for total, number in ((16384, 0), (16385, 11)):
+            table, operands = exactly_after(s.rng, total, edit)
+            s.table(table, number=0)
+            s.call(f"{total} entries", number, edit, *operands)
+            s.read(SOMEWHERE[1], number=0)
+
+
+def drawn_edits(s):
+    """A list of edits, most of which can be done: of a mesh, or of a table whose triangles overlap. The table that they lead
+    to is followed here to make them, without refusal 11."""
+    rng = s.rng
+    s.on(rng.randrange(2))
+    name = rng.choice(["UV", "UV", "mesh", "soup", "borders", "repeated"])
+    table = [U, V] if name == "UV" else quadtree.KINDS[name](rng)[:60]
+    table = [turned(t, rng.randrange(3)) for t in table]
+    s.table(table)
+    points = []
+    for _ in range(25):
+        kind = rng.choice(["split"] * 4 + ["flip"] * 4 + ["takeout"] * 2)
+        if kind == "split":
+            i = rng.randrange(len(table))
+            a, b, c = corners(table[i])
+            p = tuple((x + y + z) // 3 for x, y, z in zip(a, b, c))
+            p = rng.choice([p, p, p, quadtree.near(rng, p, 50), tuple((x + y) // 2 for x, y in zip(a, b)), a])
+            i = rng.choice([i] * 9 + [len(table)])
+            s.call(f"drawn on {name}", None, "split", i, *p)
+            if i < len(table) and inside(table[i], p) and len(table) < 511:
+                table = split(table, i, p)
+                points.append(p)
+        elif kind == "flip":
+            i = rng.randrange(len(table))
+            beside = [j for j in range(len(table)) if shared(table, i, j)]
+            j = rng.choice(beside * 3 + [rng.randrange(len(table) + 1)])
+            s.call(f"drawn on {name}", None, "flip", i, j)
+            table = (flip(table, i, j) if j < len(table) else None) or table
+        else:
+            p = rng.choice(points[-3:] * 2 + [rng.choice(corners(rng.choice(table)))])
+            s.call(f"drawn on {name}", None, "takeout", *p)
+            table = take_out(table, p) or table
+    s.read(quadtree.anywhere(rng), rng.choice(corners(table[0])))
+    s.measure()
 
 
 # ---- what is met
@@ -352,8 +749,8 @@ WANTED = """load 0; load 1; load 4; load 5 0; load 5 3; load 5 511; load 11; loa
 locate 0 found; locate 0 above 0; locate 0 nowhere; locate 1; locate 2; sound 0 yes; sound 0 no; sound 1; sound 2;
 area 0 0; area 0 above 2^32; area 1; area 2; listing of none; listing of some; listing of 512; the mark listed as none"""
 # each thing that a call is made for
-WANTED += """; counts 0 and 0; buffers as asked; longer buffers; short table0; short keys0; short levels0; short tris0;
-table0 as asked; keys0 as asked; levels0 as asked; tris0 as asked; 1 before 2; 1 before 4; 1 before 5; length 1; length 5; length 7;
+WANTED += """; counts 0 and 0; buffers as asked; longer buffers; short table; short keys; short levels; short tris;
+table as asked; keys as asked; levels as asked; tris as asked; 1 before 2; 1 before 4; 1 before 5; length 1; length 5; length 7;
 length 3071; length 3073; length 3077; length 3078; 4 before 5; 512 triangles; D = 0; D < 0; triangle 3 named; triangle 511 named;
 16384 entries; 16385 entries; 5 before 11; no triangle; level 17; level 255; level 17 at the end; a smaller cell and a gap;
 first key 1; first key of another square; a key that is no multiple; a gap; a cell that starts over; back to the first key;
@@ -369,11 +766,45 @@ a cell is missing; the last cell is missing; a cell too many;
 a cell inside the one before; keys that are no multiples; a cell twice with the mark; a number at the count alone;
 a chain of 16384 entries and 513 triangles; a chain of 16385 entries and 512 triangles; a chain of 16385 entries and 513 triangles;
 drawn; drawn damage"""
+WANTED = " ".join(WANTED.split()).split("; ")
+# each number that each edit can give
+WANTED += [f"split {n}" for n in (0, 1, 2, 3, 6, 7, 10, 11)] + [f"takeout {n}" for n in (0, 1, 2, 3, 8)]
+WANTED += [f"flip {n}" for n in (0, 1, 2, 3, 6, 9, 11)]
+# what each of the three is called on
+CALLED_ON = """counts 0 and 0; longer buffers; short table; short keys; short levels; short tris; 1 before 2; unused places; 2 before 3;
+stale: another item; stale: the mark for an item; stale: another key; stale: a cell divided; stale: cells joined;
+stale: the first of a cell missing; stale: another of a cell missing; stale: one more in a cell; stale: the last entry missing;
+stale: one more at the end; stale: another table; 3 before the others; drawn damage; drawn on UV; drawn on mesh; drawn on soup;
+drawn on borders; drawn on repeated; a chain of 16384 entries and 512 triangles"""
+CALLED_ON = " ".join(CALLED_ON.split()).split("; ") + [shows for shows in (*CHANGES, *CHAINS) if shows != "nothing"]
+WANTED += [f"{edit}: {shows}" for edit in EDITS for shows in CALLED_ON]
+# and what each is made for
+WANTED += [f"split: split of {n}" for n in (509, 510, 511, 512)]
+WANTED += [f"takeout: corners {i} {j} {k}{o}" for i in range(3) for j in range(3) for k in range(3) for o in ("", " swapped")]
+WANTED += [f"flip: sides {i} {j}" for i in range(3) for j in range(3)]
+WANTED += [f"{edit} of 16384" for edit in ("split", "flip")] + [f"{edit}: {n} entries" for edit in ("split", "flip") for n in (16384, 16385)]
+WANTED += """split: a point inside; split: a point not inside; split: a triangle that is not there; split: no triangle;
+split: the last of three; split: a repeated triangle; split: one of its parts; split: 6 before 10; split: 7 before 10;
+split: 10 before 11; takeout: no triangle has the point; takeout: one triangle has the point; takeout: two triangles have the point;
+takeout: four triangles have the point; takeout: a triangle twice; takeout: a fan; takeout: a gap; takeout: three apart;
+takeout: no triangle; takeout: among overlaps; takeout: a corner of four; takeout: taken out again; flip: flipped back;
+flip: a triangle that is not there; flip: a triangle with itself; flip: no triangle; flip: no side shared; flip: a corner shared;
+flip: the side in the same direction; flip: a repeated triangle; flip: a part of the side shared; flip: the first with D = 0;
+flip: the second with D = 0; flip: the first with D < 0; flip: the second with D < 0; flip: among overlaps; drawn split 0;
+drawn split 6; drawn split 7; drawn takeout 0; drawn takeout 8; drawn flip 0; drawn flip 6; drawn flip 9""".replace("\n", " ").split("; ")
 
 
 def met(shows, words, before):
     """What a call and its answer show; `before` is the answer of the call before it."""
     call, number = words[:2]
+    if call in EDITS:
+        yield f"{call} {number}"
+        yield f"{call}: {shows}"
+        if shows.startswith("drawn on"):
+            yield f"drawn {call} {number}"
+        if number == "0":
+            yield f"{call} of {words[4]}"
+        return
     if shows:
         yield shows
     if call == "load":
@@ -403,16 +834,46 @@ def given(words, number):
     return number is None or (words[0] == "listing" and (number == 0 or words[1] == "0")) or words[1] == str(number)
 
 
-def main():
-    seed, count = int(sys.argv[1]), int(sys.argv[2])
-    s = Script(random.Random(seed))
+def fixed(s):
+    """What nothing but what the buffers hold is drawn for."""
     lengths(s)
     loads(s)
     damaged(s)
+    unused(s)
     hand_made(s)
     fullest(s)
+    s.on(1)
+    for part in (stale, splits, take_outs, flips, full):
+        part(s)
+
+
+def store():
+    """The stored case: what is fixed, but for the longest lists."""
+    s = Script(random.Random(0), short=True)
+    lengths(s)
+    s.load([3] * 7, number=4)
+    s.table([V, FLAT], number=5)
+    damaged(s)
+    s.on(1)
+    for part in (stale, splits, take_outs, flips, full):
+        part(s)
+    with open(os.path.join(STORED, "stdin"), "wb") as f:
+        f.write(program_data(s.steps))
+    with open(os.path.join(STORED, "stdout"), "w") as f:
+        f.writelines(line + "\n" for line in model_lines(s.steps))
+    print(f"{len(s.shown)} calls stored")
+    return 0
+
+
+def main():
+    if sys.argv[1:] == ["store"]:
+        return store()
+    seed, count = int(sys.argv[1]), int(sys.argv[2])
+    s = Script(random.Random(seed))
+    fixed(s)
     for _ in range(count):
         drawn(s)
+        drawn_edits(s)
     ours, theirs = program_lines(s.steps), model_lines(s.steps)
     print(f"{len(s.shown)} calls, seed {seed}")
     if not len(ours) == len(theirs) == len(s.shown):
@@ -428,7 +889,7 @@ def main():
         for what in met(shows, words, before):
             seen[what] = seen.get(what, 0) + 1
         before = words
-    lacking = [what for what in " ".join(WANTED.split()).split("; ") if what not in seen]
+    lacking = [what for what in WANTED if what not in seen]
     if lacking:
         print("not met: " + "; ".join(lacking))
         return 1

@@ -31,7 +31,7 @@ test_model() {
     local said
     said=$(target/model/tests -q 2>&1) || { echo "$said"; return 1; }
     echo "$said" | grep '^test result:'
-    [[ $said =~ test\ result:\ ok\.\ 22\ passed\;\ 0\ failed\;\ 0\ ignored ]]
+    [[ $said =~ test\ result:\ ok\.\ 23\ passed\;\ 0\ failed\;\ 0\ ignored ]]
 }
 
 echo "== rt ci: prove every crate, try the must-fail edits, run the programs"

@@ -1,32 +1,23 @@
-// Runs calls on one chart whose buffers may be damaged: reads steps from standard input and prints what each call answers.
+// Runs calls on two charts whose buffers may be damaged: reads steps from standard input and prints what each call answers.
 //
-// A step is twelve bytes: what to do, a buffer (0 table, 1 keys, 2 levels, 3 triangle numbers), a 16-bit number a and two
-// 32-bit numbers b and c, low byte first.
+// A step is twelve bytes: what to do, a buffer (0 table, 1 keys, 2 levels, 3 triangle numbers; of chart 1: four more), a 16-bit
+// number a and two 32-bit numbers b and c, low byte first. A call goes by the chart of the buffer.
 //   1 load of the a numbers that follow, two bytes each    2 locate (b, c)    3 cell listing of (b, c)    4 soundness
-//   5 doubled area    6 put b at place a of a buffer    7 make a buffer a places long, new places 0    8 counts b and c
-//   9 put b at every place of a buffer
-// Each call prints a line: its name, what it answers, and a checksum of the four buffers.
+//   5 doubled area    6 put b at place a of a buffer    7 lend a places of a buffer    8 counts b and c
+//   9 put b at every place of a buffer    10 split triangle b at (c mod 65536, c / 65536)    11 take out (b, c)    12 flip b, c
+// Each call prints a line: its name, what it answers, and a checksum of all places of the chart's buffers, lent or not.
 
 use answers::Area;
-use answers::Change;
 use answers::Changed;
 use answers::Located;
 use answers::Soundness;
 use libc::STDIN_FILENO;
 use libc::STDOUT_FILENO;
 use plane::Point;
-ghost use Prim.Native.Nat.{_+_, _*_, _≤_, _<_};
+use test_support::Lent;
+use test_support::State;
+ghost use Prim.Native.Nat.{_≤_};
 ghost use lib.ListN.{length};
-
-// How many places of each buffer are lent, and the counts.
-pub struct Lent {
-    pub table: usize,
-    pub keys: usize,
-    pub levels: usize,
-    pub items: usize,
-    pub triangles: usize,
-    pub entries: usize,
-}
 
 fn say(text: &[u8]) {
     io::write_all(STDOUT_FILENO, text);
@@ -38,130 +29,58 @@ fn print(n: u64) {
     io::print_decimal(STDOUT_FILENO, n);
 }
 
-fn short_at(s: &[u8], k: usize) -> u16
-    requires { ⌜ k + 2 ≤ length (now s) ⌝ }
-{
-    s[k] as u16 + 256 * s[k + 1] as u16
-}
-
-fn long_at(s: &[u8], k: usize) -> u32
-    requires { ⌜ k + 4 ≤ length (now s) ⌝ }
-{
-    short_at(s, k) as u32 + 65536 * short_at(s, k + 2) as u32
-}
-
-// One place more of a checksum.
-fn mixed(sum: u64, v: u64) -> u64
-    requires { ⌜ (sum < 4294967296) × (v < 4294967296) ⌝ }
-    ensures { λ r. ⌜ r < 4294967296 ⌝ }
-{
-    (sum * 31 + v + 1) % 4294967291
-}
-
-fn sum_table(table: &[u16], from: u64) -> u64
-    requires { ⌜ from < 4294967296 ⌝ }
-    ensures { λ r. ⌜ r < 4294967296 ⌝ }
-{
-    let mut sum = from;
-    let mut i = 0;
-    while i < table.len() {
-        sum = mixed(sum, table[i] as u64);
-        i += 1;
-    }
-    sum
-}
-
-fn sum_keys(keys: &[u32], from: u64) -> u64
-    requires { ⌜ from < 4294967296 ⌝ }
-    ensures { λ r. ⌜ r < 4294967296 ⌝ }
-{
-    let mut sum = from;
-    let mut i = 0;
-    while i < keys.len() {
-        sum = mixed(sum, keys[i] as u64);
-        i += 1;
-    }
-    sum
-}
-
-fn sum_levels(levels: &[u8], from: u64) -> u64
-    requires { ⌜ from < 4294967296 ⌝ }
-    ensures { λ r. ⌜ r < 4294967296 ⌝ }
-{
-    let mut sum = from;
-    let mut i = 0;
-    while i < levels.len() {
-        sum = mixed(sum, levels[i] as u64);
-        i += 1;
-    }
-    sum
-}
-
-// The checksum of the four buffers ends a line.
-fn print_sum(table: &[u16], keys: &[u32], levels: &[u8], items: &[u16]) {
-    print(sum_table(
-        items,
-        sum_levels(levels, sum_keys(keys, sum_table(table, 0))),
-    ));
-    say(b"\n");
-}
-
-// The number of an answer.
-fn change_number(c: Change) -> u64 {
-    match c {
-        Change::Done => 0,
-        Change::ShortBuffer => 1,
-        Change::BrokenChain => 2,
-        Change::StaleEntries => 3,
-        Change::BadLength => 4,
-        Change::FaultyTriangle(_) => 5,
-        Change::NoSuchTriangle => 6,
-        Change::NotInside => 7,
-        Change::NotThreeAround => 8,
-        Change::NoFlip => 9,
-        Change::TableFull => 10,
-        Change::TooManyEntries => 11,
+fn point(x: u32, y: u32) -> Point {
+    Point {
+        x: (x % 65536) as u16,
+        y: (y % 65536) as u16,
     }
 }
 
-fn change_value(c: Change) -> u64 {
-    if let Change::FaultyTriangle(i) = c {
-        i as u64
-    } else {
-        0
+fn print_name(what: u8) {
+    if what == 1 {
+        say(b"load");
+        return;
     }
+    if what == 10 {
+        say(b"split");
+        return;
+    }
+    if what == 11 {
+        say(b"takeout");
+        return;
+    }
+    say(b"flip");
+}
+
+fn print_changed(what: u8, r: Changed) {
+    let change = r.change;
+    print_name(what);
+    print(answers::change_number(change) as u64);
+    print(answers::change_value(change) as u64);
+    print(r.triangles as u64);
+    print(r.entries as u64);
 }
 
 fn print_located(r: Located) {
+    print(answers::located_number(r) as u64);
     match r {
-        Located::At(i) => {
-            print(0);
-            print(i as u64);
-        }
-        Located::Nowhere => say(b" 0 nowhere"),
-        Located::ShortBuffer => say(b" 1 nowhere"),
-        Located::BrokenChain => say(b" 2 nowhere"),
+        Located::At(i) => print(i as u64),
+        _ => say(b" nowhere"),
     }
 }
 
 fn print_soundness(r: Soundness) {
-    match r {
-        Soundness::Sound => say(b" 0 yes"),
-        Soundness::Unsound => say(b" 0 no"),
-        Soundness::ShortBuffer => say(b" 1 no"),
-        Soundness::BrokenChain => say(b" 2 no"),
+    print(answers::soundness_number(r) as u64);
+    if answers::is_sound(r) {
+        say(b" yes");
+        return;
     }
+    say(b" no");
 }
 
 fn print_area(r: Area) {
-    match r {
-        Area::Sum(n) => {
-            print(0);
-            print(n);
-        }
-        Area::ShortBuffer => say(b" 1 0"),
-        Area::BrokenChain => say(b" 2 0"),
-    }
+    print(answers::area_number(r) as u64);
+    print(answers::area_value(r));
 }
 
 fn print_list(list: &[u16]) {
@@ -173,79 +92,95 @@ fn print_list(list: &[u16]) {
     }
 }
 
-fn least(a: usize, b: usize) -> usize
-    ensures { λ r. ⌜ (r ≤ a) × (r ≤ b) ⌝ }
-{
-    if a < b { a } else { b }
+// The checksum of a chart ends a line.
+fn print_sum(chart: usize, table: &[u16], keys: &[u32], levels: &[u8], items: &[u16]) {
+    print(test_support::sum_chart(chart, table, keys, levels, items));
+    say(b"\n");
 }
 
-// The first n numbers of a list of bytes.
-fn decode(bytes: &[u8], n: usize, given: &mut [u16])
-    requires { ⌜ (2 * n ≤ length (now bytes)) × (n ≤ length (now given)) ⌝ }
-{
-    let mut k = 0;
-    while k < n {
-        given[k] = short_at(bytes, 2 * k);
-        k += 1;
-    }
-}
-
-// Loads a list into lent buffers.
-fn load_into(
+// A call that changes the chart of lent buffers with n triangles and m entries.
+fn change(
+    what: u8,
     given: &[u16],
+    b: u32,
+    c: u32,
+    t: &mut [u16],
+    k: &mut [u32],
+    v: &mut [u8],
+    i: &mut [u16],
+    n: usize,
+    m: usize,
+) -> Changed {
+    if what == 1 {
+        return load::load(given, t, k, v, i, n, m);
+    }
+    if what == 10 {
+        return edits::split(t, k, v, i, n, m, b as usize, point(c, c / 65536));
+    }
+    if what == 11 {
+        return edits::take_out(t, k, v, i, n, m, point(b, c));
+    }
+    edits::flip(t, k, v, i, n, m, b as usize, c as usize)
+}
+
+// The same of a chart in the buffers of both.
+fn run_change(
+    l: Lent,
+    chart: usize,
+    what: u8,
+    given: &[u16],
+    b: u32,
+    c: u32,
     table: &mut [u16],
     keys: &mut [u32],
     levels: &mut [u8],
     items: &mut [u16],
-    triangles: usize,
-    entries: usize,
 ) -> Changed {
-    let r = load::load(given, table, keys, levels, items, triangles, entries);
-    let change = r.change;
-    say(b"load");
-    print(change_number(change));
-    print(change_value(change));
-    print(r.triangles as u64);
-    print(r.entries as u64);
-    print_sum(table, keys, levels, items);
-    r
+    let t = test_support::start(chart, test_support::TABLE, table.len());
+    let k = test_support::start(chart, test_support::LIST, keys.len());
+    let v = test_support::start(chart, test_support::LIST, levels.len());
+    let i = test_support::start(chart, test_support::LIST, items.len());
+    let t_end = test_support::end(t, l.table, test_support::TABLE, table.len());
+    let k_end = test_support::end(k, l.keys, test_support::LIST, keys.len());
+    let v_end = test_support::end(v, l.levels, test_support::LIST, levels.len());
+    let i_end = test_support::end(i, l.items, test_support::LIST, items.len());
+    change(
+        what,
+        given,
+        b,
+        c,
+        &mut table[t..t_end],
+        &mut keys[k..k_end],
+        &mut levels[v..v_end],
+        &mut items[i..i_end],
+        l.triangles,
+        l.entries,
+    )
 }
 
-// Loads a list.
-fn load_given(
+// The same, and its line.
+fn say_change(
     l: Lent,
+    chart: usize,
+    what: u8,
     given: &[u16],
+    b: u32,
+    c: u32,
     table: &mut [u16],
     keys: &mut [u32],
     levels: &mut [u8],
     items: &mut [u16],
 ) -> Lent {
-    let t = least(l.table, table.len());
-    let k = least(l.keys, keys.len());
-    let v = least(l.levels, levels.len());
-    let i = least(l.items, items.len());
-    let r = load_into(
-        given,
-        &mut table[..t],
-        &mut keys[..k],
-        &mut levels[..v],
-        &mut items[..i],
-        l.triangles,
-        l.entries,
-    );
-    Lent {
-        table: t,
-        keys: k,
-        levels: v,
-        items: i,
-        triangles: r.triangles,
-        entries: r.entries,
-    }
+    let r = run_change(l, chart, what, given, b, c, table, keys, levels, items);
+    print_changed(what, r);
+    print_sum(chart, table, keys, levels, items);
+    test_support::with_counts(l, r.triangles, r.entries)
 }
 
 // Loads the n numbers that follow in the input.
 fn run_load(
     l: Lent,
+    chart: usize,
     n: usize,
     table: &mut [u16],
     keys: &mut [u32],
@@ -258,8 +193,8 @@ fn run_load(
     let size = 2 * n;
     io::read_full(STDIN_FILENO, &mut bytes[..size]);
     let mut given = [0u16; 3200];
-    decode(&bytes, n, &mut given);
-    load_given(l, &given[..n], table, keys, levels, items)
+    test_support::decode(&bytes, n, &mut given);
+    say_change(l, chart, 1, &given[..n], 0, 0, table, keys, levels, items)
 }
 
 // A call that reads the chart of lent buffers with n triangles and m entries.
@@ -279,15 +214,14 @@ fn answer(what: u8, t: &[u16], k: &[u32], v: &[u8], i: &[u16], n: usize, m: usiz
         print_soundness(measures::soundness(t, k, v, i, n, m));
         return;
     }
-    if what == 5 {
-        say(b"area");
-        print_area(measures::doubled_area(t, k, v, i, n, m));
-    }
+    say(b"area");
+    print_area(measures::doubled_area(t, k, v, i, n, m));
 }
 
-// A call that reads: 2 locate, 3 cell listing, 4 soundness, 5 doubled area.
-fn run_reader(
+// The same of a chart in the buffers of both, and its line.
+fn say_answer(
     l: Lent,
+    chart: usize,
     what: u8,
     p: Point,
     table: &[u16],
@@ -295,120 +229,31 @@ fn run_reader(
     levels: &[u8],
     items: &[u16],
 ) {
-    let a = least(l.table, table.len());
-    let b = least(l.keys, keys.len());
-    let c = least(l.levels, levels.len());
-    let d = least(l.items, items.len());
-    let t = &table[..a];
-    let k = &keys[..b];
-    let v = &levels[..c];
-    let i = &items[..d];
-    answer(what, t, k, v, i, l.triangles, l.entries, p);
-    print_sum(t, k, v, i);
+    let t = test_support::start(chart, test_support::TABLE, table.len());
+    let k = test_support::start(chart, test_support::LIST, keys.len());
+    let v = test_support::start(chart, test_support::LIST, levels.len());
+    let i = test_support::start(chart, test_support::LIST, items.len());
+    let t_end = test_support::end(t, l.table, test_support::TABLE, table.len());
+    let k_end = test_support::end(k, l.keys, test_support::LIST, keys.len());
+    let v_end = test_support::end(v, l.levels, test_support::LIST, levels.len());
+    let i_end = test_support::end(i, l.items, test_support::LIST, items.len());
+    answer(
+        what,
+        &table[t..t_end],
+        &keys[k..k_end],
+        &levels[v..v_end],
+        &items[i..i_end],
+        l.triangles,
+        l.entries,
+        p,
+    );
+    print_sum(chart, table, keys, levels, items);
 }
 
-// x at a place of a list, if it has that place.
-fn put_short(list: &mut [u16], place: usize, x: u32) {
-    if place >= list.len() {
-        return;
-    }
-    list[place] = (x % 65536) as u16;
-}
-
-fn put_key(list: &mut [u32], place: usize, x: u32) {
-    if place >= list.len() {
-        return;
-    }
-    list[place] = x;
-}
-
-fn put_level(list: &mut [u8], place: usize, x: u32) {
-    if place >= list.len() {
-        return;
-    }
-    list[place] = (x % 256) as u8;
-}
-
-// x at a place of a buffer, if it has that place.
-fn put(
-    buffer: u8,
-    place: usize,
-    x: u32,
-    table: &mut [u16],
-    keys: &mut [u32],
-    levels: &mut [u8],
-    items: &mut [u16],
-) {
-    if buffer == 0 {
-        put_short(table, place, x);
-        return;
-    }
-    if buffer == 1 {
-        put_key(keys, place, x);
-        return;
-    }
-    if buffer == 2 {
-        put_level(levels, place, x);
-        return;
-    }
-    if buffer == 3 {
-        put_short(items, place, x);
-    }
-}
-
-// x at the places of a buffer from `from` up to `to`.
-fn fill(
-    buffer: u8,
-    from: usize,
-    to: usize,
-    x: u32,
-    table: &mut [u16],
-    keys: &mut [u32],
-    levels: &mut [u8],
-    items: &mut [u16],
-) {
-    let mut i = from;
-    while i < to {
-        put(buffer, i, x, table, keys, levels, items);
-        i += 1;
-    }
-}
-
-// How long a buffer is.
-fn length_of(l: Lent, buffer: u8) -> usize {
-    if buffer == 0 {
-        return l.table;
-    }
-    if buffer == 1 {
-        return l.keys;
-    }
-    if buffer == 2 {
-        return l.levels;
-    }
-    l.items
-}
-
-// A buffer n places long.
-fn lend(mut l: Lent, buffer: u8, n: usize) -> Lent {
-    if buffer == 0 {
-        l.table = n;
-        return l;
-    }
-    if buffer == 1 {
-        l.keys = n;
-        return l;
-    }
-    if buffer == 2 {
-        l.levels = n;
-        return l;
-    }
-    l.items = n;
-    l
-}
-
-// One step, by its twelve bytes.
-fn step(
+// One step on a chart, by its twelve bytes.
+fn step_chart(
     l: Lent,
+    chart: usize,
     s: &[u8],
     table: &mut [u16],
     keys: &mut [u32],
@@ -418,83 +263,72 @@ fn step(
     requires { ⌜ 12 ≤ length (now s) ⌝ }
 {
     let what = s[0];
-    let buffer = s[1];
-    let a = short_at(s, 2) as usize;
-    let b = long_at(s, 4);
-    let c = long_at(s, 8);
+    let buffer = s[1] % 4;
+    let a = test_support::short_at(s, 2) as usize;
+    let b = test_support::long_at(s, 4);
+    let c = test_support::long_at(s, 8);
     if what == 1 {
-        return run_load(l, least(a, 3200), table, keys, levels, items);
+        let n = test_support::least(a, 3200);
+        return run_load(l, chart, n, table, keys, levels, items);
+    }
+    if what >= 10 {
+        let none = [0u16; 1];
+        return say_change(l, chart, what, &none, b, c, table, keys, levels, items);
     }
     if what == 6 {
-        put(buffer, a, b, table, keys, levels, items);
+        test_support::put(chart, buffer, a, b, table, keys, levels, items);
         return l;
     }
     if what == 7 {
-        fill(
-            buffer,
-            length_of(l, buffer),
-            a,
-            0,
-            table,
-            keys,
-            levels,
-            items,
-        );
-        return lend(l, buffer, a);
+        return test_support::lend(l, buffer, a);
     }
     if what == 8 {
-        return Lent {
-            table: l.table,
-            keys: l.keys,
-            levels: l.levels,
-            items: l.items,
-            triangles: b as usize,
-            entries: c as usize,
-        };
+        return test_support::with_counts(l, b as usize, c as usize);
     }
     if what == 9 {
-        fill(
-            buffer,
-            0,
-            length_of(l, buffer),
-            b,
-            table,
-            keys,
-            levels,
-            items,
-        );
+        test_support::fill(chart, buffer, b, table, keys, levels, items);
         return l;
     }
-    let p = Point {
-        x: (b % 65536) as u16,
-        y: (c % 65536) as u16,
-    };
-    run_reader(l, what, p, table, keys, levels, items);
+    say_answer(l, chart, what, point(b, c), table, keys, levels, items);
     l
+}
+
+// One step.
+fn step(
+    state: State,
+    s: &[u8],
+    table: &mut [u16],
+    keys: &mut [u32],
+    levels: &mut [u8],
+    items: &mut [u16],
+) -> State
+    requires { ⌜ 12 ≤ length (now s) ⌝ }
+{
+    let chart = (s[1] / 4 % 2) as usize;
+    let l = test_support::chart_of(state, chart);
+    let after = step_chart(l, chart, s, table, keys, levels, items);
+    test_support::with_chart(state, chart, after)
 }
 
 // All steps of the input.
 fn run(table: &mut [u16], keys: &mut [u32], levels: &mut [u8], items: &mut [u16]) {
-    let mut l = Lent {
-        table: 3072,
-        keys: 16384,
-        levels: 16384,
-        items: 16384,
-        triangles: 0,
-        entries: 0,
+    let l = test_support::asked();
+    let mut state = State {
+        first: l,
+        second: l,
     };
     let mut s = [0u8; 12];
     let mut turns = u64::MAX;
     while turns > 0 && io::read_full(STDIN_FILENO, &mut s) == 12 {
-        l = step(l, &s, table, keys, levels, items);
+        state = step(state, &s, table, keys, levels, items);
         turns -= 1;
     }
 }
 
 fn main() {
-    let mut table = [0u16; 3100];
-    let mut keys = [0u32; 16500];
-    let mut levels = [0u8; 16500];
-    let mut items = [0u16; 16500];
+    let mut table = [0u16; 6200];
+    let mut keys = [0u32; 33000];
+    let mut levels = [0u8; 33000];
+    let mut items = [0u16; 33000];
     run(&mut table, &mut keys, &mut levels, &mut items);
 }

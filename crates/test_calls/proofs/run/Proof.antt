@@ -5,10 +5,13 @@ use Rattle.test_calls.proofs.run.Statement.{statement}
 use Rattle.test_calls.proofs.run.Tie as tie
 
 abbrev Inv-loop : tie.InvT-loop
-Inv-loop table₀ keys₀ levels₀ items₀ l₀ s₀ turns₀ table keys levels items l s turns = (length s ≡ 12) × ((length table ≡ length table₀) × ((length keys ≡ length keys₀) × ((length levels ≡ length levels₀) × (length items ≡ length items₀))))
+Inv-loop table₀ keys₀ levels₀ items₀ state₀ s₀ turns₀ table keys levels items state s turns = (length s ≡ 12) × ((length table ≡ length table₀) × ((length keys ≡ length keys₀) × ((length levels ≡ length levels₀) × (length items ≡ length items₀))))
 
 abbrev μ-loop : tie.MeasureT-loop
-μ-loop table₀ keys₀ levels₀ items₀ l₀ s₀ turns₀ table keys levels items l s turns = turns
+μ-loop table₀ keys₀ levels₀ items₀ state₀ s₀ turns₀ table keys levels items state s turns = turns
+
+asked-requires : tie.Need-asked-requires Inv-loop μ-loop
+asked-requires c κs = tt
 
 loop-holds : tie.Need-loop-holds Inv-loop μ-loop
 loop-holds c = omega arith
@@ -32,7 +35,7 @@ loop-less : tie.Need-loop-less Inv-loop μ-loop
 loop-less c = omega arith
 
 loop-again : tie.Need-loop-again Inv-loop μ-loop
-loop-again c = omega arith
+loop-again c = omega (arith, c .before .before .before .before .before .before .before .before .step .kept, c .before .before .before .before .before .before .before .before .before .before .before .before .before .before .before .before .before .before .before .loop .inv)
 
 same-length : tie.Need-same-length Inv-loop μ-loop
 same-length c = omega arith
@@ -70,6 +73,7 @@ run-spec =
     (tie.spec
     Inv-loop
     μ-loop
+    asked-requires
     loop-holds
     slice-aggregate-read-full
     read-full-requires

@@ -31,11 +31,11 @@ decode-requires c κs = let b = back-length (2 * c .before .before .before .befo
 array-share-prefix-given : tie.Need-array-share-prefix-given
 array-share-prefix-given c = search needs
 
-slice-aggregate-load-given : tie.Need-slice-aggregate-load-given
-slice-aggregate-load-given c = sym (length-take-le (c .before .before .before .before .before .before .before .before .before .before .before .before .args .n) (c .before .before .decode .last .1 .1 .0) (omega arith))
+slice-aggregate-say-change : tie.Need-slice-aggregate-say-change
+slice-aggregate-say-change c = sym (length-take-le (c .before .before .before .before .before .before .before .before .before .before .before .before .args .n) (c .before .before .decode .last .1 .1 .0) (omega arith))
 
-load-given-requires : tie.Need-load-given-requires
-load-given-requires c κs = search needs
+say-change-requires : tie.Need-say-change-requires
+say-change-requires c κs = search needs
 
 same-length : tie.Need-same-length
 same-length c = search needs
@@ -64,8 +64,8 @@ run-load-spec =
     slice-aggregate-decode-2
     decode-requires
     array-share-prefix-given
-    slice-aggregate-load-given
-    load-given-requires
+    slice-aggregate-say-change
+    say-change-requires
     same-length
     same-length-2
     same-length-3

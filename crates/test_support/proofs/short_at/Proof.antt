@@ -1,8 +1,8 @@
 use Prim.Native.Nat.{_+_}
 use borrow.Author.Needs.{needs}
 use native.Mathlib.Omega.{arith}
-use Rattle.test_calls.proofs.short_at.Statement.{statement}
-use Rattle.test_calls.proofs.short_at.Tie as tie
+use Rattle.test_support.proofs.short_at.Statement.{statement}
+use Rattle.test_support.proofs.short_at.Tie as tie
 
 shared-slice-read-result : tie.Need-shared-slice-read-result
 shared-slice-read-result c = search needs

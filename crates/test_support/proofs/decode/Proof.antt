@@ -2,8 +2,8 @@ use Prim.Native.Nat.{_≤_, _-_}
 use borrow.Author.Needs.{needs}
 use lib.ListN.{length}
 use mathlib.Core.Path.{_≡_}
-use Rattle.test_calls.proofs.decode.Statement.{statement}
-use Rattle.test_calls.proofs.decode.Tie as tie
+use Rattle.test_support.proofs.decode.Statement.{statement}
+use Rattle.test_support.proofs.decode.Tie as tie
 
 abbrev Inv-loop : tie.InvT-loop
 Inv-loop bytes n given₀ k₀ given k = (k ≤ n) × (length given ≡ length given₀)

@@ -1,14 +1,13 @@
 use native.Mathlib.Omega.{arith}
 use Prim.Native.Nat.{_≤_, _<_, _-_}
-use lib.ListN.{length}
-use Rattle.test_calls.proofs.sum_keys.Statement.{statement}
-use Rattle.test_calls.proofs.sum_keys.Tie as tie
+use Rattle.test_support.proofs.sum_keys.Statement.{statement}
+use Rattle.test_support.proofs.sum_keys.Tie as tie
 
 abbrev Inv-loop : tie.InvT-loop
-Inv-loop keys from sum₀ i₀ sum i = (i ≤ length keys) × (sum < 4294967296)
+Inv-loop list a e from sum₀ i₀ sum i = (i ≤ e) × (sum < 4294967296)
 
 abbrev μ-loop : tie.MeasureT-loop
-μ-loop keys from sum₀ i₀ sum i = length keys - i
+μ-loop list a e from sum₀ i₀ sum i = e - i
 
 loop-holds : tie.Need-loop-holds Inv-loop μ-loop
 loop-holds c = omega arith

@@ -2,14 +2,14 @@ use Prim.Native.Nat.{_-_}
 use lib.ListN.{length}
 use mathlib.Core.Path.{_≡_}
 use native.Mathlib.Omega.{arith}
-use Rattle.test_calls.proofs.fill.Statement.{statement}
-use Rattle.test_calls.proofs.fill.Tie as tie
+use Rattle.test_support.proofs.fill.Statement.{statement}
+use Rattle.test_support.proofs.fill.Tie as tie
 
 abbrev Inv-loop : tie.InvT-loop
-Inv-loop buffer from to x table₀ keys₀ levels₀ items₀ i₀ table keys levels items i = (length table ≡ length table₀) × ((length keys ≡ length keys₀) × ((length levels ≡ length levels₀) × (length items ≡ length items₀)))
+Inv-loop chart buffer x table₀ keys₀ levels₀ items₀ i₀ table keys levels items i = (length table ≡ length table₀) × ((length keys ≡ length keys₀) × ((length levels ≡ length levels₀) × (length items ≡ length items₀)))
 
 abbrev μ-loop : tie.MeasureT-loop
-μ-loop buffer from to x table₀ keys₀ levels₀ items₀ i₀ table keys levels items i = to - i
+μ-loop chart buffer x table₀ keys₀ levels₀ items₀ i₀ table keys levels items i = 16500 - i
 
 loop-holds : tie.Need-loop-holds Inv-loop μ-loop
 loop-holds c = omega arith

@@ -1,14 +1,13 @@
 use native.Mathlib.Omega.{arith}
 use Prim.Native.Nat.{_≤_, _<_, _-_}
-use lib.ListN.{length}
-use Rattle.test_calls.proofs.sum_table.Statement.{statement}
-use Rattle.test_calls.proofs.sum_table.Tie as tie
+use Rattle.test_support.proofs.sum_shorts.Statement.{statement}
+use Rattle.test_support.proofs.sum_shorts.Tie as tie
 
 abbrev Inv-loop : tie.InvT-loop
-Inv-loop table from sum₀ i₀ sum i = (i ≤ length table) × (sum < 4294967296)
+Inv-loop list a e from sum₀ i₀ sum i = (i ≤ e) × (sum < 4294967296)
 
 abbrev μ-loop : tie.MeasureT-loop
-μ-loop table from sum₀ i₀ sum i = length table - i
+μ-loop list a e from sum₀ i₀ sum i = e - i
 
 loop-holds : tie.Need-loop-holds Inv-loop μ-loop
 loop-holds c = omega arith
@@ -37,8 +36,8 @@ loop-again c = omega arith
 returns : tie.Need-returns Inv-loop μ-loop
 returns c = omega arith
 
-pub sum-table-spec : {M : Type 1} → statement M
-sum-table-spec =
+pub sum-shorts-spec : {M : Type 1} → statement M
+sum-shorts-spec =
     tie.close
     (tie.spec
     Inv-loop
