@@ -4,19 +4,17 @@
 use mathlib.Core.Path.{_≡_, refl, sym, _∙_, ap}
 use mathlib.Core.List.{List}
 use Prim.Native.Nat.{ℕ, _*_, _≤_, _<_}
-use native.Mathlib.Decide.{decLe}
-use native.Mathlib.Omega.{arith}
 use borrow.Author.Tests.{lt-ltb, le-ltb}
 use lib.ListN.{length, take}
-use Rattle.orthtree.specs.Entries.{Entry}
 use Rattle.chart_spec.specs.Table.{Table, tableOf, tableLength, numbersPerTriangle}
 use Rattle.chart_spec.specs.Cells.{entriesOf, maxEntries}
-use Rattle.chart_spec.specs.Refusals.{tooManyEntries, Outcome, refused, done, refuseIf}
+use Rattle.chart_spec.specs.Refusals.{tooManyEntries, refused, done, refuseIf}
 use Rattle.chart_spec.specs.Edits.{withinLimit, limited}
 use Rattle.chart_laws.proofs.TableLaws.{tableNumbers-take, tableOf-length}
 use Rattle.call_spec.specs.Buffers.{Chart, chartOf, padded, chartWith, indexedChart}
 use Rattle.call_spec.specs.Calls.{Changed, changedBy}
 use Rattle.entry_lists.specs.Lists.{Listed}
+use Rattle.entry_lists.proofs.ListedLaws.{listed-few, listed-many}
 
 -- ---- refusal 11 by the number of entries
 
@@ -29,21 +27,6 @@ unfolding withinLimit limited refuseIf
 limit-fits t h = rw (le-ltb maxEntries (length (entriesOf t)) h)
 
 -- ---- by the count that building gave
-
-module _ {es : List Entry} {m : ℕ} {ks ks′ ls ls′ is is′ : List ℕ} (l : Listed es m ks ks′ ls ls′ is is′) where
-  -- the entries fit where the count is within the limit
-  listed-few : m ≤ maxEntries → length es ≤ maxEntries
-  listed-few h = elim (decLe (length es) maxEntries) [
-    | yes f ↦ f
-    | no n ↦ let e = l .over (omega arith) in absurd (omega arith)
-  ]
-
-  -- and do not where it is above
-  listed-many : maxEntries < m → maxEntries < length es
-  listed-many h = elim (decLe (length es) maxEntries) [
-    | yes f ↦ let e = l .fits f in absurd (omega arith)
-    | no n ↦ omega arith
-  ]
 
 module _ (ns : List ℕ) (n : ℕ) (room : numbersPerTriangle * n ≤ length ns) (c : Chart) {m : ℕ} {ks ls is : List ℕ}
     (l : Listed (entriesOf (tableOf ns n)) m (c .keys) ks (c .levels) ls (c .items) is) where

@@ -30,7 +30,7 @@ pub fn judge_edit(
 {
     match chains::judge(table, keys, levels, items, triangles, entries) {
         Judged::Fine => {
-            if entry_lists::entries_match(table, triangles, keys, levels, items, entries) {
+            if entry_checks::entries_match(table, triangles, keys, levels, items, entries) {
                 Judged::Fine
             } else {
                 Judged::StaleEntries
@@ -53,7 +53,7 @@ fn put_table(given: &[u16], n: usize, table: &mut [u16])
         table[i] = given[i];
         i += 1;
     }
-    entry_lists::clear_items(table, n, tables::TABLE_NUMBERS);
+    list_writes::clear_items(table, n, tables::TABLE_NUMBERS);
 }
 
 // The proposed table of n triangles becomes the chart, with its entries; or it has too many of them, and lists and counts stay as

@@ -1,4 +1,1 @@
-pub mod StoreLaws
-pub mod PackLaws
 pub mod ListedLaws
-pub mod MatchLaws

@@ -1,8 +1,18 @@
 -- Entries packed into numbers.
 -- Assumes nothing.
-use Prim.Native.Nat.{ℕ, _+_, _*_, _-_}
+use Prim.Native.Nat.{ℕ, _+_, _*_, _/_, _%_}
 use Rattle.orthtree.specs.Entries.{Entry}
 
 -- an entry as one number: key, level and item at places 32, 16 and 0
 unfoldable pub packed : Entry → ℕ
 packed e = e .key * 4294967296 + e .level * 65536 + e .item
+
+-- key, level and item of a packed entry
+abbrev pub keyOf : ℕ → ℕ
+keyOf x = x / 4294967296
+
+abbrev pub levelOf : ℕ → ℕ
+levelOf x = x / 65536 % 256
+
+abbrev pub itemOf : ℕ → ℕ
+itemOf x = x % 65536

@@ -1,4 +1,5 @@
 -- One square of the recursion: its triangles among the candidates, its entries as a leaf, and its quarters.
+-- The idea: a triangle that meets a quarter meets the square, so the square's triangles are candidates enough for its quarters.
 -- Assumes nothing.
 use mathlib.Core.Path.{_≡_, refl, sym, _∙_, ap}
 use mathlib.Core.Bool.{true, false, _||_, true≢false}

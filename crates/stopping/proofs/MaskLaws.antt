@@ -9,7 +9,6 @@ use Prim.Native.Nat.{ℕ, _+_, _*_, _/_, _%_, _<_}
 use native.Mathlib.Omega.{arith}
 use lib.Bits.{bitAnd, bitOr, bitXor}
 use lib.Dec.{T, eqb}
-use lib.ListN.{getD}
 use Rattle.lists.specs.Lists.{all, filter, countFrom, upTo}
 use Rattle.lists.proofs.Reflects.{reflects-eqb, reflects-iff}
 use Rattle.lists.proofs.IndexLaws.{reflects-same, all-map, all-below-at}

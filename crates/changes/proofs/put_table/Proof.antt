@@ -5,7 +5,7 @@ use native.Mathlib.Omega.{arith}
 use borrow.Author.Needs.{needs}
 use lib.ListN.{take}
 use Rattle.call_spec.specs.Buffers.{padded}
-use Rattle.entry_lists.proofs.StoreLaws.{Copying, copying-start, copying-next, padded-copy}
+use Rattle.list_writes.proofs.StoreLaws.{Copying, copying-start, copying-next, padded-copy}
 use Rattle.changes.proofs.put_table.Statement.{statement}
 use Rattle.changes.proofs.put_table.Tie as tie
 

@@ -1,10 +1,13 @@
+-- The recursion on quarters: 16 - level falls at each of them.
+-- The idea: the candidates that pass are the triangles that meet the square. A stopped square is written as a leaf; in any other
+-- the loop keeps that the entries of the first k quarters are built, and those of all four are the square's.
 use mathlib.Core.Path.{_≡_, refl, sym, _∙_, ap}
 use mathlib.Core.List.{flatMap}
 use Prim.Native.Nat.{ℕ, suc, _+_, _*_, _-_, _≤_, _<_}
 use native.Mathlib.Nat.{mul-le-mul, suc-mul}
 use native.Mathlib.Numerals.{add-one}
 use native.Mathlib.Omega.{arith}
-use lib.ListN.{length, getD, take}
+use lib.ListN.{take}
 use borrow.Author.Needs.{needs}
 use Rattle.orthtree.specs.Entries.{span}
 use Rattle.squares.specs.Square.{quarters, squareKey}
@@ -14,7 +17,7 @@ use Rattle.shapes.specs.Shape.{coordinates}
 use Rattle.quadtree.specs.Build.{Built}
 use Rattle.quadtree.proofs.WalkLaws.{built-none, built-join}
 use Rattle.candidates.proofs.ReadyLaws.{ready-fits, ready-kept, part-kept, take-less}
-use Rattle.quadtree.proofs.SquareWalk.{Narrowed, after-narrow, narrow-room, level-below, key-small, built-leaf, quarter-tree, quarter-level, quarter-first, quarter-candidates, quarters-more, quarters-all}
+use Rattle.quadtree.proofs.SquareWalk.{after-narrow, narrow-room, level-below, key-small, built-leaf, quarter-tree, quarter-level, quarter-first, quarter-candidates, quarters-more, quarters-all}
 use borrow.Fn.Kinds.{In}
 use borrow.Fn.PlainCycle.{Measures, is, falls, and}
 use Rattle.quadtree.proofs.build_square.Reads as build-square

@@ -1,0 +1,83 @@
+-- The comparison of three entry lists with the entries of a table.
+-- The idea: building gives another count, or the same count and the entries packed, which are compared place by place;
+-- packing loses nothing.
+-- Assumes nothing.
+use mathlib.Core.Path.{_≡_, refl, sym, _∙_, ap}
+use mathlib.Core.Bool.{Bool, true, false, _&&_, true≢false}
+use mathlib.Core.List.{List}
+use Prim.Native.Nat.{ℕ, _≤_, _<_}
+use native.Mathlib.Omega.{arith}
+use borrow.Author.Tests.{eq-eqb}
+use lib.Dec.{T, eqb, eqb→eq}
+use lib.ListN.{length, getD, take, List·getD-map}
+use lib.Seq.{getD-take, ext-getD}
+use Rattle.lists.specs.Lists.{all, upTo}
+use Rattle.lists.proofs.Reflects.{reflects-eqb, reflects-iff, test-false}
+use Rattle.lists.proofs.ListsLaws.{Every, getD-member}
+use Rattle.lists.proofs.IndexLaws.{reflects-same, all-below-reflects}
+use Rattle.orthtree.specs.Entries.{Entry}
+use Rattle.call_spec.specs.Buffers.{zipEntries, sameEntries}
+use Rattle.call_laws.proofs.EntriesLaws.{sameEntries-reflects, first-count, first-at}
+use Rattle.leaves.specs.Packed.{packed}
+use Rattle.entry_checks.specs.Places.{packedAt}
+use Rattle.scratch.proofs.PackLaws.{Packable, packed-injective}
+use Rattle.scratch.specs.Packed.{Packed}
+use Rattle.scratch.proofs.PackedLaws.{packed-count, packed-take}
+
+module _ {most : ℕ} {es : List Entry} {r : ℕ} {l l′ : List ℕ} (p : Packed most es r l l′)
+    (ks ls is : List ℕ) (m : ℕ) (a : m ≤ length ks) (b : m ≤ length ls) (c : m ≤ length is) (few : m ≤ most) where
+  abbrev given : List Entry
+  given = take m (zipEntries ks ls is)
+
+  abbrev none : Entry
+  none = record { key = 0; level = 0; item = 0 }
+
+  -- another count
+  pub match-count : (r ≡ m → ⊥) → false ≡ sameEntries given es
+  match-count n =
+      sym (test-false (λ t.
+      let e = sym (ap length (sameEntries-reflects given es .to t)) ∙ first-count ks ls is m a b c in
+      n (p .fits (omega arith) .0 ∙ e)))
+
+  module _ (e : r ≡ m) (q : Every (λ e. Packable e) es)
+      (levels : (k : ℕ) → getD ls k 0 < 256) (items : (k : ℕ) → getD is k 0 < 65536) where
+    -- what the list of packed entries holds
+    packed-at : (i : ℕ) → i < m → getD l′ i 0 ≡ packed (getD es i none)
+    unfolding packed
+    packed-at i h =
+        sym (getD-take r l′ i 0 (omega arith))
+        ∙ ap (λ x. getD x i 0) (packed-take p (omega arith))
+        ∙ List·getD-map (λ d. packed d) es i none
+
+    abbrev sameAt : ℕ → Bool
+    sameAt i = eqb (getD l′ i 0) (packedAt ks ls is i)
+
+    same-to : ((i : ℕ) → i < m → T (sameAt i)) → given ≡ es
+    same-to t =
+        ext-getD none given es (first-count ks ls is m a b c ∙ sym e ∙ packed-count p (omega arith)) (λ i h.
+        let j : i < m = omega (arith, first-count ks ls is m a b c) in
+        first-at ks ls is m a b c none i j
+        ∙ packed-injective (record { key = getD ks i 0; level = getD ls i 0; item = getD is i 0 }) (getD es i none) (record { level = levels i; item = items i })
+        (q (getD es i none) (getD-member es i none (omega (arith, packed-count p (omega arith)))))
+        (sym (eqb→eq (getD l′ i 0) (packedAt ks ls is i) (t i j)) ∙ packed-at i j))
+
+    same-from : given ≡ es → (i : ℕ) → i < m → T (sameAt i)
+    same-from g i h =
+        reflects-eqb (getD l′ i 0) (packedAt ks ls is i) .from
+        (packed-at i h ∙ ap (λ x. packed (getD x i none)) (sym g) ∙ ap (λ d. packed d) (first-at ks ls is m a b c none i h))
+
+    -- the same count: the entries are equal when their numbers are, place by place
+    pub match-places : {o : Bool} → o ≡ all sameAt (upTo m) → o ≡ sameEntries given es
+    match-places h = h ∙ reflects-same (all-below-reflects sameAt m) (reflects-iff same-from same-to (sameEntries-reflects given es))
+
+  -- as code compares them: the counts, then the places
+  pub match-entries : Every (λ e. Packable e) es → ((k : ℕ) → getD ls k 0 < 256) → ((k : ℕ) → getD is k 0 < 65536)
+      → {o : Bool} → o ≡ (eqb r m && all (λ i. eqb (getD l′ i 0) (packedAt ks ls is i)) (upTo m)) → o ≡ sameEntries given es
+  match-entries q levels items h = h ∙ go (eqb r m) refl
+    where
+      places : Bool
+      places = all (λ i. eqb (getD l′ i 0) (packedAt ks ls is i)) (upTo m)
+
+      go : (b : Bool) → eqb r m ≡ b → (eqb r m && places) ≡ sameEntries given es
+      go true e = ap (λ c. c && places) e ∙ match-places (eqb→eq r m (rw e tt)) q levels items refl
+      go false e = ap (λ c. c && places) e ∙ match-count (λ x. true≢false (sym (eq-eqb r m x) ∙ e))

@@ -1,0 +1,36 @@
+use native.Mathlib.Omega.{arith}
+use borrow.Author.Needs.{needs}
+use Rattle.scratch.proofs.PackLaws.{entries-packable}
+use Rattle.entry_checks.proofs.MatchLaws.{match-entries}
+use Rattle.entry_checks.proofs.match_few.Statement.{statement}
+use Rattle.entry_checks.proofs.match_few.Tie as tie
+
+slice-aggregate-build : tie.Need-slice-aggregate-build
+slice-aggregate-build c = search needs
+
+build-requires : tie.Need-build-requires
+build-requires c κs = search needs
+
+slice-aggregate-same-entries : tie.Need-slice-aggregate-same-entries
+slice-aggregate-same-entries c = search needs
+
+same-entries-requires : tie.Need-same-entries-requires
+same-entries-requires c κs = search needs
+
+returns : tie.Need-returns
+returns c =
+    let a = c .before .before .before .before .before .before .before .before .before .args in
+    let b = c .before .before .before .before .before .before .before .before .before .pre .1 in
+    match-entries (c .before .before .before .build .ensures) (a .keys .now) (a .levels .now) (a .items .now) (a .m) (b .0 .1) (b .1 .0) (b .1 .1) (b .0 .0)
+    (entries-packable (a .table .now) (a .n) (c .before .before .before .before .before .before .before .before .before .pre .0 .0 .0))
+    (λ k. omega (arith, c .before .before .before .before .before .before .shared-slice-known3 .given k)) (λ k. omega (arith, c .before .before .before .before .before .shared-slice-known4 .given k)) (c .same-entries .ensures)
+
+pub match-few-spec : {M : Type 1} → statement M
+match-few-spec =
+    tie.close
+    (tie.spec
+    slice-aggregate-build
+    build-requires
+    slice-aggregate-same-entries
+    same-entries-requires
+    returns)
