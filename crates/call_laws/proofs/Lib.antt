@@ -6,3 +6,4 @@ pub mod ReaderLaws
 pub mod OverwriteLaws
 pub mod EditCalls
 pub mod HistoryLaws
+pub mod HistoryExamples

@@ -30,10 +30,10 @@ filled t ks ls is n e =
 abbrev U : Triangle
 U = tri (at 0 0) (at 65535 0) (at 0 65535)
 
-abbrev numbersU : List ℕ
+abbrev pub numbersU : List ℕ
 numbersU = 0 ∷ 0 ∷ 65535 ∷ 0 ∷ 0 ∷ 65535 ∷ []
 
-abbrev numbersV : List ℕ
+abbrev pub numbersV : List ℕ
 numbersV = 65535 ∷ 65535 ∷ 0 ∷ 65535 ∷ 65535 ∷ 0 ∷ []
 
 abbrev Vt : Triangle
@@ -66,7 +66,7 @@ short = chartOf numbersU keysU levelsU [] 1 6
 abbrev broken : Chart
 broken = filled numbersV keysU levelsU (0 ∷ 0 ∷ 0 ∷ 0 ∷ 0 ∷ 0 ∷ 65535 ∷ []) 1 6
 
-abbrev stale : Chart
+abbrev pub stale : Chart
 stale = filled numbersV keysU levelsU (0 ∷ 0 ∷ 0 ∷ 0 ∷ 0 ∷ 0 ∷ 65535 ∷ []) 1 7
 
 -- Load and the edits
@@ -201,12 +201,3 @@ eventCall-example ns c = refl
 chartAfter-example : (e f : Event) (c : Chart) → chartAfter (e ∷ f ∷ []) c ≡ eventCall f (eventCall e c .chart) .chart
 unfolding evaluate
 chartAfter-example e f c = refl
-
--- accepted events of each kind: load, flip, split, take-out; a refused flip among them
-abbrev after : Chart → List ℕ
-after c = c .triangleCount ∷ c .entryCount ∷ take 13 (c .table)
-
-accepted-history-example : after (chartAfter (load (numbersU ++ numbersV) ∷ flip 1 0 ∷ flip 1 1 ∷ split 0 (at 40000 30000) ∷ takeOut (at 40000 30000) ∷ []) stale)
-    ≡ 2 ∷ 14 ∷ 0 ∷ 0 ∷ 65535 ∷ 0 ∷ 65535 ∷ 65535 ∷ 0 ∷ 65535 ∷ 0 ∷ 0 ∷ 65535 ∷ 65535 ∷ 0 ∷ []
-unfolding evaluate
-accepted-history-example = refl

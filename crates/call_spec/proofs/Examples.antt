@@ -1,4 +1,4 @@
--- Examples of the calls and of lists of calls, on buffers longer than asked that hold other numbers.
+-- Examples of the calls, on buffers longer than asked that hold other numbers.
 -- Assumes nothing.
 use mathlib.Core.Path.{_≡_, refl}
 use mathlib.Core.Bool.{Bool, true, false}
@@ -8,22 +8,20 @@ use Prim.Native.Nat.{ℕ}
 use lib.ListN.{set, take, replicate}
 use Rattle.plane.specs.declared.Point.{Point}
 use Rattle.chart_spec.specs.Refusals.{Outcome}
-use Rattle.chart_spec.specs.Edits.{load, split, flip}
 use Rattle.chart_spec.specs.Overlay.{OverlayAnswer, withinPairs}
 use Rattle.chart_spec.proofs.MarkedCases.{at}
 use Rattle.call_spec.specs.Buffers.{Chart}
 use Rattle.call_spec.specs.Calls.{loadCall, splitCall, takeOutCall, flipCall, locateCall, listingCall, soundCall, areaCall, overlaidBy, overlayCall}
-use Rattle.call_spec.specs.History.{chartAfter}
 use Rattle.call_spec.proofs.Evaluate.{evaluate}
 
 -- two triangles with a corner in common
-abbrev numbersA : List ℕ
+abbrev pub numbersA : List ℕ
 numbersA = 40000 ∷ 5000 ∷ 45000 ∷ 5000 ∷ 60000 ∷ 45000 ∷ 65535 ∷ 65535 ∷ 0 ∷ 40000 ∷ 60000 ∷ 45000 ∷ []
 
 -- Calls on buffers
 
 -- buffers one place longer than asked that hold 7, and counts that mean nothing
-abbrev dirty : Chart
+abbrev pub dirty : Chart
 dirty = record {
   table = replicate 3073 7;
   keys = replicate 16385 7;
@@ -34,7 +32,7 @@ dirty = record {
 }
 
 -- the chart that the load leaves
-abbrev indexedA : Chart
+abbrev pub indexedA : Chart
 indexedA = record {
   table = numbersA ++ replicate 3060 0 ++ (7 ∷ []);
   keys = (0 ∷ 1073741824 ∷ 1140850688 ∷ 1157627904 ∷ 1174405120 ∷ 1178599424 ∷ 1182793728 ∷ 1186988032 ∷ 1191182336 ∷ 1207959552 ∷ 1275068416 ∷ 1342177280 ∷ 1610612736 ∷ 1879048192 ∷ 2147483648 ∷ 3221225472 ∷ 3489660928 ∷ 3489660928 ∷ 3758096384 ∷ 4026531840 ∷ []) ++ replicate 16364 0 ++ (7 ∷ []);
@@ -108,11 +106,6 @@ edits-example :
 unfolding evaluate
 edits-example = refl
 
--- an edit after an edit: take out what was split, and the chart is as it was
-round-example : takeOutCall (at 50000 50000) (splitCall 1 (at 50000 50000) indexedA .chart) ≡ record { number = 0; value = 0; chart = indexedA }
-unfolding evaluate
-round-example = refl
-
 -- readers on a chart, on one that is short, and on one whose chain is broken
 readers-example :
     map (λ c. locateCall c (at 50000 50000)) (indexedA ∷ withTable [] ∷ cut ∷ [])
@@ -169,10 +162,3 @@ many n = withinPairs (replicate n (record { i = 3; j = 5 })) 8
 over-example : overlaidBy (replicate 8193 7) (many 4097) ≡ record { number = 12; pairCount = 0; meets = 0; pairs = replicate 8192 0 ++ (7 ∷ []) }
 unfolding evaluate
 over-example = refl
-
--- Lists of events
-
--- refused calls leave the chart as it is
-chart-history-example : chartAfter (load numbersA ∷ split 1 (at 45000 5000) ∷ load (1 ∷ []) ∷ flip 0 1 ∷ []) dirty ≡ indexedA
-unfolding evaluate
-chart-history-example = refl
