@@ -7,16 +7,21 @@ usage: mutants.py [--crates A,B] [--only REGEX] [--max N] [--jobs 1|2] [--minute
 A mutant changes one place of one definition: a comparison, an operand, a coordinate, a corner, a chart, an order, a constant,
 a constructor, a variable; a part or row is dropped, negated or doubled; two arguments, fields, rows, cases or elements change
 places. It is judged in these steps:
- 1. on the examples of its own crate, many mutants of a file in one check; then on its whole crate. An error in specs/ itself:
-    invalid, it is no definition. Any other refusal: killed.
+ 1. on the examples of its own file, many mutants in one check; then on its whole crate. An error in specs/ itself: invalid,
+    it is no definition. Any other refusal: killed.
  2. what passes is tried on the crates above whose texts name the definition, or one that is made of it, in the order of
     crates.txt, until one refuses it; programs are left out, which state nothing of their own. After log_spec, the last crate
     of definitions, come the executed cases: those that tests/definitions.py draws, as a crate 'trial'.
+In step 1 a check may take 10 times the processor time that the right definition takes, at least 20 s; in step 2 it may take
+900 s; and 4 GB. A check of many mutants that takes more is done again for each of them. A mutant whose check alone takes more
+has the verdict 'does not end': what is shown of the right definition in a part of that time is not shown of it. It counts as
+refused, and the report counts it apart.
+
 What passes all of it is a survivor: write an example or a law that refuses it. A mutant that is the same function has a row in
 tests/mutants-same.tsv (file, definition, mutant, why) and is not run; a row that names no mutant is an error.
 
 The work goes on in copies below a temporary folder; the repository is only read. FILE.tsv gets a row for each mutant as the
-run goes on; with --resume those that it has as killed or invalid are not judged again. --only looks at 'file definition'.
+run goes on; with --resume those that it has as refused or invalid are not judged again. --only looks at 'file definition'.
 --max takes a part, drawn at random. --list prints the mutants and stops. With make: make mutants OPTIONS="--crates plane".
 Exit status: 0 when no survivor is left among the mutants judged, 1 otherwise."""
 
@@ -28,6 +33,7 @@ import platform
 import queue
 import random
 import re
+import resource
 import shutil
 import signal
 import subprocess
@@ -40,9 +46,12 @@ ROOT = os.path.dirname(os.path.dirname(os.path.abspath(__file__)))
 SAME = os.path.join(ROOT, "tests", "mutants-same.tsv")
 CASES = ["7", "4"]  # seed and count of the executed cases
 AT_ONCE = 24  # mutants in one check of the examples
-LIMIT = 900  # seconds for one check
-EXAMPLES = re.compile(r"/proofs/\w*(Examples|MarkedCases|Cases)\.antt")
-COPIED = re.compile(r"/proofs/\w*(Examples|MarkedCases|Cases|Evaluate)\.antt")  # the examples, and what they unfold together
+TIMES, LEAST = 10, 20  # a check of the own crate may take so many times what it takes as things stand, and at least so many seconds
+LONGEST = 900  # seconds that a check of a crate above may take
+MEMORY = 6 << 20  # kilobytes of data for one check; some 2 GB of it are set aside, not used
+REFUSED = ("killed", "does not end")
+EXAMPLES = re.compile(r"/proofs/(\w*)(Examples|Cases)\.antt")
+COPIED = re.compile(r"/proofs/\w*(Examples|Cases|Evaluate)\.antt")  # the examples, and what they unfold together
 
 # ---- reading definitions
 
@@ -401,62 +410,107 @@ class Reach:
         return [c for c in self.crates if crate in self.crates[c] and self.named[c] & known]
 
 
+def without_examples(text):
+    """What other files take from a file of examples: all but what is shown by computing."""
+    return "\n\n".join(b for b in text.split("\n\n") if not re.search(r"= \(?refl[^\n]*\s*$", b)) + "\n"
+
+
 class Place:
     """A copy of the repository, its libraries proved, in which definitions are made wrong and right again."""
 
     def __init__(self, root, crates):
         self.root, self.crates, self.sure = root, crates, set()  # sure: proved as they stand
+        self.seconds = {}  # what a check takes as things stand
         guide = subprocess.run(["rt", "doc"], stdout=subprocess.PIPE, text=True, check=True).stdout.strip()
         self.home = os.path.dirname(os.path.dirname(guide))
         self.own = os.path.join(self.home, "on", platform.machine())
 
-    def run(self, verb, crate, *more):
-        """None when the crate is proved; else what was printed, or 'no verdict'. The words are those that rt gives."""
+    def run(self, verb, crate, *more, limit=LONGEST):
+        """None when the crate is proved; else what was printed, 'does not end' or 'no verdict'. The words are those that rt gives."""
         libraries, kit = os.path.join(self.root, "target", "rlib"), os.path.join(self.own, "rlib")
-        words = [os.path.join(self.own, "bin", "rattle"), verb, "--crate-name", crate]
+        words = ["sh", "-c", f'ulimit -t {limit:.0f} && ulimit -d {MEMORY} && exec "$@"', "sh"]
+        words += [os.path.join(self.own, "bin", "rattle"), verb, "--crate-name", crate]
         words.append(os.path.join(self.root, "crates", crate, "src", "lib.rt"))
         for d in ["std"] + self.crates[crate]:
             words += ["--extern", f"{d}={os.path.join(libraries if d in self.crates else kit, d + '.rlib')}"]
         words += ["-L", "dependency=" + libraries, "-L", "dependency=" + kit]
         words += ["--antt-project", os.path.join(self.home, "logic", "antt-project.json")]
         words += ["--logic-built", os.path.join(self.own, "logic-built"), *more]
-        pipes = dict(stdout=subprocess.PIPE, stderr=subprocess.STDOUT, text=True, errors="replace")
-        try:
-            p = subprocess.run(words, timeout=LIMIT, **pipes)
-        except subprocess.TimeoutExpired:
-            return "no verdict"
-        return None if p.returncode == 0 else p.stdout if p.returncode == 1 else "no verdict"
+        p = subprocess.run(words, stdout=subprocess.PIPE, stderr=subprocess.STDOUT, text=True, errors="replace")
+        return None if p.returncode == 0 else p.stdout if p.returncode == 1 else "does not end" if p.returncode < 0 else "no verdict"
+
+    def most(self, what, check):
+        """The seconds that a check may take, from what it takes as things stand; `check` does that, the first time."""
+        if what not in self.seconds:
+            spent = lambda: sum(resource.getrusage(resource.RUSAGE_CHILDREN)[:2])
+            before = spent()
+            if check() in ("does not end", "no verdict"):
+                sys.exit(f"no verdict on {what} as it stands")
+            self.seconds[what] = spent() - before
+        return max(LEAST, TIMES * self.seconds[what])
 
     def prove(self, crates):
         words = ["rt", "check", *crates]
         if crates and subprocess.run(words, cwd=self.root, env=dict(os.environ, RT_JOBS="1"), stdout=subprocess.DEVNULL).returncode:
             sys.exit("the repository as it stands is not proved")
 
-    def check(self, crate):
+    def check(self, crate, limit):
         kept = os.path.join(self.root, "target", "inc", crate)
         os.makedirs(kept, exist_ok=True)
-        return self.run("check", crate, "--incremental", kept)
+        printed = self.run("check", crate, "--incremental", kept, limit=limit)
+        if printed in ("does not end", "no verdict"):
+            shutil.rmtree(kept)
+        return printed
+
+    def copies(self, file, texts):
+        """Of a file of definitions: what is copied with it to show the examples of that file. Those files of examples have
+        its name, up to a plural; without such files, they are all that have a name before 'Examples', or else all."""
+        module, folder = lambda p: os.path.basename(p)[:-5], lambda p: os.path.dirname(p)
+        stem = {p: EXAMPLES.search(p).group(1) for p in texts if EXAMPLES.search(p)}
+        mine = [p for p in stem if stem[p].rstrip("s") == module(file).rstrip("s")]
+        mine = mine or [p for p in stem if stem[p] and p.endswith("Examples.antt")] or list(stem)
+        copied, needed = [file], list(mine)
+        crate = os.path.basename(os.path.dirname(folder(file)))
+        names = lambda ps: re.compile(r"(Rattle·%s·(?:specs\.specs|proofs\.proofs)\.)(%s)\b" % (crate, "|".join(map(module, ps))))
+        may = [p for p in texts if folder(p) == folder(file) or COPIED.search(p)]
+        for _ in texts:
+            copied += [p for p in may if p not in copied and names(copied).search(texts[p])]
+            needed += [p for p in texts if p not in needed and any(names([p]).search(texts[q]) for q in needed)]
+        return [p for p in copied if p in needed], mine, names(copied)
 
     def screen(self, batch):
-        """The examples of the crate on mutants of one file, in one check: each mutant has a copy of its file, of the files made
-        of it and of the examples. Copy 0 is right: an example that fails there mixes copies with laws, and shows nothing."""
-        crate = batch[0].crate
+        """The examples of a file on mutants of it, in one check: each mutant has a copy of its file, of the files made of it and
+        of the examples. Copy 0 is right: an example that fails there mixes copies with laws, and shows nothing."""
+        crate, file = batch[0].crate, batch[0].file
+        limit = self.most(file, lambda: self.copied(crate, file, [])[0])
+        printed, failed = self.copied(crate, file, batch, limit if len(batch) == 1 else max(limit, len(batch) * self.seconds[file]))
+        if printed in ("does not end", "no verdict") and len(batch) > 1:
+            for m in batch:
+                self.screen([m])
+        elif printed == "does not end":
+            batch[0].verdict, batch[0].where = printed, crate + "/proofs"
+        for k, m in enumerate(batch, 1):
+            new = [f for f in failed[k] if f not in failed[0]]
+            if new:
+                invalid = any(f[0] for f in new)
+                m.verdict, m.where = ("invalid", "") if invalid else ("killed", new[0][1])
+
+    def copied(self, crate, file, batch, limit=LONGEST):
+        """What a check prints with a copy for each mutant, and what fails in each copy."""
         texts = {p: read(p) for part in ("specs", "proofs") for p in sources(".antt", part, self.root, crate)}
         module, folder = lambda p: os.path.basename(p)[:-5], lambda p: os.path.dirname(p)
-        copied = [os.path.join(self.root, "crates", batch[0].file)]
-        for _ in texts:
-            named = re.compile(r"(Rattle·%s·(?:specs\.specs|proofs\.proofs)\.)(%s)\b" % (crate, "|".join(map(module, copied))))
-            may = [p for p in texts if p not in copied and (folder(p) == folder(copied[0]) or COPIED.search(p))]
-            copied += [p for p in may if named.search(texts[p])]
+        right = os.path.join(self.root, "crates", file)
+        copied, shown, named = self.copies(right, texts)
         made, failed = [], collections.defaultdict(list)
         for k, m in enumerate([None] + batch):
             for p in copied:
+                text = m.text if m and p == right else texts[p] if p in shown or not EXAMPLES.search(p) else without_examples(texts[p])
                 made.append(os.path.join(folder(p), f"Copy{k}{module(p)}.antt"))
-                write(made[-1], named.sub(r"\g<1>Copy%d\2" % k, m.text if m and p == copied[0] else texts[p]))
+                write(made[-1], named.sub(r"\g<1>Copy%d\2" % k, text))
         nodes = {os.path.join(folder(p), "Lib.antt") for p in copied}
         for node in nodes:
             write(node, texts[node] + "".join(f"pub mod {module(p)}\n" for p in made if folder(p) == folder(node)))
-        printed = self.check(crate)
+        printed = self.check(crate, limit)
         for p in made:
             os.remove(p)
         for node in nodes:
@@ -464,40 +518,36 @@ class Place:
         error = r"^\S+/(specs|proofs)/Copy(\d+)(\S+?:\d+):\d+: error: (?:`([^`]*)`)?"
         for part, k, place, name in re.findall(error, printed or "", re.M):
             failed[int(k)].append((part == "specs", f"{crate}/{part}/{place} {name}"))
-        for k, m in enumerate(batch, 1):
-            new = [f for f in failed[k] if f not in failed[0]]
-            if new:
-                invalid = any(f[0] for f in new)
-                m.verdict, m.where = ("invalid", "") if invalid else ("killed", new[0][1])
+        return printed, failed
 
     def judge(self, m, above):
         """The mutant on its own crate; or, given the crates above, on those."""
         path = os.path.join(self.root, "crates", m.file)
-        right = read(path)
+        right, limit = read(path), self.most(m.crate, lambda: self.run("check", m.crate))
         write(path, m.text)
         if above is None:
-            self.conclude(m, m.crate, self.check(m.crate))
+            self.conclude(m, m.crate, self.check(m.crate, limit))
         elif above:
             library = os.path.join(self.root, "target", "rlib", m.crate + ".rlib")
             os.rename(library, library + ".right")
             self.conclude(m, m.crate, self.run("build", m.crate, "-o", library))
             for c in above:
                 if not m.verdict:
-                    self.conclude(m, c, self.check(c))
+                    self.conclude(m, c, self.check(c, LONGEST))
             shutil.rmtree(library, ignore_errors=True)
             os.rename(library + ".right", library)
         write(path, right)
         refused = m.where.split("/")[0]
         if above and m.verdict and refused not in self.sure:
-            if self.check(refused) is not None:
+            if self.check(refused, LONGEST) is not None:
                 sys.exit(f"the repository as it stands is not proved: {refused}")
             self.sure.add(refused)
 
     def conclude(self, m, crate, printed):
         if printed is None:
             m.passed += [crate] if crate not in m.passed else []
-        elif printed == "no verdict":
-            m.verdict, m.where = "undecided", crate
+        elif printed in ("does not end", "no verdict"):
+            m.verdict, m.where = printed if printed == "does not end" else "undecided", crate
         else:
             errors = re.findall(r"^(\S+?:\d+):\d+: error: (?:`([^`]*)`)?", printed, re.M)
             found = [f.replace(os.path.join(self.root, "crates", ""), "") + " " + name for f, name in errors]
@@ -546,6 +596,7 @@ class Run:
     def __init__(self, out, minutes):
         self.began, self.out, self.judged = time.time(), out, []
         self.until, self.lock = self.began + 60 * minutes, threading.Lock()
+        self.others = []  # rows of the file about mutants that are not chosen now
 
     def say(self, text):
         print(f"[{time.time() - self.began:.0f} s] {text}", flush=True)
@@ -553,7 +604,7 @@ class Run:
     def save(self):
         if self.out:
             head = "file\tdefinition\tmutant\tkind\tverdict\twhere\tpassed"
-            write(self.out, "\n".join([head] + [m.row() for m in self.judged]) + "\n")
+            write(self.out, "\n".join([head, *self.others] + [m.row() for m in self.judged]) + "\n")
 
     def each(self, step, places, batches, work):
         """Does the work on every batch of mutants, at a place that is free, and says how it goes on."""
@@ -600,15 +651,15 @@ def main():
     run, names = Run(o.out, o.minutes), Names()
     is_program = lambda c: os.path.exists(os.path.join(ROOT, "crates", c, "src", "main.rt"))
     crates = {c: d for c, d in crates_of(read(os.path.join(ROOT, "crates.txt"))).items() if not is_program(c)}
-    mutants = [m for c in crates for p in sources(".antt", "specs", ROOT, c) for m in mutants_of(c, p, names)]
+    every = [m for c in crates for p in sources(".antt", "specs", ROOT, c) for m in mutants_of(c, p, names)]
     same = {tuple(l.split("\t")[:3]) for l in read(SAME).split("\n") if l and not l.startswith("#")}
-    lost = same - {m.key for m in mutants}
+    lost = same - {m.key for m in every}
     if lost:
         sys.exit("tests/mutants-same.tsv has rows that name no mutant:\n" + "\n".join("\t".join(k) for k in sorted(lost)))
     chosen = o.crates.split(",") if o.crates else list(crates)
     if not set(chosen) <= set(crates):
         sys.exit("no such library: " + " ".join(set(chosen) - set(crates)))
-    mutants = [m for m in mutants if m.crate in chosen and re.search(o.only, m.file + " " + m.definition)]
+    mutants = [m for m in every if m.crate in chosen and re.search(o.only, m.file + " " + m.definition)]
     known = [m for m in mutants if m.key in same]
     definitions = {(m.file, m.definition) for m in mutants}
     run.say(f"{len(mutants)} mutants of {len(definitions)} definitions, {len(known)} known to be the same function")
@@ -616,7 +667,9 @@ def main():
         print("\n".join(f"{m.file}\t{m.definition}\t{m.shown}\t{m.kind}" for m in mutants))
         return
     rows = [l.split("\t") for l in read(o.out).split("\n")[1:] if l] if o.resume and os.path.exists(o.out) else []
-    earlier = {tuple(r[:3]): r for r in rows if r[4] in ("killed", "invalid")}
+    chosen_now, all_keys = {m.key for m in mutants}, {m.key for m in every}
+    run.others = ["\t".join(r) for r in rows if tuple(r[:3]) in all_keys - chosen_now]
+    earlier = {tuple(r[:3]): r for r in rows if r[4] in (*REFUSED, "invalid")}
     for m in mutants:
         if m.key in earlier and m.key not in same:
             m.verdict, m.where = earlier[m.key][4:6]
@@ -651,14 +704,15 @@ def main():
             run.judged.append(m)
     run.save()
     print(f"\n{len(run.judged)} of {len(mutants)} judged in {time.time() - run.began:.0f} s, {len(known)} known to be the same function")
-    print("by crate: judged, invalid, killed by its own examples, by its own laws, above, undecided, survived")
+    print("by crate: judged, invalid, killed by its own examples, by its own laws, above, does not end, undecided, survived")
     for c in crates:
         mine = [m for m in run.judged if m.crate == c]
         count = collections.Counter(m.verdict for m in mine)
         own = [m for m in mine if m.verdict == "killed" and m.where.split("/")[0] == c]
         shown = sum(bool(EXAMPLES.search(m.where)) for m in own)
         if mine:
-            ways = [count["invalid"], shown, len(own) - shown, count["killed"] - len(own), count["undecided"], count["survived"]]
+            others = [count[v] for v in ("does not end", "undecided", "survived")]
+            ways = [count["invalid"], shown, len(own) - shown, count["killed"] - len(own), *others]
             print(f"  {c}: {len(mine)}, " + ", ".join(map(str, ways)))
     left = [m for m in run.judged if m.verdict in ("survived", "undecided")]
     for m in left:
