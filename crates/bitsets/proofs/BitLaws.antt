@@ -21,7 +21,8 @@ pub word-empty : (b : ℕ) → wordBit 0 b ≡ false
 unfolding wordBit
 word-empty b = rw (zero-div (2 ^ b))
 
-or-false : (b : Bool) → b || false ≡ b
+-- nothing is added
+pub or-false : (b : Bool) → b || false ≡ b
 or-false true = refl
 or-false false = refl
 

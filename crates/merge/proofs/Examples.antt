@@ -3,8 +3,13 @@
 use mathlib.Core.Path.{_≡_, refl}
 use mathlib.Core.Bool.{true, false}
 use mathlib.Core.List.{[], _∷_, map}
+use Prim.Native.Nat.{_*_}
 use Rattle.lists.specs.Lists.{any}
-use Rattle.merge.specs.Merge.{placeOf, someAt}
+use Rattle.merge.specs.Merge.{rowsLength, placeOf, someAt}
+
+-- 512 rows of 8 words and one for the mark
+rows-example : rowsLength ≡ 8 * 513
+rows-example = refl
 
 -- triangles keep their numbers, and the mark takes the place after the last
 place-example : map placeOf (0 ∷ 7 ∷ 511 ∷ 65535 ∷ []) ≡ 0 ∷ 7 ∷ 511 ∷ 512 ∷ []

@@ -12,12 +12,8 @@ use lib.ListN.{length, getD, take, drop, replicate, length-drop}
 use lib.Seq.{take-suc, getD-drop}
 use Rattle.lists.specs.Lists.{any}
 use Rattle.bitsets.specs.Bits.{hasBit, Inserted, Joined}
-use Rattle.bitsets.proofs.BitLaws.{zeros-empty}
+use Rattle.bitsets.proofs.BitLaws.{or-false, zeros-empty}
 use Rattle.merge.specs.Merge.{placeOf, someAt, ItemsInserted, SetJoined, PartsMarked}
-
-or-false : (b : Bool) → b || false ≡ b
-or-false true = refl
-or-false false = refl
 
 or-assoc : (a b c : Bool) → (a || b) || c ≡ a || (b || c)
 or-assoc true b c = refl

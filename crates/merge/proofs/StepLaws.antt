@@ -14,7 +14,7 @@ use lib.ListN.{length, getD, take, drop, length-take}
 use lib.Seq.{take-all}
 use Rattle.lists.specs.Lists.{any, sumOf, filter}
 use Rattle.lists.proofs.Reflects.{reflects-and, reflects-ltb, reflects-true}
-use Rattle.orthtree.specs.Entries.{Entry, span, rangeEnd, chain, cellHeads, meetings, listedTogether}
+use Rattle.orthtree.specs.Entries.{Entry, span, chain, cellHeads, meetings, listedTogether}
 use Rattle.squares.specs.Square.{arity, depth}
 use Rattle.chain_blocks.specs.KeyBlocks.{CellEnd, RunEnd, keyBlocks, keyFrom}
 use Rattle.chain_blocks.proofs.KeyBlocksLaws.{KeysOf, keys-at}
@@ -24,7 +24,7 @@ use Rattle.chain_blocks.proofs.NextBlock.{Block, next-block}
 use Rattle.chain_blocks.proofs.BlockLaws.{block-together, block-meetings}
 use Rattle.call_spec.specs.Buffers.{zipEntries}
 use Rattle.bitsets.specs.Bits.{hasBit}
-use Rattle.merge.specs.Merge.{someAt, PartsMarked, BlockEnd, RunOf, BlockMarked, Overlapping, Merged}
+use Rattle.merge.specs.Merge.{RunOf, BlockMarked, Overlapping, Merged}
 use Rattle.merge.proofs.WalkLaws.{blocks-few}
 use Rattle.merge.proofs.EntryLaws.{EntriesOf, entries-of, some-listed}
 
@@ -83,9 +83,6 @@ reached-next {ks} {is} {n} {ls} {js} {m} es fs x y c d rule rule₂ {a} {b} {row
   };
 }
   where
-    e : ℕ
-    e = s .end
-
     first-run : RunEnd ks n a (s .end) p
     first-run = run-below c rule (x .keys) h (s .ends .first) (omega (arith, s .ends .end)) (s .first)
 
@@ -99,7 +96,7 @@ reached-next {ks} {is} {n} {ls} {js} {m} es fs x y c d rule rule₂ {a} {b} {row
 pairs-more : (a b x y count pairs : ℕ) → count ≤ a * b → pairs ≤ x * y → count + pairs ≤ (a + x) * (b + y)
 pairs-more a b x y count pairs h l = omega arith
 
--- the pairs of cells of a block are no more than the pairs of its entries
+-- the cells of a run are no more than its entries
 pub run-cells : (ks : List ℕ) (a r : ℕ) → keyBlocks (take (r - a) (drop a ks)) ≤ r - a
 run-cells ks a r = omega (arith, blocks-few (take (r - a) (drop a ks)), length-take (r - a) (drop a ks))
 

@@ -3,12 +3,12 @@
 use mathlib.Core.Path.{_≡_, refl, sym, _∙_, ap}
 use mathlib.Core.Bool.{Bool, true, false, cond}
 use mathlib.Core.List.{List, [], _∷_}
-use Prim.Native.Nat.{ℕ, zero, suc, _+_, _-_, _≤_, _<_}
+use Prim.Native.Nat.{ℕ, suc, _+_, _-_, _≤_, _<_}
 use native.Mathlib.Decide.{ℕ-discrete}
 use native.Mathlib.Omega.{arith}
 use lib.Dec.{eqb}
-use lib.ListN.{length, getD, take, drop, length-take, length-drop}
-use Rattle.chain_blocks.specs.KeyBlocks.{CellEnd, RunEnd, changesAfter, keyBlocks}
+use lib.ListN.{length, getD, take, drop, length-take}
+use Rattle.chain_blocks.specs.KeyBlocks.{CellEnd, changesAfter, keyBlocks}
 use Rattle.chain_blocks.proofs.KeyBlocksLaws.{changes-same, changes-other, blocks-one, blocks-grow}
 use Rattle.merge.specs.Merge.{RunOf}
 

@@ -1,12 +1,12 @@
 // Which items of two charts are listed in cells that overlap, and how many pairs of cells overlap: both lists of entries are
-// walked once, by their keys alone, block by block. A block starts where a cell of each chart starts and ends where the larger
+// walked by their keys alone, block by block. A block starts where a cell of each chart starts and ends where the larger
 // of the two ends, so one of its two runs is a single cell, and every cell of the one overlaps every cell of the other.
 
 ghost use mathlib.Core.Path.{_≡_};
 ghost use mathlib.Core.Bool.{false, cond};
 ghost use Prim.Native.Nat.{ℕ, _+_, _*_, _≤_, _<_, max};
 ghost use lib.Dec.{eqb};
-ghost use lib.ListN.{length, getD};
+ghost use lib.ListN.{length};
 ghost use Rattle.orthtree.specs.Entries.{span};
 ghost use Rattle.squares.specs.Square.{arity, depth};
 ghost use Rattle.chart_spec.specs.Cells.{maxEntries};
