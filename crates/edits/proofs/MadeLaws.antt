@@ -3,11 +3,14 @@
 -- Assumes nothing.
 use mathlib.Core.Path.{_≡_, refl, sym, _∙_, ap}
 use mathlib.Core.Bool.{true}
-use mathlib.Core.List.{List}
-use Prim.Native.Nat.{ℕ, _*_, _≤_}
+use mathlib.Core.Logic.{inl, inr}
+use mathlib.Core.List.{List, [], _∷_, map}
+use Prim.Native.Nat.{ℕ, suc, _*_, _≤_}
 use native.Mathlib.Omega.{arith}
 use lib.Dec.{T}
 use lib.ListN.{length, set}
+use types.Run.{OneOf}
+use denote.Enum.Declared.{tagOf}
 use Rattle.lists.specs.Lists.{all, upTo, countFrom}
 use Rattle.lists.proofs.Reflects.{reflects-test, test-true}
 use Rattle.lists.proofs.ListsLaws.{Every, every-cons, all-reflects}
@@ -16,18 +19,32 @@ use Rattle.lists.proofs.EditedLists.{every-set}
 use Rattle.plane.specs.declared.Point.{Point}
 use Rattle.plane.specs.Triangle.{proper}
 use Rattle.chart_spec.specs.Table.{Table, numbered, tableOf, maxTriangles, numbersPerTriangle, tableLength}
-use Rattle.chart_spec.specs.Refusals.{Outcome, done, andThen}
+use Rattle.chart_spec.specs.Refusals.{Outcome, done, andThen, outcomeNumber, outcomeValue}
 use Rattle.chart_spec.specs.Edits.{splitAt, splitTable, takeOutTable, flipTable, withinLimit}
 use Rattle.chart_laws.proofs.TriangleLaws.{inside-parts}
 use Rattle.chart_laws.proofs.EditLaws.{split-done, takeOut-done}
 use Rattle.chart_laws.proofs.FlipLaws.{flip-done}
 use Rattle.chart_laws.proofs.MergeLaws.{taken-sum, merge-every}
 use Rattle.call_spec.specs.Buffers.{Chart, chartTable, chainRule}
-use Rattle.call_spec.specs.Calls.{changedBy}
+use Rattle.call_spec.specs.Calls.{Changed, changedBy, ifIndexed, editCall}
 use Rattle.call_laws.proofs.BufferLaws.{ruled}
+use Rattle.call_laws.proofs.EditCalls.{edit-refused}
+use Rattle.answers.specs.declared.Change.{Change}
+use Rattle.answers.proofs.Judged as judged
+use Rattle.answers.specs.declared.Judged.{Judged}
+use Rattle.answers.specs.declared.Judged.the-variants.{Fine, ShortBuffer, BrokenChain, StaleEntries}
+use Rattle.answers.specs.Outcomes.{judgedOutcome, changeOutcome}
+use Rattle.table_edits.proofs.Edited as edited
 use Rattle.table_edits.specs.declared.Edited.{Edited}
 use Rattle.table_edits.specs.declared.Edited.the-variants.{Made, NoSuchTriangle, NotInside, NotThreeAround, NoFlip, TableFull}
 use Rattle.table_edits.specs.Edited.{editedOutcome, editedCount}
+use Rattle.edits.specs.declared.Edit.{Edit}
+use Rattle.edits.specs.declared.Edit.the-variants.{Split, TakeOut, Flip}
+use Rattle.edits.specs.Edit.{tableEdit, judgedChange, editedChange}
+
+-- what is given back at a refusal: lists and counts as they were
+abbrev pub answered : Chart → Change → Changed
+answered c r = record { number = outcomeNumber (changeOutcome r); value = outcomeValue (changeOutcome r); chart = c }
 
 -- each triangle has D > 0
 abbrev pub Oriented : Table → Type 0
@@ -37,7 +54,7 @@ Oriented table = Every (λ t. T (proper t)) table
 abbrev pub Keeps : (Table → Outcome Table) → Type 0
 Keeps edit = (table next : Table) → Oriented table → edit table ≡ done next → Oriented next
 
-pub split-keeps : (i : ℕ) (p : Point) → Keeps (λ table. splitTable i p table)
+split-keeps : (i : ℕ) (p : Point) → Keeps (λ table. splitTable i p table)
 unfolding splitAt
 split-keeps i p table next good e =
     let s = split-done i p table next e in
@@ -45,15 +62,21 @@ split-keeps i p table next good e =
     rw (s .is) (every-append (set table i _) (every-set table i good (d .0))
     (every-cons (d .1 .0, every-cons (d .1 .1, every-nil (λ t. T (proper t))))))
 
-pub takeOut-keeps : (p : Point) → Keeps (λ table. takeOutTable p table)
+takeOut-keeps : (p : Point) → Keeps (λ table. takeOutTable p table)
 takeOut-keeps p table next good e =
     let s = takeOut-done p table next e in
     rw (s .is) (merge-every table (s .i) (s .j) (s .k) _ (s .ij) (s .jk) (s .below) good (taken-sum s good .oriented))
 
-pub flip-keeps : (i j : ℕ) → Keeps (λ table. flipTable i j table)
+flip-keeps : (i j : ℕ) → Keeps (λ table. flipTable i j table)
 flip-keeps i j table next good e =
     let s = flip-done i j table next e in
     rw (s .is) (every-set (set table i _) j (every-set table i good (s .properI)) (s .properJ))
+
+-- so does each edit
+pub edit-keeps : (e : Edit) → Keeps (tableEdit e)
+edit-keeps (Split i p) = split-keeps i p
+edit-keeps (TakeOut p) = takeOut-keeps p
+edit-keeps (Flip i j) = flip-keeps i j
 
 -- the table that an answer speaks of, where none is made the empty one
 made-all : (e : Edited) (ns : List ℕ) → ((t : Table) → editedOutcome e ns ≡ done t → all (λ s. proper s) t ≡ true)
@@ -83,7 +106,31 @@ made-stored ns {e} {n} d h =
     let room = h .0 .1 in
     ((omega arith, omega arith), ap (λ m. all (λ s. proper s) (tableOf ns m)) (sym k) ∙ h .1)
 
--- what one answer comes to, so does an equal one
-pub edited-same : (c : Chart) (ns : List ℕ) {e f : Edited} → e ≡ f
-    → changedBy c (andThen (editedOutcome f ns) (λ t. withinLimit t)) ≡ changedBy c (andThen (editedOutcome e ns) (λ t. withinLimit t))
-edited-same c ns d = ap (λ e. changedBy c (andThen (editedOutcome e ns) (λ t. withinLimit t))) (sym d)
+-- ---- refusals, by the tag that code tested
+
+-- tag 0 is none of the others
+other-tag : (ks : List ℕ) → OneOf (map suc ks) 0 → ⊥
+other-tag [] h = h
+other-tag (k ∷ []) h = omega arith
+other-tag (k ∷ l ∷ ks) (inl e) = omega arith
+other-tag (k ∷ l ∷ ks) (inr r) = other-tag (l ∷ ks) r
+
+-- what an edit of a plain table refuses
+pub edited-refused : (c : Chart) (ns : List ℕ) (e : Edited) → OneOf (1 ∷ 2 ∷ 3 ∷ 4 ∷ 5 ∷ []) (tagOf edited.the-type e)
+    → answered c (editedChange e) ≡ changedBy c (andThen (editedOutcome e ns) (λ t. withinLimit t))
+unfolding changedBy andThen outcomeNumber outcomeValue
+edited-refused c ns (Made n) h = absurd (other-tag (0 ∷ 1 ∷ 2 ∷ 3 ∷ 4 ∷ []) h)
+edited-refused c ns NoSuchTriangle h = refl
+edited-refused c ns NotInside h = refl
+edited-refused c ns NotThreeAround h = refl
+edited-refused c ns NoFlip h = refl
+edited-refused c ns TableFull h = refl
+
+-- what judging refuses
+pub judged-refused : (c : Chart) (edit : Table → Outcome Table) (j : Judged) → OneOf (1 ∷ 2 ∷ 3 ∷ []) (tagOf judged.the-type j)
+    → judgedOutcome j ≡ ifIndexed c (done true) → answered c (judgedChange j) ≡ editCall edit c
+unfolding changedBy outcomeNumber outcomeValue
+judged-refused c edit Fine h e = absurd (other-tag (0 ∷ 1 ∷ 2 ∷ []) h)
+judged-refused c edit ShortBuffer h e = edit-refused c edit e
+judged-refused c edit BrokenChain h e = edit-refused c edit e
+judged-refused c edit StaleEntries h e = edit-refused c edit e

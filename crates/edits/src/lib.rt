@@ -7,19 +7,53 @@ use plane::Point;
 use table_edits::Edited;
 ghost use mathlib.Core.Path.{_≡_};
 ghost use mathlib.Core.Bool.{true, false};
-ghost use Prim.Native.Nat.{_≤_};
+ghost use Prim.Native.Nat.{_*_, _≤_};
 ghost use lib.ListN.{length};
 ghost use Rattle.lists.specs.Lists.{all};
 ghost use Rattle.plane.specs.Triangle.{proper};
-ghost use Rattle.chart_spec.specs.Table.{maxTriangles, tableLength, tableOf};
+ghost use Rattle.chart_spec.specs.Table.{numbersPerTriangle, maxTriangles, tableLength, tableOf};
 ghost use Rattle.chart_spec.specs.Refusals.{andThen};
 ghost use Rattle.chart_spec.specs.Edits.{withinLimit};
 ghost use Rattle.call_spec.specs.Buffers.{chartOf, tooShort};
-ghost use Rattle.call_spec.specs.Calls.{changedBy, splitCall, takeOutCall, flipCall};
+ghost use Rattle.call_spec.specs.Calls.{changedBy, editCall, splitCall, takeOutCall, flipCall};
 ghost use Rattle.call_spec.specs.Calls.{Changed as Calls·Changed};
-ghost use Rattle.answers.specs.Outcomes.{changedOf};
 ghost use Rattle.answers.specs.declared.Changed.{Changed as Answers·Changed};
+ghost use Rattle.answers.specs.Outcomes.{changedOf};
 ghost use Rattle.table_edits.specs.Edited.{editedOutcome, editedCount};
+ghost use Rattle.edits.specs.Edit.{tableEdit, judgedChange, editedChange};
+
+// An edit of a chart.
+enum Edit {
+    Split(usize, Point),
+    TakeOut(Point),
+    Flip(usize, usize),
+}
+
+// The answer to what judging a chart found.
+fn judged_change(judged: Judged) -> Change
+    ensures { λ r. ⌜ r ≡ judgedChange judged ⌝ }
+{
+    match judged {
+        Judged::Fine => Change::Done,
+        Judged::ShortBuffer => Change::ShortBuffer,
+        Judged::BrokenChain => Change::BrokenChain,
+        Judged::StaleEntries => Change::StaleEntries,
+    }
+}
+
+// The answer to how an edit of a plain table went.
+fn edited_change(made: Edited) -> Change
+    ensures { λ r. ⌜ r ≡ editedChange made ⌝ }
+{
+    match made {
+        Edited::Made(_) => Change::Done,
+        Edited::NoSuchTriangle => Change::NoSuchTriangle,
+        Edited::NotInside => Change::NotInside,
+        Edited::NotThreeAround => Change::NotThreeAround,
+        Edited::NoFlip => Change::NoFlip,
+        Edited::TableFull => Change::TableFull,
+    }
+}
 
 // A refusal, with the counts as they were.
 fn refused(change: Change, triangles: usize, entries: usize) -> Changed
@@ -29,6 +63,19 @@ fn refused(change: Change, triangles: usize, entries: usize) -> Changed
         change,
         triangles,
         entries,
+    }
+}
+
+// What the edit makes of a plain table.
+fn edit_table(edit: Edit, table: &[u16], n: usize, scratch: &mut [u16]) -> Edited
+    requires { ⌜ (n ≤ maxTriangles) × ((numbersPerTriangle * n ≤ length (now table)) × (tableLength ≤ length (now scratch))) ⌝ }
+    ensures { λ r. ⌜ editedOutcome r (now (scratch .exit)) ≡ tableEdit edit (tableOf (now (table .entry)) n) ⌝ }
+    ensures { λ r. ⌜ editedCount r ≤ maxTriangles ⌝ }
+{
+    match edit {
+        Edit::Split(i, p) => vertex_insertion::split_table(table, n, i, p, scratch),
+        Edit::TakeOut(p) => vertex_removal::take_out_table(table, n, p, scratch),
+        Edit::Flip(i, j) => edge_flip::flip_table(table, n, i, j, scratch),
     }
 }
 
@@ -47,20 +94,43 @@ fn finish(
     requires { ⌜ tooShort (chartOf (now table) (now keys) (now levels) (now items) triangles entries) ≡ false ⌝ }
     ensures { λ r. ⌜ _≡_ {A = Calls·Changed} (changedOf r (now (table .exit)) (now (keys .exit)) (now (levels .exit)) (now (items .exit))) (changedBy (chartOf (now (table .entry)) (now (keys .entry)) (now (levels .entry)) (now (items .entry)) triangles entries) (andThen (editedOutcome made (now (scratch .entry))) (λ t. withinLimit t))) ⌝ }
 {
-    match made {
-        Edited::Made(n) => {
-            changes::store(scratch, n, table, keys, levels, items, triangles, entries)
-        }
-        Edited::NoSuchTriangle => refused(Change::NoSuchTriangle, triangles, entries),
-        Edited::NotInside => refused(Change::NotInside, triangles, entries),
-        Edited::NotThreeAround => refused(Change::NotThreeAround, triangles, entries),
-        Edited::NoFlip => refused(Change::NoFlip, triangles, entries),
-        Edited::TableFull => refused(Change::TableFull, triangles, entries),
+    if let Edited::Made(n) = made {
+        return changes::store(scratch, n, table, keys, levels, items, triangles, entries);
     }
+    refused(edited_change(made), triangles, entries)
 }
 
-// Split: triangle i at p. It answers how it went and the counts that the chart has now; a refusal leaves lists and counts as they
-// were.
+// Any edit of a chart. It answers how it went and the counts that the chart has now; a refusal leaves lists and counts as they were.
+fn edit_chart(
+    table: &mut [u16],
+    keys: &mut [u32],
+    levels: &mut [u8],
+    items: &mut [u16],
+    triangles: usize,
+    entries: usize,
+    edit: Edit,
+) -> Changed
+    ensures { λ r. ⌜ _≡_ {A = Calls·Changed} (changedOf r (now (table .exit)) (now (keys .exit)) (now (levels .exit)) (now (items .exit))) (editCall (tableEdit edit) (chartOf (now (table .entry)) (now (keys .entry)) (now (levels .entry)) (now (items .entry)) triangles entries)) ⌝ }
+{
+    let judged = changes::judge_edit(table, keys, levels, items, triangles, entries);
+    if let Judged::Fine = judged {
+        let mut scratch = [0u16; tables::TABLE_NUMBERS];
+        let made = edit_table(edit, table, triangles, &mut scratch);
+        return finish(
+            made,
+            &scratch,
+            table,
+            keys,
+            levels,
+            items,
+            triangles,
+            entries,
+        );
+    }
+    refused(judged_change(judged), triangles, entries)
+}
+
+// Split: triangle i at p.
 pub fn split(
     table: &mut [u16],
     keys: &mut [u32],
@@ -73,28 +143,18 @@ pub fn split(
 ) -> Changed
     ensures { λ r. ⌜ _≡_ {A = Calls·Changed} (changedOf r (now (table .exit)) (now (keys .exit)) (now (levels .exit)) (now (items .exit))) (splitCall i p (chartOf (now (table .entry)) (now (keys .entry)) (now (levels .entry)) (now (items .entry)) triangles entries)) ⌝ }
 {
-    match changes::judge_edit(table, keys, levels, items, triangles, entries) {
-        Judged::Fine => {
-            let mut scratch = [0u16; tables::TABLE_NUMBERS];
-            let made = vertex_insertion::split_table(table, triangles, i, p, &mut scratch);
-            finish(
-                made,
-                &scratch,
-                table,
-                keys,
-                levels,
-                items,
-                triangles,
-                entries,
-            )
-        }
-        Judged::ShortBuffer => refused(Change::ShortBuffer, triangles, entries),
-        Judged::BrokenChain => refused(Change::BrokenChain, triangles, entries),
-        Judged::StaleEntries => refused(Change::StaleEntries, triangles, entries),
-    }
+    edit_chart(
+        table,
+        keys,
+        levels,
+        items,
+        triangles,
+        entries,
+        Edit::Split(i, p),
+    )
 }
 
-// Take-out: of the point p. Answer and refusals are as split's.
+// Take-out: of the point p.
 pub fn take_out(
     table: &mut [u16],
     keys: &mut [u32],
@@ -106,28 +166,18 @@ pub fn take_out(
 ) -> Changed
     ensures { λ r. ⌜ _≡_ {A = Calls·Changed} (changedOf r (now (table .exit)) (now (keys .exit)) (now (levels .exit)) (now (items .exit))) (takeOutCall p (chartOf (now (table .entry)) (now (keys .entry)) (now (levels .entry)) (now (items .entry)) triangles entries)) ⌝ }
 {
-    match changes::judge_edit(table, keys, levels, items, triangles, entries) {
-        Judged::Fine => {
-            let mut scratch = [0u16; tables::TABLE_NUMBERS];
-            let made = vertex_removal::take_out_table(table, triangles, p, &mut scratch);
-            finish(
-                made,
-                &scratch,
-                table,
-                keys,
-                levels,
-                items,
-                triangles,
-                entries,
-            )
-        }
-        Judged::ShortBuffer => refused(Change::ShortBuffer, triangles, entries),
-        Judged::BrokenChain => refused(Change::BrokenChain, triangles, entries),
-        Judged::StaleEntries => refused(Change::StaleEntries, triangles, entries),
-    }
+    edit_chart(
+        table,
+        keys,
+        levels,
+        items,
+        triangles,
+        entries,
+        Edit::TakeOut(p),
+    )
 }
 
-// Flip: triangles i and j. Answer and refusals are as split's.
+// Flip: triangles i and j.
 pub fn flip(
     table: &mut [u16],
     keys: &mut [u32],
@@ -140,23 +190,13 @@ pub fn flip(
 ) -> Changed
     ensures { λ r. ⌜ _≡_ {A = Calls·Changed} (changedOf r (now (table .exit)) (now (keys .exit)) (now (levels .exit)) (now (items .exit))) (flipCall i j (chartOf (now (table .entry)) (now (keys .entry)) (now (levels .entry)) (now (items .entry)) triangles entries)) ⌝ }
 {
-    match changes::judge_edit(table, keys, levels, items, triangles, entries) {
-        Judged::Fine => {
-            let mut scratch = [0u16; tables::TABLE_NUMBERS];
-            let made = edge_flip::flip_table(table, triangles, i, j, &mut scratch);
-            finish(
-                made,
-                &scratch,
-                table,
-                keys,
-                levels,
-                items,
-                triangles,
-                entries,
-            )
-        }
-        Judged::ShortBuffer => refused(Change::ShortBuffer, triangles, entries),
-        Judged::BrokenChain => refused(Change::BrokenChain, triangles, entries),
-        Judged::StaleEntries => refused(Change::StaleEntries, triangles, entries),
-    }
+    edit_chart(
+        table,
+        keys,
+        levels,
+        items,
+        triangles,
+        entries,
+        Edit::Flip(i, j),
+    )
 }
