@@ -17,7 +17,7 @@ use Rattle.orthtree.specs.Entries.{Entry}
 use Rattle.chain_blocks.proofs.KeyBlocksLaws.{KeysOf}
 use Rattle.call_spec.specs.Buffers.{zipEntries}
 use Rattle.call_laws.proofs.EntriesLaws.{first-count, first-at}
-use Rattle.merge.specs.Merge.{placeOf, someAt}
+use Rattle.pair_marks.specs.PairMarks.{placeOf, someAt}
 
 -- the first n keys and items are those of the entries
 pub record EntriesOf (ks is : List ℕ) (n : ℕ) (es : List Entry) : Type 0 where

@@ -24,8 +24,9 @@ use Rattle.chain_blocks.proofs.NextBlock.{Block, next-block}
 use Rattle.chain_blocks.proofs.BlockLaws.{block-together, block-meetings}
 use Rattle.call_spec.specs.Buffers.{zipEntries}
 use Rattle.bitsets.specs.Bits.{hasBit}
-use Rattle.merge.specs.Merge.{RunOf, BlockMarked, Overlapping, Merged}
-use Rattle.merge.proofs.WalkLaws.{blocks-few}
+use Rattle.runs.specs.Runs.{RunOf}
+use Rattle.merge.specs.Merge.{BlockMarked, Overlapping, Merged}
+use Rattle.runs.proofs.WalkLaws.{blocks-few}
 use Rattle.merge.proofs.EntryLaws.{EntriesOf, entries-of, some-listed}
 
 pos : 0 < arity

@@ -1,57 +1,17 @@
--- Pairs of items in rows of bits, and the blocks into which two lists of entries are cut (document 01, "Overlay").
+-- The blocks into which two lists of entries are cut, marked in rows of bits (document 01, "Overlay").
 -- Assumes nothing.
 use mathlib.Core.Path.{_≡_}
-use mathlib.Core.Bool.{Bool, true, _&&_, _||_}
+use mathlib.Core.Bool.{true}
 use mathlib.Core.List.{List}
-use Prim.Native.Nat.{ℕ, _+_, _*_, _-_, _≤_, _<_, min, max}
-use lib.Dec.{eqb}
+use Prim.Native.Nat.{ℕ, _+_, _*_, _-_, _≤_, _<_}
 use lib.ListN.{length, take, drop}
-use Rattle.lists.specs.Lists.{any}
-use Rattle.orthtree.specs.Entries.{Entry, span, chain, meetings, listedTogether}
+use Rattle.orthtree.specs.Entries.{Entry, chain, meetings, listedTogether}
 use Rattle.squares.specs.Square.{arity, depth}
-use Rattle.chain_blocks.specs.KeyBlocks.{CellEnd, RunEnd, keyBlocks, keyFrom}
+use Rattle.chain_blocks.specs.KeyBlocks.{RunEnd, keyBlocks}
 use Rattle.call_spec.specs.Buffers.{zipEntries}
 use Rattle.bitsets.specs.Bits.{hasBit}
-
--- the words of the rows: 8 for each of 512 items, and 8 for the mark
-abbrev pub rowsLength : ℕ
-rowsLength = 4104
-
--- an item's row, and its bit in a row: its own number, or 512 for the mark
-abbrev pub placeOf : ℕ → ℕ
-placeOf t = min t 512
-
--- some item from place a up to place r has this row, or bit
-unfoldable pub someAt : List ℕ → ℕ → ℕ → ℕ → Bool
-someAt is a r i = any (λ t. eqb (placeOf t) i) (take (r - a) (drop a is))
-
--- the set with the items from place a up to place r
-pub record ItemsInserted (before is : List ℕ) (a r : ℕ) (after : List ℕ) : Type 0 where
-  pub bits : (j : ℕ) → hasBit after j ≡ hasBit before j || someAt is a r j
-  pub kept : length after ≡ length before
-
--- the rows with the set's bits in those of the items from place a up to place r
-pub record SetJoined (before is : List ℕ) (a r : ℕ) (set after : List ℕ) : Type 0 where
-  pub bits : (i j : ℕ) → j < 512 → hasBit after (512 * i + j) ≡ hasBit before (512 * i + j) || someAt is a r i && hasBit set j
-  pub kept : length after ≡ length before
-
--- the rows with each item of a part of the one list marked with each item of a part of the other
-pub record PartsMarked (before is : List ℕ) (a p : ℕ) (js : List ℕ) (b q : ℕ) (after : List ℕ) : Type 0 where
-  pub bits : (i j : ℕ) → j < 512 → hasBit after (512 * i + j) ≡ hasBit before (512 * i + j) || someAt is a p i && someAt js b q j
-  pub kept : length after ≡ length before
-
--- the key at which the larger of the cells at places a and b ends
-pub record BlockEnd (ks : List ℕ) (n a : ℕ) (ls : List ℕ) (m b e : ℕ) : Type 0 where
-  pub p : ℕ
-  pub q : ℕ
-  pub first : CellEnd ks n a p
-  pub second : CellEnd ls m b q
-  pub end : e ≡ max (keyFrom ks n (span arity depth 0) p) (keyFrom ls m (span arity depth 0) q)
-
--- the run from place a on up to the key e, and its cells: the entry at a belongs to it, so its length is not 0
-pub record RunOf (ks : List ℕ) (n a e r cells : ℕ) : Type 0 where
-  pub ends : RunEnd ks n (a + 1) e r
-  pub count : cells ≡ keyBlocks (take (r - a) (drop a ks))
+use Rattle.runs.specs.Runs.{BlockEnd}
+use Rattle.pair_marks.specs.PairMarks.{PartsMarked}
 
 -- the block that starts at places a and b and ends at p and q, marked in the rows, and its pairs of cells
 pub record BlockMarked (ks is : List ℕ) (n a p : ℕ) (ls js : List ℕ) (m b q pairs : ℕ) (before after : List ℕ) : Type 0 where

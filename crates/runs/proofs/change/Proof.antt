@@ -1,6 +1,6 @@
 use borrow.Author.Tests.{eq-eqb, ne-eqb}
-use Rattle.merge.proofs.change.Statement.{statement}
-use Rattle.merge.proofs.change.Tie as tie
+use Rattle.runs.proofs.change.Statement.{statement}
+use Rattle.runs.proofs.change.Tie as tie
 
 returns : tie.Need-returns
 returns c = rw (eq-eqb (c .before .args .before) (c .before .args .key) (c .if1 .taken))

@@ -1,7 +1,7 @@
-use Rattle.merge.proofs.SetLaws.{parts-marked}
+use Rattle.pair_marks.proofs.SetLaws.{parts-marked}
 use borrow.Author.Needs.{needs}
-use Rattle.merge.proofs.mark_parts.Statement.{statement}
-use Rattle.merge.proofs.mark_parts.Tie as tie
+use Rattle.pair_marks.proofs.mark_parts.Statement.{statement}
+use Rattle.pair_marks.proofs.mark_parts.Tie as tie
 
 slice-aggregate-insert-all : tie.Need-slice-aggregate-insert-all
 slice-aggregate-insert-all c = search needs

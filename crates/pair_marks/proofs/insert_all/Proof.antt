@@ -2,21 +2,21 @@ use mathlib.Core.Path.{_≡_, subst}
 use Prim.Native.Nat.{_-_, _≤_}
 use native.Mathlib.Omega.{arith}
 use borrow.Author.Needs.{needs}
-use Rattle.merge.specs.Merge.{SetJoined}
-use Rattle.merge.proofs.SetLaws.{join-start, join-more}
-use Rattle.merge.proofs.join_all.Statement.{statement}
-use Rattle.merge.proofs.join_all.Tie as tie
+use Rattle.pair_marks.specs.PairMarks.{ItemsInserted}
+use Rattle.pair_marks.proofs.SetLaws.{insert-start, insert-more}
+use Rattle.pair_marks.proofs.insert_all.Statement.{statement}
+use Rattle.pair_marks.proofs.insert_all.Tie as tie
 
 abbrev Inv-loop : tie.InvT-loop
-Inv-loop rows₀ items a r set i₀ rows i = ((a ≤ i) × (i ≤ r)) × SetJoined rows₀ items a i set rows
+Inv-loop set₀ items a r i₀ set i = ((a ≤ i) × (i ≤ r)) × ItemsInserted set₀ items a i set
 
 abbrev μ-loop : tie.MeasureT-loop
-μ-loop rows₀ items a r set i₀ rows i = r - i
+μ-loop set₀ items a r i₀ set i = r - i
 
 loop-holds : tie.Need-loop-holds Inv-loop μ-loop
 loop-holds c =
-    let a = c .before .before .before .args in
-    ((omega arith, omega arith), join-start (a .rows .now) (a .items .now) (a .a) (a .set .now))
+    let a = c .before .before .args in
+    ((omega arith, omega arith), insert-start (a .set .now) (a .items .now) (a .a))
 
 mul-place : tie.Need-mul-place Inv-loop μ-loop
 mul-place c = search needs
@@ -27,11 +27,8 @@ shared-slice-read-place c = search needs
 place-requires : tie.Need-place-requires Inv-loop μ-loop
 place-requires c κs = tt
 
-mul-join : tie.Need-mul-join Inv-loop μ-loop
-mul-join c = omega (arith, c .place .ensures)
-
-join-requires : tie.Need-join-requires Inv-loop μ-loop
-join-requires c κs = (omega (arith, c .before .before .before .before .loop .inv .1 .kept, c .place .ensures), search needs)
+insert-requires : tie.Need-insert-requires Inv-loop μ-loop
+insert-requires c κs = omega (arith, c .before .before .before .before .loop .inv .1 .kept, c .place .ensures)
 
 add-i : tie.Need-add-i Inv-loop μ-loop
 add-i c = search needs
@@ -42,20 +39,20 @@ loop-less c = search needs
 loop-again : tie.Need-loop-again Inv-loop μ-loop
 loop-again c =
     let l = c .before .before .before .before .before .before .before .loop in
-    ((omega arith, omega arith), join-more (l .inv .1) (omega arith) (omega arith) (c .before .before .before .place .ensures) (c .before .before .join .ensures))
+    ((omega arith, omega arith), insert-more (l .inv .1) (omega arith) (omega arith) (c .before .before .before .place .ensures) (c .before .before .insert .ensures))
 
 same-length : tie.Need-same-length Inv-loop μ-loop
 same-length c = c .before .loop .inv .1 .kept
 
 returns : tie.Need-returns Inv-loop μ-loop
 returns c =
-    let a = c .before .before .before .before .before .args in
+    let a = c .before .before .before .before .args in
     let l = c .before .loop in
     let e : l .i ≡ a .r = omega arith in
-    subst (λ x. SetJoined (a .rows .now) (a .items .now) (a .a) x (a .set .now) (l .rows)) e (l .inv .1)
+    subst (λ x. ItemsInserted (a .set .now) (a .items .now) (a .a) x (l .set)) e (l .inv .1)
 
-pub join-all-spec : {M : Type 1} → statement M
-join-all-spec =
+pub insert-all-spec : {M : Type 1} → statement M
+insert-all-spec =
     tie.close
     (tie.spec
     Inv-loop
@@ -64,8 +61,7 @@ join-all-spec =
     mul-place
     shared-slice-read-place
     place-requires
-    mul-join
-    join-requires
+    insert-requires
     add-i
     loop-less
     loop-again

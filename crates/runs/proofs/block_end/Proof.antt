@@ -1,8 +1,8 @@
 use mathlib.Core.Path.{_∙_, ap₂}
 use Prim.Native.Nat.{max}
 use borrow.Author.Needs.{needs}
-use Rattle.merge.proofs.block_end.Statement.{statement}
-use Rattle.merge.proofs.block_end.Tie as tie
+use Rattle.runs.proofs.block_end.Statement.{statement}
+use Rattle.runs.proofs.block_end.Tie as tie
 
 cell-end-requires : tie.Need-cell-end-requires
 cell-end-requires c κs = search needs

@@ -5,7 +5,7 @@ use mathlib.Core.Bool.{true, false}
 use mathlib.Core.List.{[], _∷_, map}
 use Prim.Native.Nat.{_*_}
 use Rattle.lists.specs.Lists.{any}
-use Rattle.merge.specs.Merge.{rowsLength, placeOf, someAt}
+use Rattle.pair_marks.specs.PairMarks.{rowsLength, placeOf, someAt}
 
 -- 512 rows of 8 words and one for the mark
 rows-example : rowsLength ≡ 8 * 513

@@ -1,7 +1,7 @@
 use mathlib.Core.Path.{_∙_}
 use borrow.Author.Needs.{needs}
-use Rattle.merge.proofs.place.Statement.{statement}
-use Rattle.merge.proofs.place.Tie as tie
+use Rattle.pair_marks.proofs.place.Statement.{statement}
+use Rattle.pair_marks.proofs.place.Tie as tie
 
 smaller-requires : tie.Need-smaller-requires
 smaller-requires c κs = search needs

@@ -10,7 +10,7 @@ use lib.Dec.{eqb}
 use lib.ListN.{length, getD, take, drop, length-take}
 use Rattle.chain_blocks.specs.KeyBlocks.{CellEnd, changesAfter, keyBlocks}
 use Rattle.chain_blocks.proofs.KeyBlocksLaws.{changes-same, changes-other, blocks-one, blocks-grow}
-use Rattle.merge.specs.Merge.{RunOf}
+use Rattle.runs.specs.Runs.{RunOf}
 
 -- the keys from a up to r are those of one cell
 pub record CellPassed (ks : List ℕ) (n a key r : ℕ) : Type 0 where

@@ -3,8 +3,8 @@ use borrow.Author.Tests.{lt-ltb, le-ltb}
 use Rattle.orthtree.specs.Entries.{span}
 use Rattle.chain_blocks.specs.KeyBlocks.{keyFrom}
 use borrow.Author.Needs.{needs}
-use Rattle.merge.proofs.key_from.Statement.{statement}
-use Rattle.merge.proofs.key_from.Tie as tie
+use Rattle.runs.proofs.key_from.Statement.{statement}
+use Rattle.runs.proofs.key_from.Tie as tie
 
 mul-result : tie.Need-mul-result
 mul-result c = search needs

@@ -1,8 +1,8 @@
 use Prim.Native.Nat.{_-_}
 use borrow.Author.Needs.{needs}
-use Rattle.merge.proofs.WalkLaws.{CellPassed, cell-start, cell-more, cell-met, cell-over}
-use Rattle.merge.proofs.cell_end.Statement.{statement}
-use Rattle.merge.proofs.cell_end.Tie as tie
+use Rattle.runs.proofs.WalkLaws.{CellPassed, cell-start, cell-more, cell-met, cell-over}
+use Rattle.runs.proofs.cell_end.Statement.{statement}
+use Rattle.runs.proofs.cell_end.Tie as tie
 
 abbrev Inv-loop : tie.InvT-loop
 Inv-loop keys n a key r₀ r = CellPassed keys n a key r

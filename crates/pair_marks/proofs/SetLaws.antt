@@ -13,7 +13,7 @@ use lib.Seq.{take-suc, getD-drop}
 use Rattle.lists.specs.Lists.{any}
 use Rattle.bitsets.specs.Bits.{hasBit, Inserted, Joined}
 use Rattle.bitsets.proofs.BitLaws.{or-false, zeros-empty}
-use Rattle.merge.specs.Merge.{placeOf, someAt, ItemsInserted, SetJoined, PartsMarked}
+use Rattle.pair_marks.specs.PairMarks.{placeOf, someAt, ItemsInserted, SetJoined, PartsMarked}
 
 or-assoc : (a b c : Bool) → (a || b) || c ≡ a || (b || c)
 or-assoc true b c = refl

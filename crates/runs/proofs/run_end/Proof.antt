@@ -2,9 +2,9 @@ use Prim.Native.Nat.{_-_}
 use native.Mathlib.Omega.{arith}
 use borrow.Author.Needs.{needs}
 use lib.ListN.{getD}
-use Rattle.merge.proofs.WalkLaws.{RunPassed, run-start, run-few, run-more, run-met, change-few}
-use Rattle.merge.proofs.run_end.Statement.{statement}
-use Rattle.merge.proofs.run_end.Tie as tie
+use Rattle.runs.proofs.WalkLaws.{RunPassed, run-start, run-few, run-more, run-met, change-few}
+use Rattle.runs.proofs.run_end.Statement.{statement}
+use Rattle.runs.proofs.run_end.Tie as tie
 
 abbrev Inv-loop : tie.InvT-loop
 Inv-loop keys n a end cells₀ r₀ cells r = RunPassed keys n a end r cells

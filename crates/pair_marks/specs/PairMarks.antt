@@ -1,0 +1,37 @@
+-- Pairs of items in rows of bits.
+-- Assumes nothing.
+use mathlib.Core.Path.{_≡_}
+use mathlib.Core.Bool.{Bool, _&&_, _||_}
+use mathlib.Core.List.{List}
+use Prim.Native.Nat.{ℕ, _+_, _*_, _-_, _<_, min}
+use lib.Dec.{eqb}
+use lib.ListN.{length, take, drop}
+use Rattle.lists.specs.Lists.{any}
+use Rattle.bitsets.specs.Bits.{hasBit}
+
+-- the words of the rows: 8 for each of 512 items, and 8 for the mark
+abbrev pub rowsLength : ℕ
+rowsLength = 4104
+
+-- an item's row, and its bit in a row: its own number, or 512 for the mark
+abbrev pub placeOf : ℕ → ℕ
+placeOf t = min t 512
+
+-- some item from place a up to place r has this row, or bit
+unfoldable pub someAt : List ℕ → ℕ → ℕ → ℕ → Bool
+someAt is a r i = any (λ t. eqb (placeOf t) i) (take (r - a) (drop a is))
+
+-- the set with the items from place a up to place r
+pub record ItemsInserted (before is : List ℕ) (a r : ℕ) (after : List ℕ) : Type 0 where
+  pub bits : (j : ℕ) → hasBit after j ≡ hasBit before j || someAt is a r j
+  pub kept : length after ≡ length before
+
+-- the rows with the set's bits in those of the items from place a up to place r
+pub record SetJoined (before is : List ℕ) (a r : ℕ) (set after : List ℕ) : Type 0 where
+  pub bits : (i j : ℕ) → j < 512 → hasBit after (512 * i + j) ≡ hasBit before (512 * i + j) || someAt is a r i && hasBit set j
+  pub kept : length after ≡ length before
+
+-- the rows with each item of a part of the one list marked with each item of a part of the other
+pub record PartsMarked (before is : List ℕ) (a p : ℕ) (js : List ℕ) (b q : ℕ) (after : List ℕ) : Type 0 where
+  pub bits : (i j : ℕ) → j < 512 → hasBit after (512 * i + j) ≡ hasBit before (512 * i + j) || someAt is a p i && someAt js b q j
+  pub kept : length after ≡ length before
