@@ -1,0 +1,4 @@
+pub mod WordLaws
+pub mod NearLaws
+pub mod WroteLaws
+pub mod PairLaws
