@@ -192,7 +192,7 @@ fn put_near(
     let mut k = 0;
     while k < d {
         let j = near[k];
-        let meet = geometry::interiors_meet(s, tables::triangle_at(second, j));
+        let meet = interiors::interiors_meet(s, tables::triangle_at(second, j));
         c = put_pair(meet, i as u16, j as u16, pairs, c);
         k += 1;
     }
