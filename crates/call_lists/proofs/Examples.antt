@@ -1,11 +1,11 @@
 -- Examples of Encoding.antt.
 -- Assumes nothing.
 use mathlib.Core.Path.{_≡_, refl}
-use mathlib.Core.List.{[], _∷_, map}
+use mathlib.Core.List.{[], _∷_, map, flatMap}
 use Rattle.chart_spec.specs.Table.{pointAt}
 use Rattle.chart_spec.specs.Edits.{load, split, takeOut, flip}
 use Rattle.chart_spec.proofs.MarkedCases.{at}
-use Rattle.call_lists.specs.Encoding.{callLength, wholeCall, callEvent, decodeUpTo, decode}
+use Rattle.call_lists.specs.Encoding.{callLength, wholeCall, callEvent, decodeUpTo, decode, callNumbers, encode}
 
 -- for the commands 0 to 7, where 9 comes next
 callLength-example : map (λ k. callLength k 9) (0 ∷ 1 ∷ 2 ∷ 3 ∷ 4 ∷ 5 ∷ 6 ∷ 7 ∷ []) ≡ 0 ∷ 0 ∷ 11 ∷ 4 ∷ 3 ∷ 3 ∷ 0 ∷ 0 ∷ []
@@ -44,3 +44,12 @@ decode-example :
     ) ≡ (flip 3 4 ∷ load [] ∷ split 5 (at 6 7) ∷ []) ∷ (load (3 ∷ []) ∷ takeOut (at 1 2) ∷ []) ∷ (takeOut (at 1 2) ∷ []) ∷ []
 unfolding decode decodeUpTo callEvent wholeCall callLength pointAt
 decode-example = refl
+
+callNumbers-example : map (λ e. callNumbers e) (load (8 ∷ 9 ∷ []) ∷ split 6 (at 7 8) ∷ takeOut (at 6 7) ∷ flip 6 7 ∷ [])
+    ≡ (2 ∷ 2 ∷ 8 ∷ 9 ∷ []) ∷ (3 ∷ 6 ∷ 7 ∷ 8 ∷ []) ∷ (4 ∷ 6 ∷ 7 ∷ []) ∷ (5 ∷ 6 ∷ 7 ∷ []) ∷ []
+unfolding callNumbers
+callNumbers-example = refl
+
+encode-example : encode (flip 3 4 ∷ load [] ∷ split 5 (at 6 7) ∷ []) ≡ 5 ∷ 3 ∷ 4 ∷ 2 ∷ 0 ∷ 3 ∷ 5 ∷ 6 ∷ 7 ∷ []
+unfolding encode callNumbers flatMap
+encode-example = refl

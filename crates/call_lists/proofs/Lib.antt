@@ -1,4 +1,5 @@
 pub mod EncodingLaws
+pub mod EncodeLaws
 pub mod CallLaws
 pub mod RunLaws
 pub mod Examples

@@ -4,7 +4,7 @@
 -- Assumes nothing.
 use mathlib.Core.Path.{_≡_}
 use mathlib.Core.Bool.{true, false, cond, _||_}
-use mathlib.Core.List.{List, [], _∷_}
+use mathlib.Core.List.{List, [], _∷_, flatMap}
 use Prim.Native.Nat.{ℕ, zero, suc, _+_, _<_}
 use lib.Dec.{leb, eqb}
 use lib.ListN.{length, getD, take, drop}
@@ -44,3 +44,14 @@ decodeUpTo (suc m) ns =
 -- the events of all calls in the list: each takes a number at least, so there are no more than numbers
 unfoldable pub decode : List ℕ → List Event
 decode ns = decodeUpTo (length ns) ns
+
+-- the numbers of the call of an event
+unfoldable pub callNumbers : Event → List ℕ
+callNumbers (load ns) = 2 ∷ length ns ∷ ns
+callNumbers (split t p) = 3 ∷ t ∷ p .x ∷ p .y ∷ []
+callNumbers (takeOut p) = 4 ∷ p .x ∷ p .y ∷ []
+callNumbers (flip i j) = 5 ∷ i ∷ j ∷ []
+
+-- the numbers of a list of calls
+unfoldable pub encode : List Event → List ℕ
+encode es = flatMap (λ e. callNumbers e) es
