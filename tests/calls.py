@@ -2,7 +2,7 @@
 """Runs public calls on sound and damaged charts by the proved program (crates/test_calls) and by the reference model, and
 compares what they answer and what the buffers hold afterwards.
 
-usage: calls.py SEED COUNT    compares
+usage: calls.py SEED COUNT    compares; COUNT is at least 5
        calls.py store         writes the program's stored case, crates/test_calls/stdin and stdout, the latter by the model
 
 The boundaries of document 01's numbers come first: buffers one place short, lists of wrong lengths, triangles with D = 0 and
@@ -706,13 +706,16 @@ def full(s):
             s.read(SOMEWHERE[1], number=0)
 
 
-def drawn_edits(s):
+# what lists of edits start from, and how many triangles of it
+STARTS = {"UV": 2, "mesh": 60, "soup": 6, "borders": 6, "repeated": 12}
+
+
+def drawn_edits(s, name):
     """A list of edits, most of which can be done: of a mesh, or of a table whose triangles overlap. The table that they lead
     to is followed here to make them, without refusal 11."""
     rng = s.rng
     s.on(rng.randrange(2))
-    name = rng.choice(["UV", "UV", "mesh", "soup", "borders", "repeated"])
-    table = [U, V] if name == "UV" else quadtree.KINDS[name](rng)[:60]
+    table = [U, V] if name == "UV" else quadtree.KINDS[name](rng)[: STARTS[name]]
     table = [turned(t, rng.randrange(3)) for t in table]
     s.table(table)
     points = []
@@ -731,7 +734,7 @@ def drawn_edits(s):
         elif kind == "flip":
             i = rng.randrange(len(table))
             beside = [j for j in range(len(table)) if shared(table, i, j)]
-            j = rng.choice(beside * 3 + [rng.randrange(len(table) + 1)])
+            j = rng.choice(beside * 3 + [rng.randrange(len(table)), len(table)])
             s.call(f"drawn on {name}", None, "flip", i, j)
             table = (flip(table, i, j) if j < len(table) else None) or table
         else:
@@ -774,9 +777,9 @@ WANTED += [f"flip {n}" for n in (0, 1, 2, 3, 6, 9, 11)]
 CALLED_ON = """counts 0 and 0; longer buffers; short table; short keys; short levels; short tris; 1 before 2; unused places; 2 before 3;
 stale: another item; stale: the mark for an item; stale: another key; stale: a cell divided; stale: cells joined;
 stale: the first of a cell missing; stale: another of a cell missing; stale: one more in a cell; stale: the last entry missing;
-stale: one more at the end; stale: another table; 3 before the others; drawn damage; drawn on UV; drawn on mesh; drawn on soup;
-drawn on borders; drawn on repeated; a chain of 16384 entries and 512 triangles"""
+stale: one more at the end; stale: another table; 3 before the others; drawn damage; a chain of 16384 entries and 512 triangles"""
 CALLED_ON = " ".join(CALLED_ON.split()).split("; ") + [shows for shows in (*CHANGES, *CHAINS) if shows != "nothing"]
+CALLED_ON += [f"drawn on {name}" for name in STARTS]
 WANTED += [f"{edit}: {shows}" for edit in EDITS for shows in CALLED_ON]
 # and what each is made for
 WANTED += [f"split: split of {n}" for n in (509, 510, 511, 512)]
@@ -871,9 +874,9 @@ def main():
     seed, count = int(sys.argv[1]), int(sys.argv[2])
     s = Script(random.Random(seed))
     fixed(s)
-    for _ in range(count):
+    for k in range(count):
         drawn(s)
-        drawn_edits(s)
+        drawn_edits(s, list(STARTS)[k % len(STARTS)])
     ours, theirs = program_lines(s.steps), model_lines(s.steps)
     print(f"{len(s.shown)} calls, seed {seed}")
     if not len(ours) == len(theirs) == len(s.shown):
