@@ -11,8 +11,8 @@ use Rattle.call_laws.proofs.EditCalls.{edit-judged}
 use Rattle.call_spec.specs.Calls.{Changed as Calls·Changed}
 use Rattle.answers.specs.declared.Changed.{Changed}
 use Rattle.answers.specs.Outcomes.{judgedOutcome, changedOf}
-use Rattle.edits.specs.Edit.{tableEdit}
-use Rattle.edits.proofs.MadeLaws.{answered, made-proper, edit-keeps, judged-refused}
+use Rattle.edit_steps.specs.Edit.{tableEdit}
+use Rattle.edit_steps.proofs.MadeLaws.{answered, made-proper, edit-keeps, judged-refused}
 use borrow.Author.Needs.{needs}
 use Rattle.edits.proofs.edit_chart.Statement.{statement}
 use Rattle.edits.proofs.edit_chart.Tie as tie

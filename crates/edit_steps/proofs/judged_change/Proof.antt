@@ -1,8 +1,8 @@
 use mathlib.Core.Path.{sym, ap}
-use Rattle.edits.specs.Edit.{judgedChange}
+use Rattle.edit_steps.specs.Edit.{judgedChange}
 use borrow.Author.Needs.{needs}
-use Rattle.edits.proofs.judged_change.Statement.{statement}
-use Rattle.edits.proofs.judged_change.Tie as tie
+use Rattle.edit_steps.proofs.judged_change.Statement.{statement}
+use Rattle.edit_steps.proofs.judged_change.Tie as tie
 
 enum-told : tie.Need-enum-told
 enum-told c = search needs

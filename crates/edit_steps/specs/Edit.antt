@@ -9,8 +9,8 @@ use Rattle.answers.specs.declared.Change.{Change}
 use Rattle.answers.specs.declared.Change.the-variants as changes
 use Rattle.table_edits.specs.declared.Edited.{Edited}
 use Rattle.table_edits.specs.declared.Edited.the-variants as answers
-use Rattle.edits.specs.declared.Edit.{Edit}
-use Rattle.edits.specs.declared.Edit.the-variants.{Split, TakeOut, Flip}
+use Rattle.edit_steps.specs.declared.Edit.{Edit}
+use Rattle.edit_steps.specs.declared.Edit.the-variants.{Split, TakeOut, Flip}
 
 -- the edit of plain tables
 abbrev pub tableEdit : Edit → Table → Outcome Table

@@ -1,8 +1,8 @@
 use mathlib.Core.Path.{sym, ap}
-use Rattle.edits.specs.Edit.{editedChange}
+use Rattle.edit_steps.specs.Edit.{editedChange}
 use borrow.Author.Needs.{needs}
-use Rattle.edits.proofs.edited_change.Statement.{statement}
-use Rattle.edits.proofs.edited_change.Tie as tie
+use Rattle.edit_steps.proofs.edited_change.Statement.{statement}
+use Rattle.edit_steps.proofs.edited_change.Tie as tie
 
 enum-told : tie.Need-enum-told
 enum-told c = search needs

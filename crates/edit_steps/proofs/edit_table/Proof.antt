@@ -1,9 +1,9 @@
 use mathlib.Core.Path.{sym, _∙_, ap}
 use Rattle.chart_spec.specs.Table.{Table, tableOf}
-use Rattle.edits.specs.Edit.{tableEdit}
+use Rattle.edit_steps.specs.Edit.{tableEdit}
 use borrow.Author.Needs.{needs}
-use Rattle.edits.proofs.edit_table.Statement.{statement}
-use Rattle.edits.proofs.edit_table.Tie as tie
+use Rattle.edit_steps.proofs.edit_table.Statement.{statement}
+use Rattle.edit_steps.proofs.edit_table.Tie as tie
 
 -- the table given
 abbrev table : tie.Start → Table

@@ -38,9 +38,9 @@ use Rattle.table_edits.proofs.Edited as edited
 use Rattle.table_edits.specs.declared.Edited.{Edited}
 use Rattle.table_edits.specs.declared.Edited.the-variants.{Made, NoSuchTriangle, NotInside, NotThreeAround, NoFlip, TableFull}
 use Rattle.table_edits.specs.Edited.{editedOutcome, editedCount}
-use Rattle.edits.specs.declared.Edit.{Edit}
-use Rattle.edits.specs.declared.Edit.the-variants.{Split, TakeOut, Flip}
-use Rattle.edits.specs.Edit.{tableEdit, judgedChange, editedChange}
+use Rattle.edit_steps.specs.declared.Edit.{Edit}
+use Rattle.edit_steps.specs.declared.Edit.the-variants.{Split, TakeOut, Flip}
+use Rattle.edit_steps.specs.Edit.{tableEdit, judgedChange, editedChange}
 
 -- what is given back at a refusal: lists and counts as they were
 abbrev pub answered : Chart → Change → Changed
