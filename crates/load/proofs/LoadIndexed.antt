@@ -8,6 +8,7 @@ use Prim.Native.Nat.{ℕ, _/_, _≤_, _<_}
 use native.Mathlib.Decide.{decLe}
 use native.Mathlib.Omega.{arith}
 use lib.ListN.{length}
+use Rattle.chart_spec.specs.Table.{numbersPerTriangle}
 use Rattle.chart_spec.specs.Cells.{entriesOf, maxEntries}
 use Rattle.chart_spec.specs.Refusals.{Refusal, shortBuffer, badLength, faultyTriangle, tooManyEntries, refused}
 use Rattle.chart_laws.proofs.TableLaws.{tableOf-length}
@@ -41,8 +42,8 @@ module _ (ns : List ℕ) (c : Chart) (z : loadCall ns c .number ≡ 0) where
   isWhole = whole (lengthTest ns) refl
 
   -- nor 5
-  none-faulty : length ns / 6 ≤ firstFaulty (given ns)
-  none-faulty = elim (decLe (length ns / 6) (firstFaulty (given ns))) [
+  none-faulty : length ns / numbersPerTriangle ≤ firstFaulty (given ns)
+  none-faulty = elim (decLe (length ns / numbersPerTriangle) (firstFaulty (given ns))) [
     | yes h ↦ h
     | no n ↦ absurd (not-refused (faultyTriangle (firstFaulty (given ns))) (omega arith) (load-faulty ns c isLong isWhole refl (omega arith)))
   ]
@@ -59,7 +60,7 @@ module _ (ns : List ℕ) (c : Chart) (z : loadCall ns c .number ≡ 0) where
   editable =
       let few = length-few ns isWhole in
       rw (← load-rest ns c isLong isWhole refl none-faulty, limit-fits (given ns) few-entries)
-      (indexed-editable c (given ns) (omega (arith, tableOf-length ns (length ns / 6))) few-entries isLong (given-proper ns refl none-faulty))
+      (indexed-editable c (given ns) (omega (arith, tableOf-length ns (length ns / numbersPerTriangle))) few-entries isLong (given-proper ns refl none-faulty))
 
 -- the buffers that an accepted load leaves are long enough, follow the chain rule and hold the entries of their table
 pub load-indexed : (ns : List ℕ) (c : Chart) → loadCall ns c .number ≡ 0 → Editable (loadCall ns c .chart)

@@ -11,7 +11,7 @@ use lib.Dec.{ltb, eqb}
 use lib.ListN.{length}
 use Rattle.lists.specs.Lists.{all}
 use Rattle.plane.specs.Triangle.{proper}
-use Rattle.chart_spec.specs.Table.{Table, tableOf, tableLength}
+use Rattle.chart_spec.specs.Table.{numbersPerTriangle, Table, tableOf, tableLength}
 use Rattle.chart_spec.specs.Refusals.{shortBuffer, badLength, faultyTriangle, refused, refuseIf, andThen}
 use Rattle.chart_spec.specs.Edits.{eventOn, proposed, loadTable, givenTable, withinLimit}
 use Rattle.chart_laws.proofs.TableLaws.{tableOf-length}
@@ -25,22 +25,22 @@ use Rattle.load.proofs.FaultyLaws.{faulty-none, faulty-done, faulty-ref
 
 -- the length is no multiple of 6, or above that of a full table
 abbrev pub lengthTest : List ℕ → Bool
-lengthTest ns = not (eqb (length ns % 6) 0) || ltb tableLength (length ns)
+lengthTest ns = not (eqb (length ns % numbersPerTriangle) 0) || ltb tableLength (length ns)
 
 -- a length that passes is at most that of a full table
 pub length-few : (ns : List ℕ) → lengthTest ns ≡ false → length ns ≤ tableLength
-length-few ns h = ltb-false tableLength (length ns) (or-neither (not (eqb (length ns % 6) 0)) (ltb tableLength (length ns)) h .1)
+length-few ns h = ltb-false tableLength (length ns) (or-neither (not (eqb (length ns % numbersPerTriangle) 0)) (ltb tableLength (length ns)) h .1)
 
 -- the triangles of the numbers given
 abbrev pub given : List ℕ → Table
-given ns = tableOf ns (length ns / 6)
+given ns = tableOf ns (length ns / numbersPerTriangle)
 
 module _ (ns : List ℕ) {f : ℕ} (e : f ≡ firstFaulty (given ns)) where
-  past-last : length ns / 6 ≤ f → length (given ns) ≤ firstFaulty (given ns)
-  past-last h = omega (arith, tableOf-length ns (length ns / 6))
+  past-last : length ns / numbersPerTriangle ≤ f → length (given ns) ≤ firstFaulty (given ns)
+  past-last h = omega (arith, tableOf-length ns (length ns / numbersPerTriangle))
 
   -- each triangle has D > 0 where the lowest that has not is past the last
-  pub given-proper : length ns / 6 ≤ f → all (λ t. proper t) (given ns) ≡ true
+  pub given-proper : length ns / numbersPerTriangle ≤ f → all (λ t. proper t) (given ns) ≡ true
   given-proper h = faulty-none (given ns) (past-last h)
 
 module _ (ns : List ℕ) (c : Chart) where
@@ -57,11 +57,11 @@ module _ (ns : List ℕ) (c : Chart) where
 
     module _ (b : lengthTest ns ≡ false) {f : ℕ} (e : f ≡ firstFaulty (given ns)) where
       -- refusal 5
-      pub load-faulty : f < length ns / 6 → changedBy c (refused (faultyTriangle f)) ≡ loadCall ns c
+      pub load-faulty : f < length ns / numbersPerTriangle → changedBy c (refused (faultyTriangle f)) ≡ loadCall ns c
       unfolding loadCall ifLong refuseIf eventOn andThen proposed loadTable givenTable
-      load-faulty h = rw (s, b, faulty-refused (given ns) (omega (arith, tableOf-length ns (length ns / 6))), e)
+      load-faulty h = rw (s, b, faulty-refused (given ns) (omega (arith, tableOf-length ns (length ns / numbersPerTriangle))), e)
 
       -- else only the number of entries decides
-      pub load-rest : length ns / 6 ≤ f → changedBy c (withinLimit (given ns)) ≡ loadCall ns c
+      pub load-rest : length ns / numbersPerTriangle ≤ f → changedBy c (withinLimit (given ns)) ≡ loadCall ns c
       unfolding loadCall ifLong refuseIf eventOn andThen proposed loadTable givenTable
       load-rest h = rw (s, b, faulty-done (given ns) (past-last ns e h))

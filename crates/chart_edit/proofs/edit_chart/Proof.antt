@@ -14,8 +14,8 @@ use Rattle.answers.specs.Outcomes.{judgedOutcome, changedOf}
 use Rattle.edit_steps.specs.Edit.{tableEdit}
 use Rattle.edit_steps.proofs.MadeLaws.{answered, made-proper, edit-keeps, judged-refused}
 use borrow.Author.Needs.{needs}
-use Rattle.edits.proofs.edit_chart.Statement.{statement}
-use Rattle.edits.proofs.edit_chart.Tie as tie
+use Rattle.chart_edit.proofs.edit_chart.Statement.{statement}
+use Rattle.chart_edit.proofs.edit_chart.Tie as tie
 
 -- the chart lent
 abbrev chart : tie.Start → Chart
