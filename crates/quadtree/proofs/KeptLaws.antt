@@ -18,7 +18,7 @@ use Rattle.chart_laws.proofs.TableLaws.{tableOf-length, numbered-at}
 use Rattle.shapes.specs.Shape.{shapeOf, offsetsOf, packedPoint, cornersOf, coordinates}
 use Rattle.shapes.proofs.ShapeLaws.{corners-length}
 use Rattle.lists.proofs.FlatMapLaws.{flatMap-length}
-use Rattle.stopping.specs.Stopping.{unpacked}
+use Rattle.side_masks.specs.Masks.{unpacked}
 use Rattle.candidates.specs.Stack.{Ready, Prepared}
 use Rattle.quadtree.specs.Build.{Candidates}
 use Rattle.candidates.proofs.ReadyLaws.{take-stored}

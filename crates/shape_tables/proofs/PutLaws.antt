@@ -1,7 +1,7 @@
 -- What runs of stores leave: the numbers of a triangle, and of a table.
 -- Assumes nothing.
 use mathlib.Core.Path.{_≡_, refl, sym, _∙_, ap}
-use mathlib.Core.List.{List, [], _∷_, _++_, flatMap, append-nil, append-assoc}
+use mathlib.Core.List.{List, [], _∷_, _++_, flatMap, append-nil}
 use Prim.Native.Nat.{ℕ, _+_, _*_}
 use native.Mathlib.Numerals.{add-one, add-two}
 use native.Mathlib.Omega.{arith}
@@ -9,7 +9,7 @@ use lib.ListN.{length, set}
 use lib.Seq.{sets}
 use Rattle.lists.specs.Lists.{countFrom, upTo}
 use Rattle.lists.proofs.ListsLaws.{sets-join}
-use Rattle.lists.proofs.FlatMapLaws.{flatMap-length}
+use Rattle.lists.proofs.FlatMapLaws.{flatMap-append, flatMap-length}
 use Rattle.plane.specs.declared.Point.{Point}
 use Rattle.plane.specs.Triangle.{Triangle}
 use Rattle.chart_spec.specs.Table.{triangleAt, tableOf}
@@ -54,21 +54,17 @@ unfolding tableOf upTo countFrom
 tableOf-empty ns = refl
 
 module _ (f : Triangle → List ℕ) (c : ℕ) (size : (t : Triangle) → length (f t) ≡ c) where
-  flatMap-snoc : (l : List Triangle) (t : Triangle) → flatMap f (l ++ (t ∷ [])) ≡ flatMap f l ++ f t
-  unfolding flatMap
-  flatMap-snoc [] t = append-nil (f t)
-  flatMap-snoc (x ∷ xs) t = ap (λ r. f x ++ r) (flatMap-snoc xs t) ∙ sym (append-assoc (f x) (flatMap f xs) (f t))
-
   -- storing the numbers of triangle i after those of the triangles before it
   pub stored-next : (l l′ l″ ns : List ℕ) (i : ℕ)
       → l′ ≡ sets l 0 (flatMap f (tableOf ns i))
       → l″ ≡ sets l′ (c * i) (f (triangleAt ns i))
       → l″ ≡ sets l 0 (flatMap f (tableOf ns (i + 1)))
+  unfolding flatMap
   stored-next l l′ l″ ns i e g =
       g
       ∙ ap (λ s. sets s (c * i) (f (triangleAt ns i))) e
       ∙ sets-join l 0 (c * i) (flatMap f (tableOf ns i)) (f (triangleAt ns i)) (rw (flatMap-length f c size, tableOf-length) (omega arith))
-      ∙ ap (sets l 0) (sym (flatMap-snoc (tableOf ns i) (triangleAt ns i)) ∙ ap (flatMap f) (sym (tableOf-suc ns i) ∙ ap (tableOf ns) (sym (add-one i))))
+      ∙ ap (sets l 0) (sym (flatMap-append f (tableOf ns i) (triangleAt ns i ∷ []) ∙ ap (λ r. flatMap f (tableOf ns i) ++ r) (append-nil (f (triangleAt ns i)))) ∙ ap (flatMap f) (sym (tableOf-suc ns i) ∙ ap (tableOf ns) (sym (add-one i))))
 
   -- before the first triangle nothing is stored
   pub stored-none : (l ns : List ℕ) → l ≡ sets l 0 (flatMap f (tableOf ns 0))

@@ -8,7 +8,7 @@ use lib.ListN.{length, getD}
 use Rattle.plane.specs.declared.Point.{Point}
 use Rattle.chart_spec.specs.Table.{pointAt}
 use Rattle.shapes.specs.Shape.{coordinates}
-use Rattle.stopping.specs.Stopping.{unpacked}
+use Rattle.side_masks.specs.Masks.{unpacked}
 use Rattle.candidates.specs.Stack.{Rows, Ready}
 
 -- ---- coordinates

@@ -24,9 +24,10 @@ use Rattle.plane.specs.Box.{Box}
 use Rattle.plane.proofs.PointLaws.{samePoint-reflects}
 use Rattle.chart_spec.specs.Table.{pointAt, triangleAt}
 use Rattle.chart_spec.specs.Cells.{isEnd, commonEnd}
-use Rattle.stopping.specs.Stopping.{maskOf, masked, unpacked, unpackedTriangle, startOf, sidesMet, sidesAt, eitherEnd, Skipped, Tested}
+use Rattle.side_masks.specs.Masks.{maskOf, masked, unpacked, unpackedTriangle, startOf, sidesMet}
+use Rattle.stopping.specs.Stopping.{sidesAt, eitherEnd, Skipped, Tested}
 use Rattle.candidates.specs.Stack.{part}
-use Rattle.stopping.proofs.MaskLaws.{masked-zero}
+use Rattle.side_masks.proofs.MaskLaws.{masked-zero}
 use Rattle.candidates.proofs.StackLaws.{part-snoc, part-none, part-split}
 
 -- ---- the ends of the first side

@@ -1,4 +1,3 @@
-pub mod MaskLaws
 pub mod EndLaws
 pub mod CoordinateLaws
 pub mod StopLaws

@@ -28,9 +28,10 @@ use Rattle.chart_laws.proofs.EntriesOfTable.{sides-narrow}
 use Rattle.chart_laws.proofs.ChainOfTable.{meeting-rising}
 use Rattle.chart_laws.proofs.TableLaws.{numbered-at, tableOf-length}
 use Rattle.shapes.proofs.ShapeLaws.{OnTriangle, first-meets, second-meets, third-meets}
-use Rattle.stopping.specs.Stopping.{maskOf, masked, sidesMet, sidesAt}
+use Rattle.side_masks.specs.Masks.{maskOf, masked, sidesMet}
+use Rattle.stopping.specs.Stopping.{sidesAt}
 use Rattle.candidates.specs.Stack.{Prepared}
-use Rattle.stopping.proofs.MaskLaws.{masked-filter}
+use Rattle.side_masks.proofs.MaskLaws.{masked-filter}
 
 -- ---- the triangles of a table
 

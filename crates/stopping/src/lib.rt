@@ -5,59 +5,21 @@ use squares::Square;
 ghost use mathlib.Core.Path.{_≡_};
 ghost use mathlib.Core.Bool.{true};
 ghost use mathlib.Core.List.{flatMap};
-ghost use Prim.Native.Nat.{_+_, _*_, _-_, _≤_, _<_};
-ghost use lib.Dec.{eqb};
-ghost use lib.ListN.{length, getD};
-ghost use Rattle.lists.specs.Lists.{all};
-ghost use Rattle.plane.specs.Triangle.{sides};
+ghost use Prim.Native.Nat.{_+_, _*_, _-_, _<_};
+ghost use lib.ListN.{getD};
 ghost use Rattle.plane.specs.Box.{Framed};
 ghost use Rattle.squares.specs.Square.{squareBox, Aligned};
 ghost use Rattle.chart_spec.specs.Table.{tableOf};
-ghost use Rattle.chart_spec.specs.Cells.{isEnd, commonEnd, stopped, trianglesMeeting};
+ghost use Rattle.chart_spec.specs.Cells.{commonEnd, stopped, trianglesMeeting};
 ghost use Rattle.shapes.specs.Shape.{coordinates, boxOf};
 ghost use Rattle.candidates.specs.Stack.{part, Rows, Fits, Ready, Prepared};
-ghost use Rattle.stopping.specs.Stopping.{maskOf, masked, unpacked, unpackedTriangle, startOf, sidesMet, sidesAt, eitherEnd, Skipped, Tested};
+ghost use Rattle.side_masks.specs.Masks.{maskOf, unpacked, sidesMet};
+ghost use Rattle.stopping.specs.Stopping.{sidesAt, eitherEnd, Skipped, Tested};
 
 // A candidate: its place on the stack, and the mask of its sides that meet the frame.
 pub struct Met {
     pub at: usize,
     pub mask: u32,
-}
-
-// The sides of triangle i, which meets the frame, that meet it too, as a mask: bits 0, 1 and 2 for ab, bc and ca.
-fn sides_met(shape: &[u16], offsets: &[u64], i: usize, f: Frame) -> u32
-    requires { ⌜ ((28 * i + 28 ≤ length (now shape)) × (3 * i + 3 ≤ length (now offsets))) × Framed (boxOf f) ⌝ }
-    ensures { λ r. ⌜ (r ≡ maskOf (sidesMet (now (shape .entry)) (now (offsets .entry)) (boxOf f) i)) × (r < 8) ⌝ }
-{
-    let ab = shapes::side_meets(shape, 28 * i, offsets[3 * i], f);
-    let bc = shapes::side_meets(shape, 28 * i + 8, offsets[3 * i + 1], f);
-    let ca = shapes::side_meets(shape, 28 * i + 16, offsets[3 * i + 2], f);
-    (ab as u32) + 2 * (bc as u32) + 4 * (ca as u32)
-}
-
-// Those of the sides in the mask m that have no end in p, in the triangle with the corners a, b, c.
-fn missed(m: u32, p: u32, a: u32, b: u32, c: u32) -> u32
-    requires { ⌜ m < 8 ⌝ }
-    ensures { λ r. ⌜ eqb r 0 ≡ all (λ d. isEnd (unpacked p) d) (masked m (sides (unpackedTriangle a b c))) ⌝ }
-{
-    let pa = (p == a) as u32;
-    let pb = (p == b) as u32;
-    let pc = (p == c) as u32;
-    // a is an end of ab and ca, b of ab and bc, c of bc and ca.
-    m & (7 ^ (5 * pa | 3 * pb | 6 * pc))
-}
-
-// The corner where the first side of the mask starts.
-fn start_of(m: u32, a: u32, b: u32, c: u32) -> u32
-    ensures { λ r. ⌜ r ≡ startOf m a b c ⌝ }
-{
-    if m % 2 == 1 {
-        return a;
-    }
-    if m / 2 % 2 == 1 {
-        return b;
-    }
-    c
 }
 
 // The first candidate, from `from` up to `to`, of which some side meets the frame: its place, or `to`, and its mask.
@@ -76,7 +38,7 @@ fn first_met(
 {
     let mut k = from;
     while k < to {
-        let m = sides_met(shape, offsets, numbers::index(stack[k]), f);
+        let m = side_masks::sides_met(shape, offsets, numbers::index(stack[k]), f);
         if m != 0 {
             return Met { at: k, mask: m };
         }
@@ -109,12 +71,12 @@ fn either_end(
     let mut k = from + 1;
     while k < to {
         let i = numbers::index(stack[k]);
-        let m = sides_met(shape, offsets, i, f);
+        let m = side_masks::sides_met(shape, offsets, i, f);
         let a = corners[3 * i];
         let b = corners[3 * i + 1];
         let c = corners[3 * i + 2];
-        first = first | missed(m, p, a, b, c);
-        second = second | missed(m, q, a, b, c);
+        first = first | side_masks::missed(m, p, a, b, c);
+        second = second | side_masks::missed(m, q, a, b, c);
         if (first != 0) & (second != 0) {
             return false;
         }
@@ -144,10 +106,10 @@ fn common_end(
         let a = corners[3 * i];
         let b = corners[3 * i + 1];
         let c = corners[3 * i + 2];
-        let p = start_of(m, a, b, c);
-        let q = start_of(m, b, c, a);
-        let x = missed(m, p, a, b, c);
-        let y = missed(m, q, a, b, c);
+        let p = side_masks::start_of(m, a, b, c);
+        let q = side_masks::start_of(m, b, c, a);
+        let x = side_masks::missed(m, p, a, b, c);
+        let y = side_masks::missed(m, q, a, b, c);
         return either_end(corners, shape, offsets, stack, k, to, f, p, q, x, y);
     }
     true

@@ -20,7 +20,7 @@ slice-aggregate-put-lists : tie.Need-slice-aggregate-put-lists
 slice-aggregate-put-lists c = search needs
 
 put-lists-requires : tie.Need-put-lists-requires
-put-lists-requires c κs = search needs
+put-lists-requires c κs = omega arith
 
 same-length : tie.Need-same-length
 same-length c = search needs

@@ -4,7 +4,7 @@ use native.Mathlib.Omega.{arith}
 use lib.ListN.{getD}
 use Rattle.chart_spec.specs.Cells.{commonEnd}
 use Rattle.shapes.specs.Shape.{coordinates, boxOf}
-use Rattle.stopping.specs.Stopping.{maskOf, sidesMet}
+use Rattle.side_masks.specs.Masks.{maskOf, sidesMet}
 use Rattle.stopping.proofs.EndLaws.{tested-read, common-read}
 use Rattle.stopping.proofs.CoordinateLaws.{point-kept}
 use borrow.Author.Needs.{needs}

@@ -2,7 +2,8 @@ use Prim.Native.Nat.{_+_, _*_, _-_}
 use native.Mathlib.Omega.{arith}
 use lib.ListN.{getD}
 use Rattle.shapes.specs.Shape.{coordinates, boxOf}
-use Rattle.stopping.specs.Stopping.{unpacked, sidesAt, Tested}
+use Rattle.side_masks.specs.Masks.{unpacked}
+use Rattle.stopping.specs.Stopping.{sidesAt, Tested}
 use Rattle.stopping.proofs.EndLaws.{tested-more, tested-out, tested-all}
 use Rattle.stopping.proofs.CoordinateLaws.{point-kept}
 use Rattle.stopping.proofs.either_end.Statement.{statement}

@@ -3,7 +3,8 @@ use Prim.Native.Nat.{_-_}
 use native.Mathlib.Omega.{arith}
 use lib.ListN.{getD}
 use Rattle.shapes.specs.Shape.{coordinates, boxOf}
-use Rattle.stopping.specs.Stopping.{maskOf, sidesMet, sidesAt, Skipped}
+use Rattle.side_masks.specs.Masks.{maskOf, sidesMet}
+use Rattle.stopping.specs.Stopping.{sidesAt, Skipped}
 use Rattle.stopping.proofs.EndLaws.{skipped-start, skipped-next, sides-absent}
 use Rattle.stopping.proofs.first_met.Statement.{statement}
 use Rattle.stopping.proofs.first_met.Tie as tie

@@ -16,7 +16,7 @@ use Rattle.plane.specs.Point.{samePoint}
 use Rattle.plane.specs.Triangle.{sides}
 use Rattle.plane.proofs.PointLaws.{samePoint-reflects}
 use Rattle.chart_spec.specs.Cells.{isEnd}
-use Rattle.stopping.specs.Stopping.{bit, maskOf, masked, unpacked, unpackedTriangle}
+use Rattle.side_masks.specs.Masks.{bit, maskOf, masked, unpacked, unpackedTriangle}
 
 -- a bit is 0 or 1
 pub bit-most : (b : Bool) → bit b < 2

@@ -2,11 +2,11 @@ use mathlib.Core.Path.{sym, ap, ap₂}
 use mathlib.Core.List.{[], _∷_}
 use native.Mathlib.Omega.{arith}
 use Rattle.shapes.specs.Shape.{boxOf}
-use Rattle.stopping.specs.Stopping.{sidesMet}
-use Rattle.stopping.proofs.MaskLaws.{bit-most, mask-three}
+use Rattle.side_masks.specs.Masks.{sidesMet}
+use Rattle.side_masks.proofs.MaskLaws.{bit-most, mask-three}
 use borrow.Author.Needs.{needs}
-use Rattle.stopping.proofs.sides_met.Statement.{statement}
-use Rattle.stopping.proofs.sides_met.Tie as tie
+use Rattle.side_masks.proofs.sides_met.Statement.{statement}
+use Rattle.side_masks.proofs.sides_met.Tie as tie
 
 mul-side-meets : tie.Need-mul-side-meets
 mul-side-meets c = search needs

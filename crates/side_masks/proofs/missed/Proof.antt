@@ -1,9 +1,9 @@
 use native.Mathlib.Omega.{arith}
 use lib.Dec.{eqb}
-use Rattle.stopping.proofs.MaskLaws.{bit-most, missed-none}
+use Rattle.side_masks.proofs.MaskLaws.{bit-most, missed-none}
 use borrow.Author.Needs.{needs}
-use Rattle.stopping.proofs.missed.Statement.{statement}
-use Rattle.stopping.proofs.missed.Tie as tie
+use Rattle.side_masks.proofs.missed.Statement.{statement}
+use Rattle.side_masks.proofs.missed.Tie as tie
 
 cast-pa : tie.Need-cast-pa
 cast-pa c = search needs

@@ -1,8 +1,8 @@
 use mathlib.Core.Path.{refl}
 use Prim.Native.Nat.{_/_, _%_}
 use borrow.Author.Tests.{eq-eqb, ne-eqb}
-use Rattle.stopping.proofs.start_of.Statement.{statement}
-use Rattle.stopping.proofs.start_of.Tie as tie
+use Rattle.side_masks.proofs.start_of.Statement.{statement}
+use Rattle.side_masks.proofs.start_of.Tie as tie
 
 returns : tie.Need-returns
 returns c = rw (eq-eqb (c .before .args .m % 2) 1 (c .if1 .taken)) refl
