@@ -7,12 +7,12 @@ usage: mutants.py [--crates A,B] [--only REGEX] [--max N] [--jobs 1|2] [--minute
 A mutant changes one place of one definition: a comparison, an operand, a coordinate, a corner, a chart, an order, a constant,
 a constructor, a variable; a part or row is dropped, negated or doubled; two arguments, fields, rows, cases or elements change
 places. It is judged in these steps:
- 1. on the examples of its own file, many mutants in one check; then on its whole crate. An error in specs/ itself: invalid,
-    it is no definition. Any other refusal: killed.
+ 1. on the examples of its crate that name the definition, many mutants in one check; then on its whole crate. An error in
+    specs/ itself: invalid, it is no definition. Any other refusal: killed.
  2. what passes is tried on the crates above whose texts name the definition, or one that is made of it, in the order of
     crates.txt, until one refuses it; programs are left out, which state nothing of their own. After log_spec, the last crate
     of definitions, come the executed cases: those that tests/definitions.py draws, as a crate 'trial'.
-In step 1 a check may take 10 times the processor time that the right definition takes, at least 20 s; in step 2 it may take
+In step 1 a check may take 4 times the processor time that the right definition takes, at least 20 s; in step 2 it may take
 900 s; and 4 GB. A check of many mutants that takes more is done again for each of them. A mutant whose check alone takes more
 has the verdict 'does not end': what is shown of the right definition in a part of that time is not shown of it. It counts as
 refused, and the report counts it apart.
@@ -46,7 +46,7 @@ ROOT = os.path.dirname(os.path.dirname(os.path.abspath(__file__)))
 SAME = os.path.join(ROOT, "tests", "mutants-same.tsv")
 CASES = ["7", "4"]  # seed and count of the executed cases
 AT_ONCE = 24  # mutants in one check of the examples
-TIMES, LEAST = 10, 20  # a check of the own crate may take so many times what it takes as things stand, and at least so many seconds
+TIMES, LEAST = 4, 20  # a check of the own crate may take so many times what it takes as things stand, and at least so many seconds
 LONGEST = 900  # seconds that a check of a crate above may take
 MEMORY = 6 << 20  # kilobytes of data for one check; some 2 GB of it are set aside, not used
 REFUSED = ("killed", "does not end")
@@ -410,9 +410,12 @@ class Reach:
         return [c for c in self.crates if crate in self.crates[c] and self.named[c] & known]
 
 
-def without_examples(text):
-    """What other files take from a file of examples: all but what is shown by computing."""
-    return "\n\n".join(b for b in text.split("\n\n") if not re.search(r"= \(?refl[^\n]*\s*$", b)) + "\n"
+def examples_of(text, name):
+    """A file of examples with those only that name a definition, and with the rest of what it has; None names them all. An
+    example is shown by computing. Lines keep their numbers."""
+    words = lambda b: re.findall(r"[^\s()\[\]{};,.|λ]+", b)
+    left = lambda b: name is None or name in words(b) or not re.search(r"= \(?refl[^\n]*\s*$", b)
+    return "\n\n".join(b if left(b) else "\n" * b.count("\n") for b in text.split("\n\n"))
 
 
 class Place:
@@ -420,7 +423,7 @@ class Place:
 
     def __init__(self, root, crates):
         self.root, self.crates, self.sure = root, crates, set()  # sure: proved as they stand
-        self.seconds = {}  # what a check takes as things stand
+        self.seconds, self.mixed = {}, {}  # what a check takes as things stand, and what fails in a right copy
         guide = subprocess.run(["rt", "doc"], stdout=subprocess.PIPE, text=True, check=True).stdout.strip()
         self.home = os.path.dirname(os.path.dirname(guide))
         self.own = os.path.join(self.home, "on", platform.machine())
@@ -437,15 +440,15 @@ class Place:
         words += ["--antt-project", os.path.join(self.home, "logic", "antt-project.json")]
         words += ["--logic-built", os.path.join(self.own, "logic-built"), *more]
         p = subprocess.run(words, stdout=subprocess.PIPE, stderr=subprocess.STDOUT, text=True, errors="replace")
-        return None if p.returncode == 0 else p.stdout if p.returncode == 1 else "does not end" if p.returncode < 0 else "no verdict"
+        stopped = p.returncode in (-signal.SIGKILL, -signal.SIGXCPU, -signal.SIGABRT)  # by the limit of time, or of memory
+        return None if p.returncode == 0 else p.stdout if p.returncode == 1 else "does not end" if stopped else "no verdict"
 
     def most(self, what, check):
         """The seconds that a check may take, from what it takes as things stand; `check` does that, the first time."""
         if what not in self.seconds:
             spent = lambda: sum(resource.getrusage(resource.RUSAGE_CHILDREN)[:2])
             before = spent()
-            if check() in ("does not end", "no verdict"):
-                sys.exit(f"no verdict on {what} as it stands")
+            check()
             self.seconds[what] = spent() - before
         return max(LEAST, TIMES * self.seconds[what])
 
@@ -462,52 +465,42 @@ class Place:
             shutil.rmtree(kept)
         return printed
 
-    def copies(self, file, texts):
-        """Of a file of definitions: what is copied with it to show the examples of that file. Those files of examples have
-        its name, up to a plural; without such files, they are all that have a name before 'Examples', or else all."""
-        module, folder = lambda p: os.path.basename(p)[:-5], lambda p: os.path.dirname(p)
-        stem = {p: EXAMPLES.search(p).group(1) for p in texts if EXAMPLES.search(p)}
-        mine = [p for p in stem if stem[p].rstrip("s") == module(file).rstrip("s")]
-        mine = mine or [p for p in stem if stem[p] and p.endswith("Examples.antt")] or list(stem)
-        copied, needed = [file], list(mine)
-        crate = os.path.basename(os.path.dirname(folder(file)))
-        names = lambda ps: re.compile(r"(Rattle·%s·(?:specs\.specs|proofs\.proofs)\.)(%s)\b" % (crate, "|".join(map(module, ps))))
-        may = [p for p in texts if folder(p) == folder(file) or COPIED.search(p)]
-        for _ in texts:
-            copied += [p for p in may if p not in copied and names(copied).search(texts[p])]
-            needed += [p for p in texts if p not in needed and any(names([p]).search(texts[q]) for q in needed)]
-        return [p for p in copied if p in needed], mine, names(copied)
-
     def screen(self, batch):
-        """The examples of a file on mutants of it, in one check: each mutant has a copy of its file, of the files made of it and
-        of the examples. Copy 0 is right: an example that fails there mixes copies with laws, and shows nothing."""
+        """The examples that name their definitions on mutants of one file, in one check: each mutant has a copy of its file, of
+        the files made of it and of those examples. An example that fails in a right copy mixes copies with laws, and shows nothing."""
         crate, file = batch[0].crate, batch[0].file
-        limit = self.most(file, lambda: self.copied(crate, file, [])[0])
-        printed, failed = self.copied(crate, file, batch, limit if len(batch) == 1 else max(limit, len(batch) * self.seconds[file]))
+        limit = self.most(file, lambda: self.mixed.update({file: self.copied(crate, file, [None], LONGEST)[1][0]}))
+        printed, failed = self.copied(crate, file, batch, max(limit, 2 * len(batch)))
         if printed in ("does not end", "no verdict") and len(batch) > 1:
             for m in batch:
                 self.screen([m])
         elif printed == "does not end":
             batch[0].verdict, batch[0].where = printed, crate + "/proofs"
-        for k, m in enumerate(batch, 1):
-            new = [f for f in failed[k] if f not in failed[0]]
+        for k, m in enumerate(batch):
+            new = [f for f in failed[k] if f not in self.mixed[file]]
             if new:
                 invalid = any(f[0] for f in new)
                 m.verdict, m.where = ("invalid", "") if invalid else ("killed", new[0][1])
 
-    def copied(self, crate, file, batch, limit=LONGEST):
-        """What a check prints with a copy for each mutant, and what fails in each copy."""
+    def copied(self, crate, file, batch, limit):
+        """What a check prints with a copy for each mutant, None for a right one, and what fails in each copy."""
         texts = {p: read(p) for part in ("specs", "proofs") for p in sources(".antt", part, self.root, crate)}
         module, folder = lambda p: os.path.basename(p)[:-5], lambda p: os.path.dirname(p)
-        right = os.path.join(self.root, "crates", file)
-        copied, shown, named = self.copies(right, texts)
-        made, failed = [], collections.defaultdict(list)
-        for k, m in enumerate([None] + batch):
-            for p in copied:
-                text = m.text if m and p == right else texts[p] if p in shown or not EXAMPLES.search(p) else without_examples(texts[p])
+        names = lambda ps: re.compile(r"(Rattle·%s·(?:specs\.specs|proofs\.proofs)\.)(%s)\b" % (crate, "|".join(map(module, ps))))
+        right, made, failed = os.path.join(self.root, "crates", file), [], collections.defaultdict(list)
+        copied = [right]
+        for _ in texts:
+            may = [p for p in texts if folder(p) == folder(right) or COPIED.search(p)]
+            copied += [p for p in may if p not in copied and names(copied).search(texts[p])]
+        for k, m in enumerate(batch):
+            shown = {p: examples_of(texts[p], m and m.definition) for p in copied if EXAMPLES.search(p)}
+            needed = [right] + [p for p in shown if m is None or shown[p] != examples_of(texts[p], "")]
+            for _ in texts:
+                needed += [p for p in copied if p not in needed and any(names([p]).search(texts[q]) for q in needed)]
+            for p in needed:
                 made.append(os.path.join(folder(p), f"Copy{k}{module(p)}.antt"))
-                write(made[-1], named.sub(r"\g<1>Copy%d\2" % k, text))
-        nodes = {os.path.join(folder(p), "Lib.antt") for p in copied}
+                write(made[-1], names(copied).sub(r"\g<1>Copy%d\2" % k, m.text if m and p == right else shown.get(p, texts[p])))
+        nodes = {os.path.join(folder(p), "Lib.antt") for p in made}
         for node in nodes:
             write(node, texts[node] + "".join(f"pub mod {module(p)}\n" for p in made if folder(p) == folder(node)))
         printed = self.check(crate, limit)
