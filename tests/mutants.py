@@ -392,15 +392,10 @@ class Reach:
     """Which crates name a definition, or a definition that is made of it."""
 
     def __init__(self, root, crates):
-        self.made_of, self.named, self.crates = collections.defaultdict(set), {}, crates
-        words = lambda text: set(re.findall(r"[^\s()\[\]{};,.|λ]+", re.sub(r"(^|\s)--\s.*", "", text)))
+        self.named, self.crates, parts = {}, crates, (("specs", ".antt"), ("proofs", ".antt"), ("src", ".rt"))
+        self.made_of = made_of(read(p) for c in crates for p in sources(".antt", "specs", root, c))
         for c in crates:
-            parts = (("specs", ".antt"), ("proofs", ".antt"), ("src", ".rt"))
-            self.named[c] = set().union(*(words(read(p)) for part, ending in parts for p in sources(ending, part, root, c)))
-            for text in map(read, sources(".antt", "specs", root, c)):
-                heads = [m for m in HEAD.finditer(text) if m.group(3)]
-                for m, end in zip(heads, [h.start() for h in heads[1:]] + [len(text)]):
-                    self.made_of[m.group(3)] |= words(text[m.end() : end])
+            self.named[c] = set().union(*(words_of(read(p)) for part, ending in parts for p in sources(ending, part, root, c)))
 
     def above(self, crate, name):
         known, more = {name}, {name}
@@ -410,12 +405,25 @@ class Reach:
         return [c for c in self.crates if crate in self.crates[c] and self.named[c] & known]
 
 
-def examples_of(text, name):
-    """A file of examples with those only that name a definition, and with the rest of what it has; None names them all. An
+def words_of(text):
+    return set(re.findall(r"[^\s()\[\]{};,.|λ]+", re.sub(r"(^|\s)--\s.*", "", text)))
+
+
+def examples_of(text, names):
+    """A file of examples with those only that have one of the names, and with the rest of what it has; None is every name. An
     example is shown by computing. Lines keep their numbers."""
-    words = lambda b: re.findall(r"[^\s()\[\]{};,.|λ]+", b)
-    left = lambda b: name is None or name in words(b) or not re.search(r"= \(?refl[^\n]*\s*$", b)
+    left = lambda b: names is None or words_of(b) & names or not re.search(r"= \(?refl[^\n]*\s*$", b)
     return "\n\n".join(b if left(b) else "\n" * b.count("\n") for b in text.split("\n\n"))
+
+
+def made_of(texts):
+    """Of each definition in the texts, the words that it is made of."""
+    made = collections.defaultdict(set)
+    for text in texts:
+        heads = [m for m in HEAD.finditer(text) if m.group(3)]
+        for m, end in zip(heads, [h.start() for h in heads[1:]] + [len(text)]):
+            made[m.group(3)] |= words_of(text[m.end() : end])
+    return made
 
 
 class Place:
@@ -467,7 +475,8 @@ class Place:
 
     def screen(self, batch):
         """The examples that name their definitions on mutants of one file, in one check: each mutant has a copy of its file, of
-        the files made of it and of those examples. An example that fails in a right copy mixes copies with laws, and shows nothing."""
+        the files made of it and of those examples; where none names it, of those that name a definition made of it. An example
+        that fails in a right copy mixes copies with laws, and shows nothing."""
         crate, file = batch[0].crate, batch[0].file
         limit = self.most(file, lambda: self.mixed.update({file: self.copied(crate, file, [None], LONGEST)[1][0]}))
         printed, failed = self.copied(crate, file, batch, max(limit, 2 * len(batch)))
@@ -492,9 +501,15 @@ class Place:
         for _ in texts:
             may = [p for p in texts if folder(p) == folder(right) or COPIED.search(p)]
             copied += [p for p in may if p not in copied and names(copied).search(texts[p])]
+        made_there = made_of(texts[p] for p in texts if folder(p) == folder(right))
         for k, m in enumerate(batch):
-            shown = {p: examples_of(texts[p], m and m.definition) for p in copied if EXAMPLES.search(p)}
-            needed = [right] + [p for p in shown if m is None or shown[p] != examples_of(texts[p], "")]
+            needed, wanted, more = [], set(), {m.definition} if m else None
+            while not needed and more != wanted:
+                wanted = more
+                shown = {p: examples_of(texts[p], wanted) for p in copied if EXAMPLES.search(p)}
+                needed = [p for p in shown if shown[p] != examples_of(texts[p], set())]
+                more = wanted and wanted | {d for d in made_there if made_there[d] & wanted}
+            needed.append(right)
             for _ in texts:
                 needed += [p for p in copied if p not in needed and any(names([p]).search(texts[q]) for q in needed)]
             for p in needed:
