@@ -28,7 +28,7 @@ use Rattle.pair_list.proofs.WroteLaws.{wrote-none, wrote-join}
 
 module _ {A : Type 0} (p q : A → Bool) where
   -- tests that agree on a list
-  filter-agree : (l : List A) → Every (λ x. p x ≡ q x) l → filter p l ≡ filter q l
+  pub filter-agree : (l : List A) → Every (λ x. p x ≡ q x) l → filter p l ≡ filter q l
   unfolding filter
   filter-agree [] h = refl
   filter-agree (x ∷ xs) h = let g = every-uncons h in go (p x) refl (sym (g .0)) (filter-agree xs (g .1))

@@ -1,0 +1,164 @@
+-- The answer of an overlay: at each refusal, and from what is marked and written.
+-- Assumes nothing.
+use mathlib.Core.Path.{_≡_, refl, sym, _∙_, ap, ap₂, subst}
+use mathlib.Core.Bool.{Bool, true, false, not, _&&_, _||_}
+use mathlib.Core.List.{List, [], _++_, map, flatMap}
+use Prim.Native.Nat.{ℕ, _+_, _*_, _-_, _≤_, _<_}
+use native.Mathlib.Omega.{arith}
+use borrow.Author.Tests.{lt-ltb, le-ltb, ltb-false}
+use lib.Dec.{T, ltb}
+use lib.ListN.{length, take, drop, replicate}
+use lib.Seq.{sets}
+use Rattle.lists.specs.Lists.{filter, upTo}
+use Rattle.lists.proofs.Reflects.{or-neither}
+use Rattle.lists.proofs.ListsLaws.{upTo-to}
+use Rattle.lists.proofs.EveryLaws.{flatMap-agree}
+use Rattle.orthtree.specs.Entries.{Entry, chain, listedTogether, meetings}
+use Rattle.squares.specs.Square.{arity, depth}
+use Rattle.plane.specs.Interior.{interiorsMeet}
+use Rattle.chart_spec.specs.Table.{maxTriangles, tableOf, triangleAt, numbered}
+use Rattle.chart_spec.specs.Refusals.{refuseIf, outcomeNumber}
+use Rattle.chart_spec.specs.Overlay.{Pair, pairNumbers, maxPairs, pairListed, pairsListed, withinPairs, overlayOf}
+use Rattle.chart_laws.proofs.TableLaws.{tableOf-length, numbered-at}
+use Rattle.call_spec.specs.Buffers.{Chart, tooShort, zipEntries, chainRule, chartTable, chartEntries, padded, pairsLength}
+use Rattle.call_spec.specs.Calls.{pairsRefused, overlaidBy, overlayCall}
+use Rattle.call_laws.proofs.BufferLaws.{ruled, rule-held, searchable}
+use Rattle.answers.specs.declared.Overlay.the-variants as overlays
+use Rattle.answers.specs.declared.Overlaid.{Overlaid}
+use Rattle.answers.specs.Outcomes.{overlaidOf}
+use Rattle.entry_lists.proofs.StoreLaws.{padded-sets}
+use Rattle.merge.specs.Merge.{Overlapping}
+use Rattle.pair_list.specs.Pairs.{meetsAt, markedAt, rowPairs, markedPairs, Wrote}
+use Rattle.pair_list.proofs.WroteLaws.{numbers-length}
+use Rattle.pair_list.proofs.PairLaws.{filter-agree}
+use Rattle.overlay.specs.Judged.{Passed}
+
+-- both of two tests
+both : (a b : Bool) → a && b ≡ true → (a ≡ true) × (b ≡ true)
+both true b e = (refl, e)
+both false b e = absurd (subst (λ b. T b) (sym e) tt)
+
+-- ---- refusals 1 and 2
+
+-- what a chart has that neither refuses
+pub passed : (c : Chart) → tooShort c ≡ false → chainRule c ≡ true → Passed (c .table) (c .keys) (c .items) (c .triangleCount) (c .entryCount)
+unfolding chartTable
+passed c s e =
+    let held = rule-held c s e in
+    let room = searchable c s e .0 in
+    record {
+      triangles = held .few;
+      rows = held .room;
+      oriented = held .good;
+      entries = ruled c e .entries;
+      keyed = room .0;
+      listed = room .1 .1;
+    }
+
+module _ (c d : Chart) (pairs : List ℕ) where
+  pub overlay-short : tooShort c || tooShort d || ltb (length pairs) pairsLength ≡ true
+      → {r : Overlaid} → r ≡ record { overlay = overlays.ShortBuffer; pairs = 0; meetings = 0 } → overlaidOf r pairs ≡ overlayCall c d pairs
+  unfolding overlayCall overlaidBy refuseIf pairsRefused outcomeNumber
+  overlay-short h e = ap (λ r. overlaidOf r pairs) e ∙ rw h
+
+  -- where 1 does not refuse
+  module _ (long : tooShort c || tooShort d || ltb (length pairs) pairsLength ≡ false) where
+    pub first-long : tooShort c ≡ false
+    first-long = or-neither (tooShort c) (tooShort d) (or-neither (tooShort c || tooShort d) (ltb (length pairs) pairsLength) long .0) .0
+
+    pub second-long : tooShort d ≡ false
+    second-long = or-neither (tooShort c) (tooShort d) (or-neither (tooShort c || tooShort d) (ltb (length pairs) pairsLength) long .0) .1
+
+    pub pairs-long : pairsLength ≤ length pairs
+    pairs-long = ltb-false (length pairs) pairsLength (or-neither (tooShort c || tooShort d) (ltb (length pairs) pairsLength) long .1)
+
+    pub overlay-broken : chainRule c && chainRule d ≡ false
+        → {r : Overlaid} → r ≡ record { overlay = overlays.BrokenChain; pairs = 0; meetings = 0 } → overlaidOf r pairs ≡ overlayCall c d pairs
+    unfolding overlayCall overlaidBy refuseIf pairsRefused outcomeNumber
+    overlay-broken h e = ap (λ r. overlaidOf r pairs) e ∙ rw (long, either (chainRule c) (chainRule d) h)
+      where
+        either : (a b : Bool) → a && b ≡ false → not a || not b ≡ true
+        either true true e = absurd (subst (λ b. T b) e tt)
+        either true false e = refl
+        either false b e = refl
+
+    -- where 2 does not refuse either
+    module _ (rules : chainRule c && chainRule d ≡ true) where
+      pub first-passed : Passed (c .table) (c .keys) (c .items) (c .triangleCount) (c .entryCount)
+      first-passed = passed c first-long (both (chainRule c) (chainRule d) rules .0)
+
+      pub second-passed : Passed (d .table) (d .keys) (d .items) (d .triangleCount) (d .entryCount)
+      second-passed = passed d second-long (both (chainRule c) (chainRule d) rules .1)
+
+      pub first-chain : (c .entryCount ≤ length (c .levels)) × (chain arity depth (c .triangleCount) (take (c .entryCount) (zipEntries (c .keys) (c .levels) (c .items))) ≡ true)
+      first-chain = let s = searchable c first-long (both (chainRule c) (chainRule d) rules .0) in (s .0 .1 .0, s .1)
+
+      pub second-chain : (d .entryCount ≤ length (d .levels)) × (chain arity depth (d .triangleCount) (take (d .entryCount) (zipEntries (d .keys) (d .levels) (d .items))) ≡ true)
+      second-chain = let s = searchable d second-long (both (chainRule c) (chainRule d) rules .1) in (s .0 .1 .0, s .1)
+
+      pub overlay-passed : overlaidBy pairs (overlayOf (chartTable c) (chartEntries c) (chartTable d) (chartEntries d)) ≡ overlayCall c d pairs
+      unfolding overlayCall refuseIf
+      overlay-passed = rw (long, both (chainRule c) (chainRule d) rules .0, both (chainRule c) (chainRule d) rules .1)
+
+-- ---- what is written
+
+-- zeros over all pairs
+zeros : (n : ℕ) (mid before : List ℕ) → n ≤ length mid → drop n mid ≡ drop n before → sets mid 0 (replicate (n - 0) 0) ≡ padded n [] before
+unfolding padded
+zeros n mid before h e = padded-sets n [] mid (omega arith) h ∙ ap (λ r. [] ++ replicate (n - length {A = ℕ} []) 0 ++ r) e
+
+module _ {ps : List Pair} {found : ℕ} {before mid : List ℕ} (w : Wrote ps 0 found before mid) (room : pairsLength ≤ length mid) (m : ℕ) (after : List ℕ) where
+  -- too many pairs
+  pub finish-over : maxPairs < found → after ≡ sets mid 0 (replicate (pairsLength - 0) 0)
+      → {r : Overlaid} → r ≡ record { overlay = overlays.TooManyPairs; pairs = 0; meetings = 0 } → overlaidOf r after ≡ overlaidBy before (withinPairs ps m)
+  unfolding overlaidBy withinPairs refuseIf pairsRefused outcomeNumber
+  finish-over h e f =
+      ap (λ r. overlaidOf r after) f ∙
+      rw (lt-ltb maxPairs (length ps) (omega (arith, w .count)))
+      (λ i. record { number = 12; pairCount = 0; meets = 0; pairs = (e ∙ zeros pairsLength mid before room (w .beyond)) i })
+
+  -- not too many
+  pub finish-done : found ≤ maxPairs → after ≡ sets mid (2 * found) (replicate (pairsLength - 2 * found) 0)
+      → overlaidOf (record { overlay = overlays.Done; pairs = found; meetings = m }) after ≡ overlaidBy before (withinPairs ps m)
+  unfolding overlaidBy withinPairs refuseIf outcomeNumber
+  finish-done h e =
+      let few : length ps ≤ maxPairs = omega (arith, w .count) in
+      let n : found ≡ length ps = omega (arith, w .count) in
+      let size : 2 * found ≡ length (pairNumbers ps) = omega (arith, numbers-length ps) in
+      let written = e
+      ∙ ap (λ k. sets mid k (replicate (pairsLength - k) 0)) size
+      ∙ ap (λ l. sets l (length (pairNumbers ps)) (replicate (pairsLength - length (pairNumbers ps)) 0)) (w .stored (omega arith))
+      ∙ padded-sets pairsLength (pairNumbers ps) before (omega arith) (omega (arith, w .kept)) in
+      rw (le-ltb maxPairs (length ps) few) (λ i. record { number = 0; pairCount = n i; meets = m; pairs = written i })
+
+-- ---- the marked pairs are those of the overlay
+
+module _ (first : List ℕ) (n : ℕ) (second : List ℕ) (m : ℕ) {es fs : List Entry} {rows : List ℕ} {r : ℕ} (o : Overlapping es fs rows r)
+    (few : n ≤ maxTriangles) (few′ : m ≤ maxTriangles) where
+  same-test : (i j : ℕ) → i < n → j < m
+      → meetsAt first second i j && markedAt rows i j ≡ pairListed (tableOf first n) es (tableOf second m) fs i j
+  unfolding pairListed
+  same-test i j h k =
+      ap₂ _&&_ (ap₂ interiorsMeet (sym (numbered-at first n i h)) (sym (numbered-at second m j k))) (o .marks i j (omega arith) (omega arith))
+
+  same-row : (i : ℕ) → i < n
+      → rowPairs first second m rows i ≡ map (λ j. record { i = i; j = j }) (filter (λ j. pairListed (tableOf first n) es (tableOf second m) fs i j) (upTo (length (tableOf second m))))
+  unfolding rowPairs
+  same-row i h =
+      ap (map (λ j. record { i = i; j = j }))
+      (filter-agree (λ j. meetsAt first second i j && markedAt rows i j) (λ j. pairListed (tableOf first n) es (tableOf second m) fs i j) (upTo m)
+      (λ j s. same-test i j h (upTo-to s))
+      ∙ ap (λ k. filter (λ j. pairListed (tableOf first n) es (tableOf second m) fs i j) (upTo k)) (sym (tableOf-length second m)))
+
+  same-pairs : markedPairs first n second m rows ≡ pairsListed (tableOf first n) es (tableOf second m) fs
+  unfolding markedPairs pairsListed
+  same-pairs =
+      let row : ℕ → List Pair = λ i. map (λ j. record { i = i; j = j }) (filter (λ j. pairListed (tableOf first n) es (tableOf second m) fs i j) (upTo (length (tableOf second m)))) in
+      flatMap-agree (λ i. rowPairs first second m rows i) row (upTo n) (λ i s. same-row i (upTo-to s))
+      ∙ ap (λ k. flatMap row (upTo k)) (sym (tableOf-length first n))
+
+  -- so what is answered from them is the overlay
+  pub overlay-same : (before : List ℕ) → overlaidBy before (withinPairs (markedPairs first n second m rows) r)
+      ≡ overlaidBy before (overlayOf (tableOf first n) es (tableOf second m) fs)
+  unfolding overlayOf
+  overlay-same before = ap₂ (λ ps k. overlaidBy before (withinPairs ps k)) same-pairs (o .count)
