@@ -76,10 +76,10 @@ fn finish(found: usize, meetings: usize, pairs: &mut [u16]) -> Overlaid
     ensures { λ r. ⌜ ((ps : List Pair) (before : List ℕ) → Wrote ps 0 found before (now (pairs .entry)) → _≡_ {A = Calls·Overlaid} (overlaidOf r (now (pairs .exit))) (overlaidBy before (withinPairs ps meetings))) ⌝ }
 {
     if found > pair_list::MOST_PAIRS {
-        entry_lists::clear_items(pairs, 0, PAIR_NUMBERS);
+        list_writes::clear_items(pairs, 0, PAIR_NUMBERS);
         return refused(Overlay::TooManyPairs);
     }
-    entry_lists::clear_items(pairs, 2 * found, PAIR_NUMBERS);
+    list_writes::clear_items(pairs, 2 * found, PAIR_NUMBERS);
     Overlaid {
         overlay: Overlay::Done,
         pairs: found,
