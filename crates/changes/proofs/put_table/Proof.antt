@@ -4,6 +4,7 @@ use Prim.Native.Nat.{_-_}
 use native.Mathlib.Omega.{arith}
 use borrow.Author.Needs.{needs}
 use lib.ListN.{take}
+use Rattle.chart_spec.specs.Table.{tableLength}
 use Rattle.call_spec.specs.Buffers.{padded}
 use Rattle.list_writes.proofs.StoreLaws.{Copying, copying-start, copying-next, padded-copy}
 use Rattle.changes.proofs.put_table.Statement.{statement}
@@ -51,9 +52,9 @@ returns : tie.Need-returns Inv-loop μ-loop
 returns c =
     let top = c .before .before .before .before .before .before .before .before in
     let a = top .args in
-    padded-copy 3072 (c .before .before .before .before .before .loop .inv) (omega arith) (top .pre .0) (top .pre .1 .0)
+    padded-copy tableLength (c .before .before .before .before .before .loop .inv) (omega arith) (top .pre .0) (top .pre .1 .0)
     (top .pre .1 .1) (c .before .before .clear-items .ensures)
-    ∙ ap (λ l. padded 3072 l (a .table .now)) (map-id (take (a .n) (a .given .now)))
+    ∙ ap (λ l. padded tableLength l (a .table .now)) (map-id (take (a .n) (a .given .now)))
 
 pub put-table-spec : {M : Type 1} → statement M
 put-table-spec =
