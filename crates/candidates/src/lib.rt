@@ -43,7 +43,7 @@ pub fn narrow(
     let mut k = from;
     while k < to {
         let i = stack[k];
-        let b = shapes::triangle_meets(shape, offsets, numbers::index(i), f);
+        let b = box_tests::triangle_meets(shape, offsets, numbers::index(i), f);
         top = push_when(b, stack, top, i);
         k += 1;
     }

@@ -7,12 +7,14 @@ use Rattle.orthtree.specs.Entries.{Entry}
 unfoldable pub packed : Entry → ℕ
 packed e = e .key * 4294967296 + e .level * 65536 + e .item
 
--- key, level and item of a packed entry
+-- the key of a packed entry
 abbrev pub keyOf : ℕ → ℕ
 keyOf x = x / 4294967296
 
+-- its level
 abbrev pub levelOf : ℕ → ℕ
 levelOf x = x / 65536 % 256
 
+-- its item
 abbrev pub itemOf : ℕ → ℕ
 itemOf x = x % 65536

@@ -1,18 +1,15 @@
--- Building a square: how the entries of its quarters join, and the key step between them.
+-- Building a square: how the entries of its quarters join.
 -- Assumes nothing.
-use mathlib.Core.Path.{_≡_, refl, sym, _∙_, ap}
+use mathlib.Core.Path.{refl, sym, _∙_, ap}
 use mathlib.Core.List.{List, [], _++_, map, map-append}
-use Prim.Native.Nat.{ℕ, zero, suc, _+_, _*_, _-_, _/_, _^_, _≤_, _<_}
+use Prim.Native.Nat.{ℕ, _+_, _-_, _≤_}
 use native.Mathlib.Decide.{decLe}
-use native.Mathlib.Nat.{add-zero, pow-succ', mul-le-mul}
+use native.Mathlib.Nat.{add-zero}
 use native.Mathlib.Omega.{arith}
 use lib.ListN.{length, length-append, length-map}
 use lib.Seq.{sets}
 use Rattle.lists.proofs.ListsLaws.{sets-join}
-use lib.Pow.{pow-mono}
-use Rattle.orthtree.specs.Entries.{Entry, span}
-use Rattle.squares.specs.Square.{sideAt}
-use Rattle.squares.proofs.SideLaws.{shift-half}
+use Rattle.orthtree.specs.Entries.{Entry}
 use Rattle.leaves.specs.Packed.{packed}
 use Rattle.quadtree.specs.Build.{Built}
 
@@ -51,16 +48,3 @@ built-join {es} {fs} {most} {at} {a} {b} {t} {o} {o₁} {o₂} h g =
       stacks = g .stacks ∙ h .stacks;
       end = g .end;
     }
-
--- ---- the key step to the next quarter
-
-squared : (m : ℕ) → 2 ^ m * 2 ^ m ≡ 4 ^ m
-squared zero = refl
-squared (suc m) = rw (pow-succ' 2 m, pow-succ' 4 m, ← squared m) (omega arith)
-
-pub key-step-is : (level : ℕ) → level < 16 → (32768 / 2 ^ level * (32768 / 2 ^ level) ≡ span 4 16 (suc level)) × (32768 / 2 ^ level * (32768 / 2 ^ level) ≤ 1073741824)
-unfolding span sideAt
-key-step-is level h =
-    let e = shift-half level h in
-    let b : 2 ^ (16 - suc level) ≤ 2 ^ 15 = pow-mono {i = 16 - suc level} {j = 15} (omega arith) in
-    (rw e (squared (16 - suc level)), rw e (mul-le-mul {n₂ = 32768} {m₂ = 32768} b b))

@@ -1,67 +1,22 @@
 // Building the quadtree of a table: one recursion on quarters writes the entries of its cells, packed into numbers, and stops as soon as there
 // are too many. A square looks only at the triangles that met its parent; a stack keeps the lists of the squares above.
 
-use shapes::Frame;
 use squares::Square;
 ghost use mathlib.Core.Path.{_≡_};
 ghost use mathlib.Core.Bool.{true};
 ghost use mathlib.Core.List.{map};
-ghost use Prim.Native.Nat.{suc, _+_, _*_, _-_, _≤_, _<_};
-ghost use lib.ListN.{length, getD};
+ghost use Prim.Native.Nat.{_+_, _*_, _-_, _≤_, _<_};
+ghost use lib.ListN.{length};
 ghost use lib.Seq.{sets};
 ghost use Rattle.lists.specs.Lists.{all};
 ghost use Rattle.plane.specs.Triangle.{proper};
-ghost use Rattle.plane.specs.Box.{Framed};
-ghost use Rattle.orthtree.specs.Entries.{span};
-ghost use Rattle.squares.specs.Square.{squareBox, squareKey, quarters, Aligned};
+ghost use Rattle.squares.specs.Square.{squareKey, quarters, Aligned};
 ghost use Rattle.chart_spec.specs.Table.{maxTriangles, numbersPerTriangle, tableOf};
 ghost use Rattle.chart_spec.specs.Cells.{entriesIn, entriesOf, maxEntries};
-ghost use Rattle.shapes.specs.Shape.{coordinates, boxOf};
+ghost use Rattle.shapes.specs.Shape.{coordinates};
 ghost use Rattle.leaves.specs.Packed.{packed};
 ghost use Rattle.candidates.specs.Stack.{Ready, Prepared};
 ghost use Rattle.quadtree.specs.Build.{Candidates, Built};
-
-// The square with its whole border.
-fn frame_of(s: Square) -> Frame
-    requires { ⌜ Aligned s ⌝ }
-    ensures { λ f. ⌜ (boxOf f ≡ squareBox s) × Framed (boxOf f) ⌝ }
-{
-    let side = s.side();
-    let right = s.x + side;
-    let bottom = s.y + side;
-    Frame {
-        left: s.x as u64,
-        top: s.y as u64,
-        right: right as u64,
-        bottom: bottom as u64,
-    }
-}
-
-// Quarter k of a square, in their order.
-fn quarter(s: Square, k: u32) -> Square
-    requires { ⌜ (k < 4) × ((s .level < 16) × ((s .x ≤ 65536) × (s .y ≤ 65536))) ⌝ }
-    ensures { λ q. ⌜ q ≡ getD (quarters s) k s ⌝ }
-{
-    if k == 0 {
-        return s.top_left();
-    }
-    if k == 1 {
-        return s.top_right();
-    }
-    if k == 2 {
-        return s.bottom_left();
-    }
-    s.bottom_right()
-}
-
-// How many keys a quarter of a square of this level covers: 4^(15 - level).
-fn key_step(level: u32) -> u64
-    requires { ⌜ level < 16 ⌝ }
-    ensures { λ r. ⌜ (r ≡ span 4 16 (suc level)) × (r ≤ 1073741824) ⌝ }
-{
-    let side = 32768u64 >> level;
-    side * side
-}
 
 // Builds a square: its entries from `at` on, or most + 1 where they do not fit below place `most`. Its triangles are among the
 // candidates from `from` up to `to` of the stack.
@@ -86,12 +41,12 @@ fn build_square(
     if most < at {
         return most + 1;
     }
-    let f = frame_of(s);
+    let f = quarters::frame_of(s);
     let top = candidates::narrow(shape, offsets, stack, from, to, f);
     if stopping::is_stopped(corners, n, shape, offsets, stack, to, top, s, f) {
         return leaves::put_leaf(stack, to, top, leaves::head_of(key, s.level), out, at, most);
     }
-    let step = key_step(s.level);
+    let step = quarters::key_step(s.level);
     let mut first = key;
     let mut next = at;
     for k in 0..4u32 {
@@ -103,7 +58,7 @@ fn build_square(
             stack,
             to,
             top,
-            quarter(s, k),
+            quarters::quarter(s, k),
             first,
             out,
             next,

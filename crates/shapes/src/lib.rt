@@ -1,6 +1,5 @@
-// Boxes tested against triangles by numbers that depend on a triangle alone: for each side the sizes and signs of D's
-// coefficients and its bounding box, and the triangle's bounding box. A box is tested by one corner for each side, and by no
-// signed number.
+// Numbers that depend on a triangle alone, by which boxes are tested: for each side the sizes and signs of D's coefficients and
+// its bounding box, and the triangle's bounding box. A box is tested by one corner for each side, and by no signed number.
 //
 // For a side from p to q let X(c) be c.x where q.y <= p.y, and 65536 - c.x elsewhere; let Y(c) be c.y where p.x <= q.x, and
 // 65536 - c.y elsewhere. Then D(p,q,c) = V(c) - V(p), where V(c) = |p.y - q.y| X(c) + |q.x - p.x| Y(c).
@@ -9,7 +8,7 @@ ghost use mathlib.Core.Path.{_≡_};
 ghost use Prim.Native.Nat.{_+_, _*_, _≤_};
 ghost use lib.ListN.{length};
 ghost use Rattle.plane.specs.Box.{Framed};
-ghost use Rattle.shapes.specs.Shape.{chosen, boxOf, reachAt, baseAt, touchesAt, triangleMeetsAt, sideMeetsAt};
+ghost use Rattle.shapes.specs.Shape.{chosen, boxOf, reachAt, baseAt};
 
 // A box of the grid: left ≤ right ≤ 65536 and top ≤ bottom ≤ 65536.
 pub struct Frame {
@@ -35,7 +34,7 @@ pub fn times(a: u16, b: u64) -> u64
 }
 
 // V at the corner of the frame where it is largest, for the side whose numbers start at k.
-fn reach(shape: &[u16], k: usize, f: Frame) -> u64
+pub fn reach(shape: &[u16], k: usize, f: Frame) -> u64
     requires { ⌜ (k + 4 ≤ length (now shape)) × Framed (boxOf f) ⌝ }
     ensures { λ r. ⌜ r ≡ reachAt (now (shape .entry)) k (boxOf f) ⌝ }
 {
@@ -44,42 +43,10 @@ fn reach(shape: &[u16], k: usize, f: Frame) -> u64
 }
 
 // V at the corner where it is smallest.
-fn base(shape: &[u16], k: usize, f: Frame) -> u64
+pub fn base(shape: &[u16], k: usize, f: Frame) -> u64
     requires { ⌜ (k + 4 ≤ length (now shape)) × Framed (boxOf f) ⌝ }
     ensures { λ r. ⌜ r ≡ baseAt (now (shape .entry)) k (boxOf f) ⌝ }
 {
     times(shape[k], choose(shape[k + 2], 65536 - f.right, f.left))
         + times(shape[k + 1], choose(shape[k + 3], 65536 - f.bottom, f.top))
-}
-
-// The box whose numbers start at k is not strictly apart from the frame.
-fn touches(shape: &[u16], k: usize, f: Frame) -> bool
-    requires { ⌜ k + 4 ≤ length (now shape) ⌝ }
-    ensures { λ o. ⌜ o ≡ touchesAt (now (shape .entry)) k (boxOf f) ⌝ }
-{
-    (f.left <= numbers::wide(shape[k + 2]))
-        & (numbers::wide(shape[k]) <= f.right)
-        & (f.top <= numbers::wide(shape[k + 3]))
-        & (numbers::wide(shape[k + 1]) <= f.bottom)
-}
-
-// Triangle i meets the frame.
-pub fn triangle_meets(shape: &[u16], offsets: &[u64], i: usize, f: Frame) -> bool
-    requires { ⌜ (28 * i + 28 ≤ length (now shape)) × ((3 * i + 3 ≤ length (now offsets)) × Framed (boxOf f)) ⌝ }
-    ensures { λ o. ⌜ o ≡ triangleMeetsAt (now (shape .entry)) (now (offsets .entry)) i (boxOf f) ⌝ }
-{
-    if touches(shape, 28 * i + 24, f) {
-        return (offsets[3 * i] <= reach(shape, 28 * i, f))
-            & (offsets[3 * i + 1] <= reach(shape, 28 * i + 8, f))
-            & (offsets[3 * i + 2] <= reach(shape, 28 * i + 16, f));
-    }
-    false
-}
-
-// The side whose numbers start at k, with the offset v, meets the frame, where its triangle does: V reaches v then.
-pub fn side_meets(shape: &[u16], k: usize, v: u64, f: Frame) -> bool
-    requires { ⌜ (k + 8 ≤ length (now shape)) × Framed (boxOf f) ⌝ }
-    ensures { λ o. ⌜ o ≡ sideMeetsAt (now (shape .entry)) k v (boxOf f) ⌝ }
-{
-    touches(shape, k + 4, f) & (base(shape, k, f) <= v)
 }

@@ -17,9 +17,9 @@ pub fn sides_met(shape: &[u16], offsets: &[u64], i: usize, f: Frame) -> u32
     requires { ⌜ ((28 * i + 28 ≤ length (now shape)) × (3 * i + 3 ≤ length (now offsets))) × Framed (boxOf f) ⌝ }
     ensures { λ r. ⌜ (r ≡ maskOf (sidesMet (now (shape .entry)) (now (offsets .entry)) (boxOf f) i)) × (r < 8) ⌝ }
 {
-    let ab = shapes::side_meets(shape, 28 * i, offsets[3 * i], f);
-    let bc = shapes::side_meets(shape, 28 * i + 8, offsets[3 * i + 1], f);
-    let ca = shapes::side_meets(shape, 28 * i + 16, offsets[3 * i + 2], f);
+    let ab = box_tests::side_meets(shape, 28 * i, offsets[3 * i], f);
+    let bc = box_tests::side_meets(shape, 28 * i + 8, offsets[3 * i + 1], f);
+    let ca = box_tests::side_meets(shape, 28 * i + 16, offsets[3 * i + 2], f);
     (ab as u32) + 2 * (bc as u32) + 4 * (ca as u32)
 }
 

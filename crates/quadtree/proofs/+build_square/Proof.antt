@@ -23,13 +23,13 @@ use borrow.Fn.PlainCycle.{Measures, is, falls, and}
 use Rattle.quadtree.proofs.build_square.Reads as build-square
 use Rattle.quadtree.proofs.build_square.Kinds as build-square-kinds
 use Rattle.quadtree.proofs.+build_square.Lts-build_square as build-square-lts
-use Rattle.quadtree.proofs.frame_of.Reads as frame-of-reads
+use Rattle.quarters.proofs.frame_of.Reads as frame-of-reads
 use Rattle.leaves.proofs.head_of.Reads as head-of-reads
 use Rattle.stopping.proofs.is_stopped.Reads as is-stopped-reads
-use Rattle.quadtree.proofs.key_step.Reads as key-step-reads
+use Rattle.quarters.proofs.key_step.Reads as key-step-reads
 use Rattle.candidates.proofs.narrow.Reads as narrow-reads
 use Rattle.leaves.proofs.put_leaf.Reads as put-leaf-reads
-use Rattle.quadtree.proofs.quarter.Reads as quarter-reads
+use Rattle.quarters.proofs.quarter.Reads as quarter-reads
 use Rattle.quadtree.proofs.+build_square.{statement}
 use Rattle.quadtree.proofs.+build_square.Tie.{close}
 

@@ -3,10 +3,10 @@ use mathlib.Core.Bool.{_&&_}
 use Prim.Native.Nat.{_+_, _*_}
 use lib.Dec.{leb}
 use lib.ListN.{getD}
 use Rattle.shapes.specs.Shape.{boxOf, reachAt, triangleMeetsAt}
 use borrow.Author.Needs.{needs}
-use Rattle.shapes.proofs.triangle_meets.Statement.{statement}
-use Rattle.shapes.proofs.triangle_meets.Tie as tie
+use Rattle.box_tests.proofs.triangle_meets.Statement.{statement}
+use Rattle.box_tests.proofs.triangle_meets.Tie as tie
 
 mul-touches : tie.Need-mul-touches
 mul-touches c = search needs

@@ -1,10 +1,10 @@
 use mathlib.Core.Path.{ap, ap₂}
 use mathlib.Core.Bool.{_&&_}
 use lib.Dec.{leb}
 use Rattle.shapes.specs.Shape.{sideMeetsAt}
 use borrow.Author.Needs.{needs}
-use Rattle.shapes.proofs.side_meets.Statement.{statement}
-use Rattle.shapes.proofs.side_meets.Tie as tie
+use Rattle.box_tests.proofs.side_meets.Statement.{statement}
+use Rattle.box_tests.proofs.side_meets.Tie as tie
 
 add-touches : tie.Need-add-touches
 add-touches c = search needs

@@ -2,8 +2,8 @@ use Prim.Native.Nat.{_+_}
 use native.Mathlib.Omega.{arith}
 use Rattle.squares.specs.Square.{squareBox}
 use borrow.Author.Needs.{needs}
-use Rattle.quadtree.proofs.frame_of.Statement.{statement}
-use Rattle.quadtree.proofs.frame_of.Tie as tie
+use Rattle.quarters.proofs.frame_of.Statement.{statement}
+use Rattle.quarters.proofs.frame_of.Tie as tie
 
 side-requires : tie.Need-side-requires
 side-requires c κs = search needs

@@ -3,8 +3,8 @@ use native.Mathlib.Omega.{arith}
 use lib.ListN.{getD}
 use Rattle.squares.specs.Square.{quarters}
 use borrow.Author.Needs.{needs}
-use Rattle.quadtree.proofs.quarter.Statement.{statement}
-use Rattle.quadtree.proofs.quarter.Tie as tie
+use Rattle.quarters.proofs.quarter.Statement.{statement}
+use Rattle.quarters.proofs.quarter.Tie as tie
 
 top-left-requires : tie.Need-top-left-requires
 top-left-requires c κs = search needs

@@ -1,7 +1,7 @@
 use Rattle.shapes.specs.Shape.{touchesAt}
 use borrow.Author.Needs.{needs}
-use Rattle.shapes.proofs.touches.Statement.{statement}
-use Rattle.shapes.proofs.touches.Tie as tie
+use Rattle.box_tests.proofs.touches.Statement.{statement}
+use Rattle.box_tests.proofs.touches.Tie as tie
 
 add-wide : tie.Need-add-wide
 add-wide c = search needs

@@ -1,8 +1,8 @@
 use native.Mathlib.Omega.{arith}
-use Rattle.quadtree.proofs.WalkLaws.{key-step-is}
+use Rattle.quarters.proofs.StepLaws.{key-step-is}
 use borrow.Author.Needs.{needs}
-use Rattle.quadtree.proofs.key_step.Statement.{statement}
-use Rattle.quadtree.proofs.key_step.Tie as tie
+use Rattle.quarters.proofs.key_step.Statement.{statement}
+use Rattle.quarters.proofs.key_step.Tie as tie
 
 shr-side : tie.Need-shr-side
 shr-side c = search needs

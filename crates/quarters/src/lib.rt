@@ -1,0 +1,53 @@
+// The square of a cell as a frame, its quarters in their order, and how many keys a quarter covers.
+
+use shapes::Frame;
+use squares::Square;
+ghost use mathlib.Core.Path.{_≡_};
+ghost use Prim.Native.Nat.{suc, _+_, _*_, _-_, _≤_, _<_};
+ghost use lib.ListN.{getD};
+ghost use Rattle.plane.specs.Box.{Framed};
+ghost use Rattle.orthtree.specs.Entries.{span};
+ghost use Rattle.squares.specs.Square.{squareBox, quarters, Aligned};
+ghost use Rattle.shapes.specs.Shape.{boxOf};
+
+// The square with its whole border.
+pub fn frame_of(s: Square) -> Frame
+    requires { ⌜ Aligned s ⌝ }
+    ensures { λ f. ⌜ (boxOf f ≡ squareBox s) × Framed (boxOf f) ⌝ }
+{
+    let side = s.side();
+    let right = s.x + side;
+    let bottom = s.y + side;
+    Frame {
+        left: s.x as u64,
+        top: s.y as u64,
+        right: right as u64,
+        bottom: bottom as u64,
+    }
+}
+
+// Quarter k of a square, in their order.
+pub fn quarter(s: Square, k: u32) -> Square
+    requires { ⌜ (k < 4) × ((s .level < 16) × ((s .x ≤ 65536) × (s .y ≤ 65536))) ⌝ }
+    ensures { λ q. ⌜ q ≡ getD (quarters s) k s ⌝ }
+{
+    if k == 0 {
+        return s.top_left();
+    }
+    if k == 1 {
+        return s.top_right();
+    }
+    if k == 2 {
+        return s.bottom_left();
+    }
+    s.bottom_right()
+}
+
+// How many keys a quarter of a square of this level covers: 4^(15 - level).
+pub fn key_step(level: u32) -> u64
+    requires { ⌜ level < 16 ⌝ }
+    ensures { λ r. ⌜ (r ≡ span 4 16 (suc level)) × (r ≤ 1073741824) ⌝ }
+{
+    let side = 32768u64 >> level;
+    side * side
+}
