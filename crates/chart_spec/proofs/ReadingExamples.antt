@@ -76,6 +76,11 @@ sound-pairs-example :
 unfolding evaluate
 sound-pairs-example = refl
 
+-- apart by a side of one alone: no side of the other separates the two, in either order
+sound-one-side-example : sound (tri (at 110 110) (at 300 120) (at 120 300) ∷ tri (at 0 0) (at 200 0) (at 0 200) ∷ []) ≡ true
+unfolding evaluate
+sound-one-side-example = refl
+
 -- D of each triangle, added
 totalArea-example : map (λ t. totalArea t) ([] ∷ (tri pa pb pc ∷ []) ∷ (tri pb pa pd ∷ []) ∷ (tri pa pb pc ∷ tri pb pa pd ∷ []) ∷ []) ≡ 0 ∷ 2189 ∷ 554 ∷ 2743 ∷ []
 unfolding evaluate
