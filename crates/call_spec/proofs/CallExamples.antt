@@ -91,7 +91,7 @@ unfolding evaluate
 changedBy-example c = refl
 
 changedBy-done-example : (c : Chart) (t : Table) → changedBy c (done t) ≡ record { number = 0; value = 0; chart = indexedChart c t }
-unfolding evaluate
+unfolding changedBy
 changedBy-done-example c t = refl
 
 -- 1 comes first; then whatever the event comes to, 11 too; a broken chain and wrong entries do not matter
@@ -194,10 +194,10 @@ overlayCall-example = refl
 eventCall-example : (ns : List ℕ) (c : Chart)
     → map (λ e. eventCall e c) (load ns ∷ split 3 (at 5 7) ∷ takeOut (at 5 7) ∷ flip 3 5 ∷ [])
     ≡ loadCall ns c ∷ splitCall 3 (at 5 7) c ∷ takeOutCall (at 5 7) c ∷ flipCall 3 5 c ∷ []
-unfolding evaluate
+unfolding eventCall
 eventCall-example ns c = refl
 
 -- each call gets what the one before it left
 chartAfter-example : (e f : Event) (c : Chart) → chartAfter (e ∷ f ∷ []) c ≡ eventCall f (eventCall e c .chart) .chart
-unfolding evaluate
+unfolding chartAfter
 chartAfter-example e f c = refl
