@@ -56,9 +56,14 @@ event-numbers-example = refl
 
 -- "5 0 1" and chart 0 or 1 has the new table; "5 8" and nothing changes
 event-step-example : (t u : Table) (ns : List ℕ)
-    → eventStep 5 0 (done []) (state t u ns) ∷ eventStep 5 1 (done []) (state t u ns) ∷ eventStep 5 1 (refused notThreeAround) (state t u ns) ∷ []
+    → eventStep 5 0 (done []) (state t u ns)
+    ∷ eventStep 5 1 (done []) (state t u ns)
+    ∷ eventStep 5 0 (refused notThreeAround) (state t u ns)
+    ∷ eventStep 5 1 (refused notThreeAround) (state t u ns)
+    ∷ []
     ≡ record { printed = 53 ∷ 32 ∷ 48 ∷ 32 ∷ 49 ∷ 10 ∷ []; after = state [] u ns }
     ∷ record { printed = 53 ∷ 32 ∷ 48 ∷ 32 ∷ 49 ∷ 10 ∷ []; after = state t [] ns }
+    ∷ record { printed = 53 ∷ 32 ∷ 56 ∷ 10 ∷ []; after = state t u ns }
     ∷ record { printed = 53 ∷ 32 ∷ 56 ∷ 10 ∷ []; after = state t u ns }
     ∷ []
 unfolding evaluate
@@ -81,6 +86,11 @@ load-step-example : (t u : Table)
     ∷ []
 unfolding evaluate
 load-step-example t u = refl
+
+-- whatever waits is loaded as an event, refusal 11 included
+load-any-example : (c : ℕ) (s : State) → loadStep c s ≡ eventStep 2 c (eventOn (load (s .waiting)) (tableIn c s)) (withWaiting [] s)
+unfolding loadStep
+load-any-example c s = refl
 
 found-example : map (λ o. foundNumber o) (none ∷ some 0 ∷ some 31 ∷ []) ≡ 65535 ∷ 0 ∷ 31 ∷ []
 unfolding evaluate
