@@ -7,7 +7,8 @@ use mathlib.Core.Option.{Option, none, some}
 use Prim.Native.Nat.{ℕ}
 use Rattle.chart_spec.specs.Refusals.{shortBuffer, brokenChain, staleEntries, badLength, faultyTriangle, noSuchTriangle, notInside, notThreeAround, noFlip, tableFull, tooManyEntries, tooManyPairs, Outcome, refused, done}
 use Rattle.call_spec.specs.Calls as Calls
-use Rattle.answers.specs.Outcomes.{changeOutcome, changedOf, locatedOutcome, locatedOf, soundnessOutcome, soundnessOf, areaOutcome, areaOf, overlayOutcome, overlaidOf}
+use Rattle.answers.specs.Outcomes.{judgedOutcome, changeOutcome, changedOf, locatedOutcome, locatedOf, soundnessOutcome, soundnessOf, areaOutcome, areaOf, overlayOutcome, overlaidOf}
+use Rattle.answers.specs.declared.Judged.the-variants as judgements
 use Rattle.answers.specs.declared.Change.{Change}
 use Rattle.answers.specs.declared.Change.the-variants as changes
 use Rattle.answers.specs.declared.Changed.{Changed}
@@ -20,6 +21,12 @@ use Rattle.answers.specs.declared.Area.the-variants as areas
 use Rattle.answers.specs.declared.Overlay.{Overlay}
 use Rattle.answers.specs.declared.Overlay.the-variants as overlays
 use Rattle.call_spec.proofs.Evaluate.{evaluate}
+
+-- What judging a chart finds
+
+judged-example : map (λ j. judgedOutcome j) (judgements.Fine ∷ judgements.ShortBuffer ∷ judgements.BrokenChain ∷ judgements.StaleEntries ∷ [])
+    ≡ done true ∷ refused shortBuffer ∷ refused brokenChain ∷ refused staleEntries ∷ []
+judged-example = refl
 
 -- Load and the edits
 
