@@ -51,6 +51,7 @@
 //!   dump BUF [FROM TO]   prints `dump BUF LENGTH v v v ...`
 //!   sum C                prints `sum S`, a checksum of the buffers of chart C:
 //!                        S * 31 + value + 1 modulo 4,294,967,291 for each place
+//!   sum                  the same of both charts and then of pairs
 //!   echo WORDS           prints `echo WORDS`
 //!
 //! A line that is not of these forms, or a value that does not fit its place,
@@ -170,9 +171,9 @@ fn hash(b: &Bench) -> u64 {
     h
 }
 
-/// A short checksum of a chart's buffers, place by place.
-fn checksum(c: &Chart) -> u64 {
-    let mut s = 0;
+/// A short checksum of a chart's buffers, place by place, after one of what went before.
+fn checksum(before: u64, c: &Chart) -> u64 {
+    let mut s = before;
     let mut place = |v: u64| s = (s * 31 + v + 1) % 4_294_967_291;
     c.table.iter().for_each(|v| place(*v as u64));
     c.keys.iter().for_each(|v| place(*v as u64));
@@ -313,10 +314,15 @@ impl Bench {
                 }
                 return Some(Some(s));
             }
+            "sum" if w.len() == 1 => {
+                let both = checksum(checksum(0, &self.charts[0]), &self.charts[1]);
+                let sum = self.pairs.iter().fold(both, |s, v| (s * 31 + *v as u64 + 1) % 4_294_967_291);
+                return Some(Some(format!("sum {sum}")));
+            }
             "sum" => {
                 exact(2)?;
                 let c = &self.charts[chart_number(w[1])?];
-                return Some(Some(format!("sum {}", checksum(c))));
+                return Some(Some(format!("sum {}", checksum(0, c))));
             }
             "copy" => {
                 exact(3)?;

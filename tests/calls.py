@@ -8,14 +8,16 @@ usage: calls.py SEED COUNT    compares; COUNT is at least 5
 The boundaries of document 01's numbers come first: buffers one place short, lists of wrong lengths, triangles with D = 0 and
 D < 0, 16,384 and 16,385 entries, 512 and 513 triangles. Then every fault of the chain rule, one after another, each once with
 nothing else amiss, and counts that are too high. Then entries that are not those of the table, each refusal of each edit, and
-every way in which the triangles of an edit can be turned. Then COUNT charts that are loaded, read, damaged at random and read
-again, and COUNT lists of edits, on meshes and on tables that overlap.
+every way in which the triangles of an edit can be turned. Then overlays: each buffer short, each fault of the chain rule, 4,095,
+4,096 and 4,097 pairs, charts that are not indexed, and small cells over large ones. Then COUNT charts that are loaded, read,
+damaged at random and read again, COUNT lists of edits, on meshes and on tables that overlap, and COUNT pairs of charts that are
+laid over each other, edited and damaged.
 
 A take-out cannot be refused with 11: it takes sides away and adds none, so every cell of the new table is one or more of the old,
 and no cell lists more triangles than those did together.
 
-Buffers have more places than are asked. Before each load every place holds something other than 0, lent or not; the checksum
-that is compared goes over all places of the chart.
+Buffers have more places than are asked. Before each load every place of the chart holds something other than 0, lent or not, and
+so do the pairs before each overlay; the checksum that is compared goes over all places of the chart, or of both and the pairs.
 
 It fails when the engines differ, when a call whose number is known by its making gives another, when something that is to be met
 was not met (see `WANTED`), and when either engine ends with a status other than 0, says something on its standard error or
@@ -23,6 +25,7 @@ does not end."""
 
 import os
 import random
+import re
 import struct
 import sys
 
@@ -31,19 +34,19 @@ import quadtree
 
 PROGRAM = os.path.join(quadtree.ROOT, "target", "bin", "test_calls")
 STORED = os.path.join(quadtree.ROOT, "crates", "test_calls")
-BUFFERS = ["table", "keys", "levels", "tris"]
-TABLE, KEYS, LEVELS, ITEMS = range(4)
-NEEDED = [3072, 16384, 16384, 16384]
+BUFFERS = ["table", "keys", "levels", "tris", "pairs"]
+TABLE, KEYS, LEVELS, ITEMS, PAIRS = range(5)
+NEEDED = [3072, 16384, 16384, 16384, 8192]
 # the places that the program has
-LONGEST = [3100, 16500, 16500, 16500]
-WIDTHS = [65536, 2**32, 256, 65536]
+LONGEST = [3100, 16500, 16500, 16500, 8300]
+WIDTHS = [65536, 2**32, 256, 65536, 65536]
 MARK = 65535
 U = quadtree.U
 V = (65535, 65535, 0, 65535, 65535, 0)
 FLAT = (0, 0, 5, 5, 9, 9)
 REVERSED = (0, 0, 0, 5, 5, 0)
 SOMEWHERE = [(0, 0), (32768, 32767), (32768, 32768), (65535, 0), (65535, 65535)]
-CALLS = {"load": 1, "locate": 2, "listing": 3, "sound": 4, "area": 5, "split": 10, "takeout": 11, "flip": 12}
+CALLS = {"load": 1, "locate": 2, "listing": 3, "sound": 4, "area": 5, "split": 10, "takeout": 11, "flip": 12, "overlay": 13}
 EDITS = ["split", "takeout", "flip"]
 # U split at INNER, then V; and an edit of each kind that this table allows
 INNER = (10000, 10000)
@@ -90,6 +93,13 @@ class Script:
         for edit in ALLOWED:
             self.call(shows, number, *edit)
 
+    def overlay(self, first=0, second=1, shows="", number=None):
+        """An overlay into pairs that hold anything."""
+        self.fill(PAIRS, self.rng.randrange(1, 65536))
+        self.put(PAIRS, NEEDED[PAIRS], *self.drawn_values(PAIRS, 2 if self.short else LONGEST[PAIRS] - NEEDED[PAIRS]))
+        self.on(first)
+        self.call(shows, number, "overlay", second)
+
     def put(self, buffer, place, *values):
         """Values at a place and those after it."""
         self.steps.append(("put", self.chart, buffer, place, [v % WIDTHS[buffer] for v in values]))
@@ -125,7 +135,7 @@ def program_data(steps):
     """The steps as the program reads them."""
 
     def step(what, chart, buffer=0, a=0, b=0, c=0):
-        return struct.pack("<BBHII", what, 4 * chart + buffer, a, b, c)
+        return struct.pack("<BBHII", what, 8 if buffer == PAIRS else 4 * chart + buffer, a, b, c)
 
     data = []
     for what, chart, *rest in steps:
@@ -134,6 +144,8 @@ def program_data(steps):
         elif what == "split":
             t, x, y = rest[0]
             data.append(step(10, chart, b=t, c=x + 65536 * y))
+        elif what == "overlay":
+            data.append(step(13, chart, a=rest[0][0]))
         elif what in CALLS:
             data.append(step(CALLS[what], chart, 0, 0, *rest[0]))
         elif what == "put":
@@ -153,22 +165,26 @@ def program_lines(steps):
 
 def model_lines(steps):
     """The model's lines, with the checksum of the buffers in place of its own hash."""
+
+    def name(chart, buffer):
+        return "pairs" if buffer == PAIRS else f"{BUFFERS[buffer]}{chart}"
+
     text = []
     for chart in range(2):
-        for k, name in enumerate(BUFFERS):
-            text += [f"len {name}{chart} {LONGEST[k]}", f"lend {name}{chart} {NEEDED[k]}"]
+        for k in range(5):
+            text += [f"len {name(chart, k)} {LONGEST[k]}", f"lend {name(chart, k)} {NEEDED[k]}"]
     for what, chart, *rest in steps:
         if what == "put":
-            text.append(f"set {BUFFERS[rest[0]]}{chart} {rest[1]} " + " ".join(map(str, rest[2])))
+            text.append(f"set {name(chart, rest[0])} {rest[1]} " + " ".join(map(str, rest[2])))
         elif what == "fill":
-            text.append(f"fill {BUFFERS[rest[0]]}{chart} {rest[1]}")
+            text.append(f"fill {name(chart, rest[0])} {rest[1]}")
         elif what == "counts":
             text.append(f"counts {chart} {rest[0]} {rest[1]}")
         elif what == "lend":
-            text.append(f"lend {BUFFERS[rest[0]]}{chart} {rest[1]}")
+            text.append(f"lend {name(chart, rest[0])} {rest[1]}")
         else:
             text.append(f"{what} {chart} " + " ".join(map(str, rest[0])))
-            text.append(f"sum {chart}")
+            text.append("sum" if what == "overlay" else f"sum {chart}")
     lines = quadtree.run([quadtree.MODEL, "calls"], "\n".join(text).encode()).split("\n")[:-1]
     return [call.rsplit(" ", 1)[0] + " " + total.split()[1] for call, total in zip(lines[::2], lines[1::2])]
 
@@ -745,6 +761,159 @@ def drawn_edits(s, name):
     s.measure()
 
 
+# ---- overlays that are run
+
+
+def both(s, first, second, shows="", number=0):
+    """The tables of two charts."""
+    for chart, table in enumerate((first, second)):
+        s.on(chart)
+        s.table(table, shows, number)
+
+
+def known_overlays(s):
+    """Overlays whose pairs and meetings are known; what they are to show says them, and `given` asserts it."""
+    both(s, [U], [V])
+    s.overlay(shows="0 pairs, 7 meetings", number=0)
+    s.overlay(1, 0, "0 pairs, 7 meetings", 0)
+    s.overlay(0, 0, "1 pairs, 7 meetings", 0)
+    s.overlay(1, 1, "1 pairs, 4 meetings", 0)
+    both(s, [], [])
+    s.overlay(shows="0 pairs, 1 meetings", number=0)
+    both(s, [U, V], [])
+    s.overlay(shows="0 pairs, 7 meetings", number=0)
+    s.overlay(0, 0, "2 pairs, 7 meetings", 0)
+    # copies: every triangle of one shares ground with every triangle of the other
+    for n, m in ((63, 65), (64, 64), (17, 241), (8, 512), (512, 8), (1, 512), (9, 512), (512, 512), (65, 63), (241, 17)):
+        both(s, [U] * n, [turned(U, 1)] * m)
+        if n * m <= 4096:
+            s.overlay(shows=f"{n * m} pairs, 7 meetings", number=0)
+        else:
+            s.overlay(shows=f"over 4096 pairs: {n * m}", number=12)
+    s.overlay(1, 1, "289 pairs, 7 meetings", 0)
+    s.overlay(0, 0, "over 4096 pairs: a chart with itself", 12)
+
+
+def touching(s):
+    """Triangles that share a side, a corner, a part of a side, or ground that no corner shows."""
+    base = (1000, 1000, 3000, 1000, 1000, 3000)
+    seconds = {
+        "a shared side": (3000, 1000, 3000, 3000, 1000, 3000),
+        "a shared corner": (3000, 1000, 4000, 1000, 4000, 2000),
+        "a part of a side": (2000, 2000, 3000, 1000, 3000, 3000),
+        "one inside the other": (1100, 1100, 1200, 1100, 1100, 1200),
+        "sides that cross": (500, 2000, 900, 1100, 3500, 1200),
+        "the same triangle": base,
+        "one unit of overlap": (1999, 2000, 3000, 1000, 3000, 3000),
+        "apart": (40000, 40000, 41000, 40000, 40000, 41000),
+    }
+    both(s, [base], [t for t in seconds.values() if quadtree.orientation(t) > 0])
+    s.overlay(shows="touching", number=0)
+    s.overlay(1, 0, "touching", 0)
+    s.overlay(1, 1, "touching", 0)
+
+
+def overlay_refusals(s):
+    """Each buffer of each chart and the pairs short, each chart's chain broken, and their order."""
+    both(s, [U, V], [V, U])
+    for chart in range(2):
+        for k in range(4):
+            for short in (NEEDED[k] - 1, 0):
+                s.on(chart)
+                s.lend(k, short)
+                shows = f"short {BUFFERS[k]} of chart {chart}"
+                s.overlay(shows=shows, number=1)
+                s.overlay(1, 0, shows, 1)
+                s.overlay(chart, chart, shows, 1)
+                s.overlay(1 - chart, 1 - chart, "the other chart alone", 0)
+                s.on(1 - chart)
+                s.counts(2, 9)
+                s.overlay(shows="1 of one before 2 of the other", number=1)
+                s.on(1 - chart)
+                s.counts(2, 10)
+                s.on(chart)
+                s.lend(k, NEEDED[k])
+    for short in (8191, 8190, 1, 0):
+        s.lend(PAIRS, short)
+        s.overlay(shows="short pairs", number=1)
+        s.counts(2, 9)
+        s.overlay(shows="1 before 2", number=1)
+        s.counts(2, 10)
+    s.lend(PAIRS, LONGEST[PAIRS])
+    s.overlay(shows="longer pairs", number=0)
+    s.lend(PAIRS, NEEDED[PAIRS])
+    both(s, [U] * 65, [U] * 65)
+    for chart in range(2):
+        s.on(chart)
+        s.counts(65, 0)
+        s.overlay(shows="2 before 12", number=2)
+        s.on(chart)
+        s.counts(65, 391)
+    s.overlay(shows="over 4096 pairs: 4225", number=12)
+
+
+def overlay_damaged(s):
+    """Charts that the chain rule refuses, and charts that it allows though they are not indexed."""
+    both(s, [U, V], [V, U, U])
+    for shows, (changes, number) in CHANGES.items():
+        s.on(0)
+        s.table([U, V])
+        for change in changes:
+            s.counts(*change[1:]) if change[0] == "counts" else s.put(*change)
+        s.overlay(shows=shows, number=number)
+        s.overlay(1, 0, shows, number)
+        s.overlay(0, 0, shows, number)
+    for shows, (entries, number) in CHAINS.items():
+        s.on(0)
+        s.table([U, V])
+        s.entries(2, entries)
+        s.overlay(shows=shows, number=number)
+        s.overlay(1, 0, shows, number)
+
+
+def deep(s):
+    """Chains from the whole square down to squares of one key, one against the other."""
+    down = [(key, level, k % 3 if k % 3 < 2 else MARK) for k, (key, level, _) in enumerate([(0, 16, 0)] + ladder(1, range(16, 0, -1)))]
+    up = [(2**32 - key - 4 ** (16 - level), level, item) for key, level, item in reversed(down)]
+    chains = {
+        "one cell": [(0, 0, 0), (0, 0, 1)],
+        "sixteen cells": [(key, level, k % 2) for k, (key, level, _) in enumerate(grid())],
+        "down": down,
+        "up": up,
+        "4096 cells": [(2**20 * k, 6, k % 2) for k in range(4096)],
+        "16384 cells": [(2**18 * k, 7, k % 2) for k in range(16384)],
+    }
+    both(s, [U, V], [V, U])
+    for a, first in chains.items():
+        s.on(0)
+        s.entries(2, first)
+        for b, second in chains.items():
+            s.on(1)
+            s.entries(2, second)
+            s.overlay(shows=f"{a} over {b}", number=0)
+
+
+def drawn_overlays(s):
+    """Two drawn charts, one over the other; then edits, and damage."""
+    rng = s.rng
+    for chart in range(2):
+        s.on(chart)
+        table = quadtree.KINDS[rng.choice(["soup", "mesh", "slivers", "borders", "repeated", "copies"])](rng)
+        s.table(table[:80] if rng.random() < 0.8 else table)
+    for first, second in ((0, 1), (1, 0), (0, 0)):
+        s.overlay(first, second, "drawn overlay")
+    for _ in range(3):
+        s.on(rng.randrange(2))
+        s.call("", None, "split", rng.randrange(3), *quadtree.anywhere(rng))
+        s.call("", None, "flip", rng.randrange(4), rng.randrange(4))
+        s.overlay(shows="drawn overlay after edits")
+    for _ in range(3):
+        s.on(rng.randrange(2))
+        buffer = rng.randrange(4)
+        s.put(buffer, rng.choice([0, 1, rng.randrange(20)]), rng.choice([0, 1, 2, 16, 65535, rng.randrange(600)]))
+        s.overlay(shows="drawn overlay of damage")
+
+
 # ---- what is met
 
 # each number that each call can give, with its values
@@ -795,6 +964,16 @@ flip: a triangle that is not there; flip: a triangle with itself; flip: no trian
 flip: the side in the same direction; flip: a repeated triangle; flip: a part of the side shared; flip: the first with D = 0;
 flip: the second with D = 0; flip: the first with D < 0; flip: the second with D < 0; flip: among overlaps; drawn split 0;
 drawn split 6; drawn split 7; drawn takeout 0; drawn takeout 8; drawn flip 0; drawn flip 6; drawn flip 9""".replace("\n", " ").split("; ")
+# each number that an overlay can give, and what it is called on
+WANTED += [f"overlay {n}" for n in (0, 1, 2, 12)] + [f"overlay of {n}" for n in (0, 1, 4095, 4096)]
+WANTED += [f"overlay: {shows}" for shows in (*CHANGES, *CHAINS)]
+WANTED += [f"overlay: short {BUFFERS[k]} of chart {c}" for k in range(4) for c in range(2)]
+WANTED += [f"overlay: over 4096 pairs: {n}" for n in (4097, 4608, 262144, 4225, "a chart with itself")]
+WANTED += """overlay: 4095 pairs, 7 meetings; overlay: 4096 pairs, 7 meetings; overlay: 512 pairs, 7 meetings; overlay: 289 pairs, 7 meetings;
+overlay: short pairs; overlay: 1 before 2; overlay: 1 of one before 2 of the other; overlay: the other chart alone; overlay: 2 before 12;
+overlay: longer pairs; overlay: touching; overlay: drawn overlay; overlay: drawn overlay after edits; overlay: drawn overlay of damage;
+overlay: 16384 cells over down; overlay: down over up; overlay: one cell over 16384 cells; overlay: 16384 cells over 16384 cells;
+drawn overlay 0; drawn overlay 2""".replace("\n", " ").split("; ")
 
 
 def met(shows, words, before):
@@ -807,6 +986,13 @@ def met(shows, words, before):
             yield f"drawn {call} {number}"
         if number == "0":
             yield f"{call} of {words[4]}"
+        return
+    if call == "overlay":
+        yield f"overlay {number}"
+        yield f"overlay: {shows}"
+        yield f"overlay of {words[2]}"
+        if shows.startswith("drawn"):
+            yield f"drawn overlay {number}"
         return
     if shows:
         yield shows
@@ -832,8 +1018,10 @@ def met(shows, words, before):
         yield "area 0 above 2^32" if int(words[2]) > 2**32 else f"area 0 {words[2]}"
 
 
-def given(words, number):
-    """Whether a call gave a number; a listing has none and is empty at a refusal."""
+def given(words, shows, number):
+    """Whether a call gave a number; a listing has none and is empty at a refusal. An overlay may have to give pairs and meetings."""
+    if words[0] == "overlay" and re.fullmatch(r"\d+ pairs, \d+ meetings", shows):
+        return words[1:4] == ["0"] + re.findall(r"\d+", shows)
     return number is None or (words[0] == "listing" and (number == 0 or words[1] == "0")) or words[1] == str(number)
 
 
@@ -848,6 +1036,8 @@ def fixed(s):
     s.on(1)
     for part in (stale, splits, take_outs, flips, full):
         part(s)
+    for part in (known_overlays, touching, overlay_refusals, overlay_damaged, deep):
+        part(s)
 
 
 def store():
@@ -858,7 +1048,7 @@ def store():
     s.table([V, FLAT], number=5)
     damaged(s)
     s.on(1)
-    for part in (stale, splits, take_outs, flips, full):
+    for part in (stale, splits, take_outs, flips, full, known_overlays, touching, overlay_refusals, overlay_damaged):
         part(s)
     with open(os.path.join(STORED, "stdin"), "wb") as f:
         f.write(program_data(s.steps))
@@ -877,6 +1067,7 @@ def main():
     for k in range(count):
         drawn(s)
         drawn_edits(s, list(STARTS)[k % len(STARTS)])
+        drawn_overlays(s)
     ours, theirs = program_lines(s.steps), model_lines(s.steps)
     print(f"{len(s.shown)} calls, seed {seed}")
     if not len(ours) == len(theirs) == len(s.shown):
@@ -885,7 +1076,7 @@ def main():
     seen, before = {}, []
     for k, (a, b, (shows, number)) in enumerate(zip(ours, theirs, s.shown)):
         words = b.split()
-        if a != b or not given(words, number):
+        if a != b or not given(words, shows, number):
             print(f"call {k}, {shows}, to give {number}: program {a[:200]}")
             print(f"call {k}, {shows}, to give {number}: model   {b[:200]}")
             return 1

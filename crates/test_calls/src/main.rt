@@ -1,15 +1,18 @@
 // Runs calls on two charts whose buffers may be damaged: reads steps from standard input and prints what each call answers.
 //
-// A step is twelve bytes: what to do, a buffer (0 table, 1 keys, 2 levels, 3 triangle numbers; of chart 1: four more), a 16-bit
-// number a and two 32-bit numbers b and c, low byte first. A call goes by the chart of the buffer.
+// A step is twelve bytes: what to do, a buffer (0 table, 1 keys, 2 levels, 3 triangle numbers; of chart 1: four more; 8 pairs), a
+// 16-bit number a and two 32-bit numbers b and c, low byte first. A call goes by the chart of the buffer.
 //   1 load of the a numbers that follow, two bytes each    2 locate (b, c)    3 cell listing of (b, c)    4 soundness
 //   5 doubled area    6 put b at place a of a buffer    7 lend a places of a buffer    8 counts b and c
 //   9 put b at every place of a buffer    10 split triangle b at (c mod 65536, c / 65536)    11 take out (b, c)    12 flip b, c
-// Each call prints a line: its name, what it answers, and a checksum of all places of the chart's buffers, lent or not.
+//   13 overlay of the chart and chart a
+// Each call prints a line: its name, what it answers, and a checksum of all places of the chart's buffers, lent or not; an overlay
+// one of all places of both charts and of the pairs.
 
 use answers::Area;
 use answers::Changed;
 use answers::Located;
+use answers::Overlaid;
 use answers::Soundness;
 use libc::STDIN_FILENO;
 use libc::STDOUT_FILENO;
@@ -83,6 +86,14 @@ fn print_area(r: Area) {
     print(answers::area_value(r));
 }
 
+fn print_overlaid(r: Overlaid) {
+    let overlay = r.overlay;
+    say(b"overlay");
+    print(answers::overlay_number(overlay) as u64);
+    print(r.pairs as u64);
+    print(r.meetings as u64);
+}
+
 fn print_list(list: &[u16]) {
     print(list.len() as u64);
     let mut k = 0;
@@ -94,7 +105,7 @@ fn print_list(list: &[u16]) {
 
 // The checksum of a chart ends a line.
 fn print_sum(chart: usize, table: &[u16], keys: &[u32], levels: &[u8], items: &[u16]) {
-    print(test_support::sum_chart(chart, table, keys, levels, items));
+    print(test_support::sum_chart(chart, table, keys, levels, items, 0));
     say(b"\n");
 }
 
@@ -229,25 +240,75 @@ fn say_answer(
     levels: &[u8],
     items: &[u16],
 ) {
-    let t = test_support::start(chart, test_support::TABLE, table.len());
-    let k = test_support::start(chart, test_support::LIST, keys.len());
-    let v = test_support::start(chart, test_support::LIST, levels.len());
-    let i = test_support::start(chart, test_support::LIST, items.len());
-    let t_end = test_support::end(t, l.table, test_support::TABLE, table.len());
-    let k_end = test_support::end(k, l.keys, test_support::LIST, keys.len());
-    let v_end = test_support::end(v, l.levels, test_support::LIST, levels.len());
-    let i_end = test_support::end(i, l.items, test_support::LIST, items.len());
-    answer(
-        what,
-        &table[t..t_end],
-        &keys[k..k_end],
-        &levels[v..v_end],
-        &items[i..i_end],
-        l.triangles,
-        l.entries,
-        p,
-    );
+    let t = test_support::lent_shorts(table, chart, test_support::TABLE, l.table);
+    let k = test_support::lent_keys(keys, chart, l.keys);
+    let v = test_support::lent_levels(levels, chart, l.levels);
+    let i = test_support::lent_shorts(items, chart, test_support::LIST, l.items);
+    answer(what, t, k, v, i, l.triangles, l.entries, p);
     print_sum(chart, table, keys, levels, items);
+}
+
+// The overlay of two charts in the buffers of both.
+fn overlay_of(
+    a: Lent,
+    i: usize,
+    b: Lent,
+    j: usize,
+    table: &[u16],
+    keys: &[u32],
+    levels: &[u8],
+    items: &[u16],
+    pairs: &mut [u16],
+) -> Overlaid {
+    overlay::overlay(
+        test_support::lent_shorts(table, i, test_support::TABLE, a.table),
+        test_support::lent_keys(keys, i, a.keys),
+        test_support::lent_levels(levels, i, a.levels),
+        test_support::lent_shorts(items, i, test_support::LIST, a.items),
+        a.triangles,
+        a.entries,
+        test_support::lent_shorts(table, j, test_support::TABLE, b.table),
+        test_support::lent_keys(keys, j, b.keys),
+        test_support::lent_levels(levels, j, b.levels),
+        test_support::lent_shorts(items, j, test_support::LIST, b.items),
+        b.triangles,
+        b.entries,
+        pairs,
+    )
+}
+
+// The overlay of charts i and j, and its line.
+fn say_overlay(
+    state: State,
+    i: usize,
+    j: usize,
+    table: &[u16],
+    keys: &[u32],
+    levels: &[u8],
+    items: &[u16],
+    pairs: &mut [u16],
+) {
+    let n = test_support::least(state.pairs, pairs.len());
+    let a = test_support::chart_of(state, i);
+    let b = test_support::chart_of(state, j);
+    print_overlaid(overlay_of(a, i, b, j, table, keys, levels, items, &mut pairs[0..n]));
+    print(test_support::sum_all(table, keys, levels, items, pairs));
+    say(b"\n");
+}
+
+// One step on the pairs.
+fn step_pairs(state: State, what: u8, a: usize, b: u32, pairs: &mut [u16]) -> State {
+    if what == 6 {
+        test_support::put_short(pairs, a, b);
+        return state;
+    }
+    if what == 7 {
+        return test_support::with_pairs(state, a);
+    }
+    if what == 9 {
+        test_support::fill_pairs(pairs, b);
+    }
+    state
 }
 
 // One step on a chart, by its twelve bytes.
@@ -301,26 +362,43 @@ fn step(
     keys: &mut [u32],
     levels: &mut [u8],
     items: &mut [u16],
+    pairs: &mut [u16],
 ) -> State
     requires { ⌜ 12 ≤ length (now s) ⌝ }
 {
+    let what = s[0];
     let chart = (s[1] / 4 % 2) as usize;
+    let a = test_support::short_at(s, 2) as usize;
+    if s[1] >= 8 {
+        return step_pairs(state, what, a, test_support::long_at(s, 4), pairs);
+    }
+    if what == 13 {
+        say_overlay(state, chart, a % 2, table, keys, levels, items, pairs);
+        return state;
+    }
     let l = test_support::chart_of(state, chart);
     let after = step_chart(l, chart, s, table, keys, levels, items);
     test_support::with_chart(state, chart, after)
 }
 
 // All steps of the input.
-fn run(table: &mut [u16], keys: &mut [u32], levels: &mut [u8], items: &mut [u16]) {
+fn run(
+    table: &mut [u16],
+    keys: &mut [u32],
+    levels: &mut [u8],
+    items: &mut [u16],
+    pairs: &mut [u16],
+) {
     let l = test_support::asked();
     let mut state = State {
         first: l,
         second: l,
+        pairs: 8192,
     };
     let mut s = [0u8; 12];
     let mut turns = u64::MAX;
     while turns > 0 && io::read_full(STDIN_FILENO, &mut s) == 12 {
-        state = step(state, &s, table, keys, levels, items);
+        state = step(state, &s, table, keys, levels, items, pairs);
         turns -= 1;
     }
 }
@@ -330,5 +408,6 @@ fn main() {
     let mut keys = [0u32; 33000];
     let mut levels = [0u8; 33000];
     let mut items = [0u16; 33000];
-    run(&mut table, &mut keys, &mut levels, &mut items);
+    let mut pairs = [0u16; 8300];
+    run(&mut table, &mut keys, &mut levels, &mut items, &mut pairs);
 }

@@ -5,10 +5,12 @@
 ghost use Prim.Native.Nat.{_+_, _*_, _≤_, _<_};
 ghost use lib.ListN.{length};
 
-// Places of a chart's table and of each of its lists; the asked lengths are a little shorter.
+// Places of a chart's table, of each of its lists, and of the pairs; the asked lengths are a little shorter.
 pub const TABLE: usize = 3100;
 
 pub const LIST: usize = 16500;
+
+pub const PAIRS: usize = 8300;
 
 // How many places of each buffer of a chart are lent, and its counts.
 pub struct Lent {
@@ -20,10 +22,11 @@ pub struct Lent {
     pub entries: usize,
 }
 
-// The same of both charts.
+// The same of both charts, and how many places of the pairs are lent.
 pub struct State {
     pub first: Lent,
     pub second: Lent,
+    pub pairs: usize,
 }
 
 pub fn least(a: usize, b: usize) -> usize
@@ -50,6 +53,27 @@ pub fn end(a: usize, n: usize, size: usize, length: usize) -> usize
     a + least(least(n, size), length - a)
 }
 
+// The n places, or as many as there are, that are lent of a chart's part of a buffer.
+pub fn lent_shorts(list: &[u16], chart: usize, size: usize, n: usize) -> &[u16]
+    requires { ⌜ size ≤ 65536 ⌝ }
+{
+    let a = start(chart, size, list.len());
+    let e = end(a, n, size, list.len());
+    &list[a..e]
+}
+
+pub fn lent_keys(list: &[u32], chart: usize, n: usize) -> &[u32] {
+    let a = start(chart, LIST, list.len());
+    let e = end(a, n, LIST, list.len());
+    &list[a..e]
+}
+
+pub fn lent_levels(list: &[u8], chart: usize, n: usize) -> &[u8] {
+    let a = start(chart, LIST, list.len());
+    let e = end(a, n, LIST, list.len());
+    &list[a..e]
+}
+
 // The asked lengths, and no triangle and no entry.
 pub fn asked() -> Lent {
     Lent {
@@ -72,10 +96,29 @@ pub fn chart_of(s: State, chart: usize) -> Lent {
 pub fn with_chart(s: State, chart: usize, l: Lent) -> State {
     let first = s.first;
     let second = s.second;
+    let pairs = s.pairs;
     if chart == 0 {
-        return State { first: l, second };
+        return State {
+            first: l,
+            second,
+            pairs,
+        };
     }
-    State { first, second: l }
+    State {
+        first,
+        second: l,
+        pairs,
+    }
+}
+
+pub fn with_pairs(s: State, pairs: usize) -> State {
+    let first = s.first;
+    let second = s.second;
+    State {
+        first,
+        second,
+        pairs,
+    }
 }
 
 pub fn with_counts(l: Lent, triangles: usize, entries: usize) -> Lent {
@@ -188,8 +231,16 @@ pub fn sum_levels(list: &[u8], a: usize, e: usize, from: u64) -> u64
     sum
 }
 
-// A checksum of all places of a chart, lent or not.
-pub fn sum_chart(chart: usize, table: &[u16], keys: &[u32], levels: &[u8], items: &[u16]) -> u64
+// A checksum of what went before, and all places of a chart, lent or not.
+pub fn sum_chart(
+    chart: usize,
+    table: &[u16],
+    keys: &[u32],
+    levels: &[u8],
+    items: &[u16],
+    from: u64,
+) -> u64
+    requires { ⌜ from < 4294967296 ⌝ }
     ensures { λ r. ⌜ r < 4294967296 ⌝ }
 {
     let t = start(chart, TABLE, table.len());
@@ -200,8 +251,17 @@ pub fn sum_chart(chart: usize, table: &[u16], keys: &[u32], levels: &[u8], items
     let k_end = end(k, LIST, LIST, keys.len());
     let v_end = end(v, LIST, LIST, levels.len());
     let i_end = end(i, LIST, LIST, items.len());
-    let sum = sum_keys(keys, k, k_end, sum_shorts(table, t, t_end, 0));
+    let sum = sum_keys(keys, k, k_end, sum_shorts(table, t, t_end, from));
     sum_shorts(items, i, i_end, sum_levels(levels, v, v_end, sum))
+}
+
+// A checksum of all places of both charts and of the pairs.
+pub fn sum_all(table: &[u16], keys: &[u32], levels: &[u8], items: &[u16], pairs: &[u16]) -> u64
+    ensures { λ r. ⌜ r < 4294967296 ⌝ }
+{
+    let first = sum_chart(0, table, keys, levels, items, 0);
+    let both = sum_chart(1, table, keys, levels, items, first);
+    sum_shorts(pairs, 0, pairs.len(), both)
 }
 
 // x at a place of a list, if it has that place.
@@ -269,6 +329,15 @@ pub fn fill(
     let mut i = 0;
     while i < LIST {
         put(chart, buffer, i, x, table, keys, levels, items);
+        i += 1;
+    }
+}
+
+// x at every place of the pairs.
+pub fn fill_pairs(pairs: &mut [u16], x: u32) {
+    let mut i = 0;
+    while i < PAIRS {
+        put_short(pairs, i, x);
         i += 1;
     }
 }

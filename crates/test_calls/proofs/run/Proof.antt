@@ -5,10 +5,10 @@ use Rattle.test_calls.proofs.run.Statement.{statement}
 use Rattle.test_calls.proofs.run.Tie as tie
 
 abbrev Inv-loop : tie.InvT-loop
-Inv-loop table₀ keys₀ levels₀ items₀ state₀ s₀ turns₀ table keys levels items state s turns = (length s ≡ 12) × ((length table ≡ length table₀) × ((length keys ≡ length keys₀) × ((length levels ≡ length levels₀) × (length items ≡ length items₀))))
+Inv-loop table₀ keys₀ levels₀ items₀ pairs₀ state₀ s₀ turns₀ table keys levels items pairs state s turns = (length s ≡ 12) × ((length table ≡ length table₀) × ((length keys ≡ length keys₀) × ((length levels ≡ length levels₀) × ((length items ≡ length items₀) × (length pairs ≡ length pairs₀)))))
 
 abbrev μ-loop : tie.MeasureT-loop
-μ-loop table₀ keys₀ levels₀ items₀ state₀ s₀ turns₀ table keys levels items state s turns = turns
+μ-loop table₀ keys₀ levels₀ items₀ pairs₀ state₀ s₀ turns₀ table keys levels items pairs state s turns = turns
 
 asked-requires : tie.Need-asked-requires Inv-loop μ-loop
 asked-requires c κs = tt
@@ -35,7 +35,7 @@ loop-less : tie.Need-loop-less Inv-loop μ-loop
 loop-less c = omega arith
 
 loop-again : tie.Need-loop-again Inv-loop μ-loop
-loop-again c = omega (arith, c .before .before .before .before .before .before .before .before .step .kept, c .before .before .before .before .before .before .before .before .before .before .before .before .before .before .before .before .before .before .before .loop .inv)
+loop-again c = omega (arith, c .before .before .before .before .before .before .before .before .before .before .step .kept, c .before .before .before .before .before .before .before .before .before .before .before .before .before .before .before .before .before .before .before .before .before .before .loop .inv)
 
 same-length : tie.Need-same-length Inv-loop μ-loop
 same-length c = omega arith
@@ -49,11 +49,11 @@ same-length-3 c = omega arith
 same-length-4 : tie.Need-same-length-4 Inv-loop μ-loop
 same-length-4 c = omega arith
 
-returns : tie.Need-returns Inv-loop μ-loop
-returns c = tt
-
 same-length-5 : tie.Need-same-length-5 Inv-loop μ-loop
 same-length-5 c = omega arith
+
+returns : tie.Need-returns Inv-loop μ-loop
+returns c = tt
 
 same-length-6 : tie.Need-same-length-6 Inv-loop μ-loop
 same-length-6 c = omega arith
@@ -63,6 +63,12 @@ same-length-7 c = omega arith
 
 same-length-8 : tie.Need-same-length-8 Inv-loop μ-loop
 same-length-8 c = omega arith
+
+same-length-9 : tie.Need-same-length-9 Inv-loop μ-loop
+same-length-9 c = omega arith
+
+same-length-10 : tie.Need-same-length-10 Inv-loop μ-loop
+same-length-10 c = omega arith
 
 returns-2 : tie.Need-returns-2 Inv-loop μ-loop
 returns-2 c = tt
@@ -86,9 +92,11 @@ run-spec =
     same-length-2
     same-length-3
     same-length-4
-    returns
     same-length-5
+    returns
     same-length-6
     same-length-7
     same-length-8
+    same-length-9
+    same-length-10
     returns-2)
