@@ -26,7 +26,7 @@ use Rattle.call_laws.proofs.BufferLaws.{ruled, rule-held, searchable}
 use Rattle.answers.specs.declared.Overlay.the-variants as overlays
 use Rattle.answers.specs.declared.Overlaid.{Overlaid}
 use Rattle.answers.specs.Outcomes.{overlaidOf}
-use Rattle.entry_lists.proofs.StoreLaws.{padded-sets}
+use Rattle.list_writes.proofs.StoreLaws.{padded-sets}
 use Rattle.merge.specs.Merge.{Overlapping}
 use Rattle.pair_list.specs.Pairs.{meetsAt, markedAt, rowPairs, markedPairs, Wrote}
 use Rattle.pair_list.proofs.WroteLaws.{numbers-length}
