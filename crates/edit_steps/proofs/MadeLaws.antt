@@ -1,4 +1,4 @@
--- The tables that edits make have D > 0 throughout where the tables before them have.
+-- The tables that edits make have D > 0 throughout where the tables before them have; and what a refusal is answered by.
 -- The idea: the parts of a split and of a flip are tested, and three triangles around a point make one with their areas' sum.
 -- Assumes nothing.
 use mathlib.Core.Path.{_≡_, refl, sym, _∙_, ap}
