@@ -39,24 +39,23 @@ fn chain_rules(
     requires { ⌜ (tooShort (chartOf (now «first_table») (now «first_keys») (now «first_levels») (now «first_items») «first_triangles» «first_entries») ≡ false) × (tooShort (chartOf (now «second_table») (now «second_keys») (now «second_levels») (now «second_items») «second_triangles» «second_entries») ≡ false) ⌝ }
     ensures { λ o. ⌜ o ≡ chainRule (chartOf (now («first_table» .entry)) (now («first_keys» .entry)) (now («first_levels» .entry)) (now («first_items» .entry)) «first_triangles» «first_entries») && chainRule (chartOf (now («second_table» .entry)) (now («second_keys» .entry)) (now («second_levels» .entry)) (now («second_items» .entry)) «second_triangles» «second_entries») ⌝ }
 {
-    if !chains::chain_rule(
+    let first = chains::chain_rule(
         first_table,
         first_keys,
         first_levels,
         first_items,
         first_triangles,
         first_entries,
-    ) {
-        return false;
-    }
-    chains::chain_rule(
+    );
+    let second = chains::chain_rule(
         second_table,
         second_keys,
         second_levels,
         second_items,
         second_triangles,
         second_entries,
-    )
+    );
+    first & second
 }
 
 // A refusal.

@@ -45,7 +45,7 @@ mul-pairs-4 : tie.Need-mul-pairs-4
 mul-pairs-4 c = search needs
 
 slice-write-pairs-2 : tie.Need-slice-write-pairs-2
-slice-write-pairs-2 c = let a = c .before .before .args in omega (arith, length-set (a .pairs .now) (2 * a .c) (a .i))
+slice-write-pairs-2 c = simp length-set (omega arith)
 
 add-result-2 : tie.Need-add-result-2
 add-result-2 c = search needs
