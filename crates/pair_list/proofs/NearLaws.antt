@@ -15,7 +15,7 @@ use lib.ListN.{length, getD, set}
 use Rattle.boxes.specs.Boxes.{clear, boxAt}
 use Rattle.boxes.proofs.CompactLaws.{compact-none, compact-step, compact-skip}
 use Rattle.bitsets.specs.Bits.{wordBit, hasBit}
-use Rattle.pair_list.specs.Pairs.{markedAt, isNear, Near}
+use Rattle.pair_list.specs.Pairs.{markedAt, isNear, NearInRow}
 use Rattle.pair_list.proofs.WordLaws.{Lowest, lowest, bits-before, bit-there, bit-within, bits-after, bits-none}
 
 -- j is below m, or not
@@ -35,7 +35,7 @@ cond-few true c j h = omega arith
 cond-few false c j h = omega arith
 
 -- before the first
-pub near-none : (ls ts rs bs ls′ ts′ rs′ bs′ rows : List ℕ) (m i : ℕ) (near : List ℕ) → Near ls ts rs bs ls′ ts′ rs′ bs′ rows m i near 0 0
+pub near-none : (ls ts rs bs ls′ ts′ rs′ bs′ rows : List ℕ) (m i : ℕ) (near : List ℕ) → NearInRow ls ts rs bs ls′ ts′ rs′ bs′ rows m i near 0 0
 near-none ls ts rs bs ls′ ts′ rs′ bs′ rows m i near =
     record { few = omega arith; listed = compact-none (λ k. isNear ls ts rs bs ls′ ts′ rs′ bs′ rows m i k) near }
 
@@ -48,21 +48,21 @@ word-marks : (rows : List ℕ) (i q b : ℕ) → b < 64 → markedAt rows i (64 
 unfolding hasBit
 word-marks rows i q b h = ap₂ (λ x y. wordBit (getD rows x 0) y) (omega arith) (omega arith)
 
-module _ {ls ts rs bs ls′ ts′ rs′ bs′ rows : List ℕ} {m i : ℕ} {near : List ℕ} {j c : ℕ} (n : Near ls ts rs bs ls′ ts′ rs′ bs′ rows m i near j c) where
+module _ {ls ts rs bs ls′ ts′ rs′ bs′ rows : List ℕ} {m i : ℕ} {near : List ℕ} {j c : ℕ} (n : NearInRow ls ts rs bs ls′ ts′ rs′ bs′ rows m i near j c) where
   -- triangle j, which is marked
   pub near-more : markedAt rows i j ≡ true → (near′ : List ℕ) (r : ℕ) → c < length near → near′ ≡ set near c j
       → r ≡ cond (clear (boxAt ls ts rs bs i) (boxAt ls′ ts′ rs′ bs′ j) || leb m j) c (c + 1)
-      → Near ls ts rs bs ls′ ts′ rs′ bs′ rows m i near′ (j + 1) r
+      → NearInRow ls ts rs bs ls′ ts′ rs′ bs′ rows m i near′ (j + 1) r
   near-more marked near′ r l e g =
       let a = clear (boxAt ls ts rs bs i) (boxAt ls′ ts′ rs′ bs′ j) in
       let test : isNear ls ts rs bs ls′ ts′ rs′ bs′ rows m i j ≡ not (a || leb m j) = ap (λ b. b && not a && ltb j m) marked ∙ passes-not a j m in
-      subst (λ r. Near ls ts rs bs ls′ ts′ rs′ bs′ rows m i near′ (j + 1) r) (sym g) (record {
+      subst (λ r. NearInRow ls ts rs bs ls′ ts′ rs′ bs′ rows m i near′ (j + 1) r) (sym g) (record {
         few = cond-few (a || leb m j) c j (n .few);
         listed = compact-step (λ k. isNear ls ts rs bs ls′ ts′ rs′ bs′ rows m i k) near near′ c j (a || leb m j) test l e (n .listed);
       })
 
   -- triangles that are not marked
-  pub near-skip : (s : ℕ) → ((k : ℕ) → k < s → markedAt rows i (j + k) ≡ false) → Near ls ts rs bs ls′ ts′ rs′ bs′ rows m i near (j + s) c
+  pub near-skip : (s : ℕ) → ((k : ℕ) → k < s → markedAt rows i (j + k) ≡ false) → NearInRow ls ts rs bs ls′ ts′ rs′ bs′ rows m i near (j + s) c
   near-skip s none = record {
     few = omega (arith, n .few);
     listed = n .listed ∙ sym (compact-skip (λ k. isNear ls ts rs bs ls′ ts′ rs′ bs′ rows m i k) j s fails);
@@ -75,9 +75,9 @@ module _ {ls ts rs bs ls′ ts′ rs′ bs′ rows : List ℕ} {m i : ℕ} {near
   -- word q of the row, of which the marks from place j on are left
   module _ (q w : ℕ) (fits : getD rows (8 * i + q) 0 < 2 ^ 64) (low : 64 * q ≤ j) (left : w ≡ getD rows (8 * i + q) 0 / 2 ^ (j - 64 * q)) where
     -- nothing is left
-    pub word-ended : w ≡ 0 → j ≤ 64 * (q + 1) → Near ls ts rs bs ls′ ts′ rs′ bs′ rows m i near (64 * (q + 1)) c
+    pub word-ended : w ≡ 0 → j ≤ 64 * (q + 1) → NearInRow ls ts rs bs ls′ ts′ rs′ bs′ rows m i near (64 * (q + 1)) c
     word-ended z h =
-        subst (λ k. Near ls ts rs bs ls′ ts′ rs′ bs′ rows m i near k c) (omega arith) (near-skip (64 * (q + 1) - j) none)
+        subst (λ k. NearInRow ls ts rs bs ls′ ts′ rs′ bs′ rows m i near k c) (omega arith) (near-skip (64 * (q + 1) - j) none)
       where
         none : (k : ℕ) → k < 64 * (q + 1) - j → markedAt rows i (j + k) ≡ false
         none k l =
@@ -93,7 +93,7 @@ module _ {ls ts rs bs ls′ ts′ rs′ bs′ rows : List ℕ} {m i : ℕ} {near
       pub mark-within : j + t < 64 * (q + 1)
       mark-within = omega (arith, bit-within (getD rows (8 * i + q) 0) (j - 64 * q) w t left l 64 fits)
 
-      pub mark-next : Near ls ts rs bs ls′ ts′ rs′ bs′ rows m i near (j + t) c
+      pub mark-next : NearInRow ls ts rs bs ls′ ts′ rs′ bs′ rows m i near (j + t) c
       mark-next = near-skip t none
         where
           none : (k : ℕ) → k < t → markedAt rows i (j + k) ≡ false

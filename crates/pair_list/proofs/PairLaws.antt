@@ -23,7 +23,7 @@ use Rattle.chart_spec.specs.Overlay.{Pair, maxPairs}
 use Rattle.boxes.specs.Boxes.{clear, boxAt, BoxedTable}
 use Rattle.boxes.proofs.BoxesLaws.{boxes-apart}
 use Rattle.boxes.proofs.CompactLaws.{compact-skip}
-use Rattle.pair_list.specs.Pairs.{meetsAt, markedAt, pairIf, nearPairs, rowPairs, markedPairs, Wrote, EachTriangle, isNear, Near}
+use Rattle.pair_list.specs.Pairs.{meetsAt, markedAt, pairIf, nearPairs, rowPairs, markedPairs, Wrote, EachTriangle, isNear, NearInRow}
 use Rattle.pair_list.proofs.WroteLaws.{wrote-none, wrote-join}
 
 module _ {A : Type 0} (p q : A → Bool) where
@@ -102,7 +102,7 @@ last-fails false b = refl
 -- ---- the pairs of a row
 
 module _ {first ls ts rs bs second ls′ ts′ rs′ bs′ rows near : List ℕ} {m i d : ℕ} (p : BoxedTable first ls ts rs bs (i + 1))
-    (q : BoxedTable second ls′ ts′ rs′ bs′ m) (few : m ≤ maxTriangles) (n : Near ls ts rs bs ls′ ts′ rs′ bs′ rows m i near maxTriangles d) (room : d ≤ length near) where
+    (q : BoxedTable second ls′ ts′ rs′ bs′ m) (few : m ≤ maxTriangles) (n : NearInRow ls ts rs bs ls′ ts′ rs′ bs′ rows m i near maxTriangles d) (room : d ≤ length near) where
   -- each candidate is a triangle of the second table
   pub near-each : EachTriangle second near d
   near-each k h =

@@ -53,8 +53,8 @@ abbrev pub isNear : List ℕ → List ℕ → List ℕ → List ℕ → List ℕ
 isNear ls ts rs bs ls′ ts′ rs′ bs′ rows m i j =
     markedAt rows i j && not (clear (boxAt ls ts rs bs i) (boxAt ls′ ts′ rs′ bs′ j)) && ltb j m
 
--- the first c numbers of a list are those below j
-pub record Near (ls ts rs bs ls′ ts′ rs′ bs′ rows : List ℕ) (m i : ℕ) (near : List ℕ) (j c : ℕ) : Type 0 where
+-- the first c numbers of a list are those below j, of row i
+pub record NearInRow (ls ts rs bs ls′ ts′ rs′ bs′ rows : List ℕ) (m i : ℕ) (near : List ℕ) (j c : ℕ) : Type 0 where
   pub few : c ≤ j
   pub listed : take c near ≡ filter (λ k. isNear ls ts rs bs ls′ ts′ rs′ bs′ rows m i k) (upTo j)
 

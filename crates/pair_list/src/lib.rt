@@ -13,7 +13,7 @@ ghost use Rattle.chart_spec.specs.Table.{maxTriangles, numbersPerTriangle, tabl
 ghost use Rattle.chart_spec.specs.Overlay.{maxPairs};
 ghost use Rattle.call_spec.specs.Buffers.{pairsLength};
 ghost use Rattle.boxes.specs.Boxes.{clear, boxAt, Places, BoxedTable};
-ghost use Rattle.pair_list.specs.Pairs.{pairIf, nearPairs, rowPairs, markedPairs, Wrote, EachTriangle, Near};
+ghost use Rattle.pair_list.specs.Pairs.{pairIf, nearPairs, rowPairs, markedPairs, Wrote, EachTriangle, NearInRow};
 
 // The most pairs of an overlay.
 pub const MOST_PAIRS: usize = 4096;
@@ -81,8 +81,8 @@ fn collect_word(
 ) -> usize
     requires { ⌜ (Places (now lefts) (now tops) (now rights) (now bottoms) (i + 1) × Places (now «other_lefts») (now «other_tops») (now «other_rights») (now «other_bottoms») maxTriangles) × ((i < maxTriangles) × (q < 8)) ⌝ }
     requires { ⌜ (4096 ≤ length (now rows)) × (maxTriangles ≤ length (now near)) ⌝ }
-    requires { ⌜ Near (now lefts) (now tops) (now rights) (now bottoms) (now «other_lefts») (now «other_tops») (now «other_rights») (now «other_bottoms») (now rows) m i (now near) (64 * q) c ⌝ }
-    ensures { λ r. ⌜ Near (now (lefts .entry)) (now (tops .entry)) (now (rights .entry)) (now (bottoms .entry)) (now («other_lefts» .entry)) (now («other_tops» .entry)) (now («other_rights» .entry)) (now («other_bottoms» .entry)) (now (rows .entry)) m i (now (near .exit)) (64 * (q + 1)) r ⌝ }
+    requires { ⌜ NearInRow (now lefts) (now tops) (now rights) (now bottoms) (now «other_lefts») (now «other_tops») (now «other_rights») (now «other_bottoms») (now rows) m i (now near) (64 * q) c ⌝ }
+    ensures { λ r. ⌜ NearInRow (now (lefts .entry)) (now (tops .entry)) (now (rights .entry)) (now (bottoms .entry)) (now («other_lefts» .entry)) (now («other_tops» .entry)) (now («other_rights» .entry)) (now («other_bottoms» .entry)) (now (rows .entry)) m i (now (near .exit)) (64 * (q + 1)) r ⌝ }
     ensures { λ r. ⌜ length (now (near .exit)) ≡ length (now (near .entry)) ⌝ }
 {
     let mut w = rows[ROW_WORDS * i + q];
@@ -129,7 +129,7 @@ fn collect_row(
 ) -> usize
     requires { ⌜ (Places (now lefts) (now tops) (now rights) (now bottoms) (i + 1) × Places (now «other_lefts») (now «other_tops») (now «other_rights») (now «other_bottoms») maxTriangles) × (i < maxTriangles) ⌝ }
     requires { ⌜ (4096 ≤ length (now rows)) × (maxTriangles ≤ length (now near)) ⌝ }
-    ensures { λ r. ⌜ Near (now (lefts .entry)) (now (tops .entry)) (now (rights .entry)) (now (bottoms .entry)) (now («other_lefts» .entry)) (now («other_tops» .entry)) (now («other_rights» .entry)) (now («other_bottoms» .entry)) (now (rows .entry)) m i (now (near .exit)) maxTriangles r ⌝ }
+    ensures { λ r. ⌜ NearInRow (now (lefts .entry)) (now (tops .entry)) (now (rights .entry)) (now (bottoms .entry)) (now («other_lefts» .entry)) (now («other_tops» .entry)) (now («other_rights» .entry)) (now («other_bottoms» .entry)) (now (rows .entry)) m i (now (near .exit)) maxTriangles r ⌝ }
     ensures { λ r. ⌜ length (now (near .exit)) ≡ length (now (near .entry)) ⌝ }
 {
     let mut c = 0;

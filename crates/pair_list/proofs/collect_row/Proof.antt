@@ -4,7 +4,7 @@ use native.Mathlib.Omega.{arith}
 use borrow.Author.Needs.{needs}
 use lib.ListN.{length}
 use Rattle.chart_spec.specs.Table.{maxTriangles}
-use Rattle.pair_list.specs.Pairs.{Near}
+use Rattle.pair_list.specs.Pairs.{NearInRow}
 use Rattle.pair_list.proofs.NearLaws.{near-none}
 use Rattle.pair_list.proofs.collect_row.Statement.{statement}
 use Rattle.pair_list.proofs.collect_row.Tie as tie
@@ -12,7 +12,7 @@ use Rattle.pair_list.proofs.collect_row.Tie as tie
 abbrev Inv-loop : tie.InvT-loop
 Inv-loop lefts tops rights bottoms other-lefts other-tops other-rights other-bottoms rows m i near₀ c₀ q₀ near c q =
     ((q ≤ 8) × (length near ≡ length near₀))
-    × Near lefts tops rights bottoms other-lefts other-tops other-rights other-bottoms rows m i near (64 * q) c
+    × NearInRow lefts tops rights bottoms other-lefts other-tops other-rights other-bottoms rows m i near (64 * q) c
 
 abbrev μ-loop : tie.MeasureT-loop
 μ-loop lefts tops rights bottoms other-lefts other-tops other-rights other-bottoms rows m i near₀ c₀ q₀ near c q = 8 - q
@@ -47,7 +47,7 @@ returns c =
     let a = c .before .before .before .before .before .before .before .before .before .before .before .before .args in
     let l = c .before .loop in
     let e : 64 * l .q ≡ maxTriangles = omega arith in
-    (subst (λ j. Near (a .lefts .now) (a .tops .now) (a .rights .now) (a .bottoms .now) (a .other-lefts .now) (a .other-tops .now) (a .other-rights .now) (a .other-bottoms .now) (a .rows .now) (a .m) (a .i) (l .near) j (l .c)) e (l .inv .1), l .inv .0 .1)
+    (subst (λ j. NearInRow (a .lefts .now) (a .tops .now) (a .rights .now) (a .bottoms .now) (a .other-lefts .now) (a .other-tops .now) (a .other-rights .now) (a .other-bottoms .now) (a .rows .now) (a .m) (a .i) (l .near) j (l .c)) e (l .inv .1), l .inv .0 .1)
 
 pub collect-row-spec : {M : Type 1} → statement M
 collect-row-spec =

@@ -6,7 +6,7 @@ use lib.Count.{trailingZeros, trailing-le}
 use lib.ListN.{length, getD}
 use Rattle.chart_spec.specs.Table.{maxTriangles}
 use Rattle.boxes.proofs.BoxesLaws.{places-fewer, set-length}
-use Rattle.pair_list.specs.Pairs.{Near}
+use Rattle.pair_list.specs.Pairs.{NearInRow}
 use Rattle.pair_list.proofs.WordLaws.{Lowest}
 use Rattle.pair_list.proofs.NearLaws.{word-start, near-more, word-ended, next-mark, mark-within, mark-next, mark-there, mark-past}
 use Rattle.pair_list.proofs.collect_word.Statement.{statement}
@@ -17,7 +17,7 @@ Inv-loop lefts tops rights bottoms other-lefts other-tops other-rights other-bot
     ((64 * q ≤ j) × (j ≤ 64 * (q + 1)))
     × ((w ≡ getD rows (8 * i + q) 0 / 2 ^ (j - 64 * q))
     × ((length near ≡ length near₀)
-    × Near lefts tops rights bottoms other-lefts other-tops other-rights other-bottoms rows m i near j n))
+    × NearInRow lefts tops rights bottoms other-lefts other-tops other-rights other-bottoms rows m i near j n))
 
 abbrev μ-loop : tie.MeasureT-loop
 μ-loop lefts tops rights bottoms other-lefts other-tops other-rights other-bottoms rows m i q near₀ c w₀ j₀ n₀ near w j n =
