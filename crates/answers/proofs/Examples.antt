@@ -1,11 +1,10 @@
 -- Every case of every answer, with its number and what it says.
 -- Assumes nothing.
 use mathlib.Core.Path.{_≡_, refl}
-use mathlib.Core.Bool.{Bool, true, false}
+use mathlib.Core.Bool.{true, false}
 use mathlib.Core.List.{List, [], _∷_, map}
-use mathlib.Core.Option.{Option, none, some}
-use Prim.Native.Nat.{ℕ}
-use Rattle.chart_spec.specs.Refusals.{shortBuffer, brokenChain, staleEntries, badLength, faultyTriangle, noSuchTriangle, notInside, notThreeAround, noFlip, tableFull, tooManyEntries, tooManyPairs, Outcome, refused, done}
+use mathlib.Core.Option.{none, some}
+use Rattle.chart_spec.specs.Refusals.{shortBuffer, brokenChain, staleEntries, badLength, faultyTriangle, noSuchTriangle, notInside, notThreeAround, noFlip, tableFull, tooManyEntries, tooManyPairs, refused, done}
 use Rattle.call_spec.specs.Calls as Calls
 use Rattle.answers.specs.Outcomes.{judgedOutcome, changeOutcome, changedOf, locatedOutcome, locatedOf, soundnessOutcome, soundnessOf, areaOutcome, areaOf, overlayOutcome, overlaidOf}
 use Rattle.answers.specs.declared.Judged.the-variants as judgements

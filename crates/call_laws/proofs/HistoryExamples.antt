@@ -5,7 +5,6 @@ use mathlib.Core.Path.{_≡_, refl}
 use mathlib.Core.List.{List, [], _∷_, _++_}
 use Prim.Native.Nat.{ℕ}
 use lib.ListN.{take}
-use Rattle.plane.specs.declared.Point.{Point}
 use Rattle.chart_spec.specs.Edits.{load, split, takeOut, flip}
 use Rattle.chart_spec.proofs.MarkedCases.{at}
 use Rattle.call_spec.specs.Buffers.{Chart}

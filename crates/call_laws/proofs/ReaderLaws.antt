@@ -13,7 +13,7 @@ use Rattle.lists.proofs.FirstLaws.{first-agree}
 use Rattle.plane.specs.declared.Point.{Point}
 use Rattle.plane.specs.Triangle.{holds}
 use Rattle.chart_spec.specs.Table.{triangleAt, numbered, numbersPerTriangle}
-use Rattle.chart_spec.specs.Refusals.{Refusal, Outcome, refused, done, outcomeNumber, doneOr}
+use Rattle.chart_spec.specs.Refusals.{Refusal, refused, done, outcomeNumber, doneOr}
 use Rattle.chart_spec.specs.Reading.{listing, located, sound, totalArea}
 use Rattle.chart_laws.proofs.TableLaws.{numbered-at}
 use Rattle.chart_laws.proofs.LocateOfChain.{listed-below}

@@ -1,15 +1,13 @@
 -- Examples of Buffers.antt. What needs no full buffers is shown on short ones.
 -- Assumes nothing.
 use mathlib.Core.Path.{_≡_, refl}
-use mathlib.Core.Bool.{Bool, true, false}
+use mathlib.Core.Bool.{true, false}
 use mathlib.Core.List.{List, [], _∷_, _++_, map}
 use Prim.Native.Nat.{ℕ}
 use lib.ListN.{replicate}
 use Rattle.lists.specs.Lists.{all}
-use Rattle.orthtree.specs.Entries.{Entry}
-use Rattle.plane.specs.Triangle.{Triangle, proper}
+use Rattle.plane.specs.Triangle.{proper}
 use Rattle.chart_spec.specs.Table.{tableOf}
-use Rattle.chart_spec.proofs.MarkedCases.{at}
 use Rattle.chart_spec.proofs.EditExamples.{tri, pa, pb, pc}
 use Rattle.chart_spec.proofs.OverlayExamples.{entry}
 use Rattle.call_spec.specs.Buffers.{Chart, chartOf, pairsLength, tooShort, padded, zipEntries, chartTable, chartEntries, tableRule, entryCountFits, chainRule, sameEntries, indexed, chartWith, indexedChart}

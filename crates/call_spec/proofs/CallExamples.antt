@@ -2,16 +2,14 @@
 -- accepted edits of each kind, and overlays of two different charts. What an example does not depend on is any list, chart, edit or event.
 -- Assumes nothing.
 use mathlib.Core.Path.{_≡_, refl}
-use mathlib.Core.Bool.{Bool, true, false}
+use mathlib.Core.Bool.{true, false}
 use mathlib.Core.List.{List, [], _∷_, _++_, map}
 use Prim.Native.Nat.{ℕ}
 use lib.ListN.{take, replicate}
-use Rattle.plane.specs.declared.Point.{Point}
 use Rattle.plane.specs.Triangle.{Triangle}
 use Rattle.chart_spec.specs.Table.{Table}
-use Rattle.chart_spec.specs.Refusals.{Refusal, shortBuffer, brokenChain, staleEntries, Outcome, refused, done, tooManyPairs, andThen}
+use Rattle.chart_spec.specs.Refusals.{shortBuffer, brokenChain, staleEntries, Outcome, refused, done, tooManyPairs, andThen}
 use Rattle.chart_spec.specs.Edits.{Event, load, split, takeOut, flip, eventOn, withinLimit}
-use Rattle.chart_spec.specs.Overlay.{OverlayAnswer}
 use Rattle.chart_spec.proofs.MarkedCases.{at}
 use Rattle.chart_spec.proofs.RefusalsExamples.{rows}
 use Rattle.chart_spec.proofs.EditExamples.{tri}

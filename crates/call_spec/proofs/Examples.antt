@@ -1,12 +1,11 @@
 -- Examples of the calls, on buffers longer than asked that hold other numbers.
 -- Assumes nothing.
 use mathlib.Core.Path.{_≡_, refl}
-use mathlib.Core.Bool.{Bool, true, false}
+use mathlib.Core.Bool.{true, false}
 use mathlib.Core.List.{List, [], _∷_, _++_, map}
-use mathlib.Core.Option.{Option, none, some}
+use mathlib.Core.Option.{none, some}
 use Prim.Native.Nat.{ℕ}
 use lib.ListN.{set, take, replicate}
-use Rattle.plane.specs.declared.Point.{Point}
 use Rattle.chart_spec.specs.Refusals.{Outcome}
 use Rattle.chart_spec.specs.Overlay.{OverlayAnswer, withinPairs}
 use Rattle.chart_spec.proofs.MarkedCases.{at}

@@ -10,7 +10,7 @@ use lib.ListN.{length, getD, take, drop}
 use Rattle.lists.proofs.ListsLaws.{Every}
 use Rattle.lists.proofs.EveryLaws.{every-nil}
 use Rattle.orthtree.specs.Entries.{Entry, span, rangeEnd, chain}
-use Rattle.orthtree.proofs.EntriesLaws.{span-positive}
+use Rattle.orthtree.proofs.EntriesLaws.{noEntry, span-positive}
 use Rattle.chain_blocks.proofs.ChainPlaces.{chain-first, chain-none, chain-within}
 
 -- at place a the entries are cut at key k: those before it end at or before the key, and the next one starts there
@@ -29,7 +29,7 @@ module _ (arity depth : ℕ) (pos : 0 < arity) where
     ended = every-nil (λ e. rangeEnd arity depth e ≤ 0);
     later = λ e m. omega arith;
     starts = λ d h. chain-first arity depth d count pos es rule h;
-    last = λ h. chain-none arity depth (record { key = 0; level = 0; item = 0 }) count pos es rule h;
+    last = λ h. chain-none arity depth noEntry count pos es rule h;
   }
 
   -- no entry starts where the tree ends
@@ -45,9 +45,8 @@ module _ (arity depth : ℕ) (pos : 0 < arity) where
   pub cut-ends : (d : ℕ) (es fs : List Entry) → T (chain arity depth d fs) → {k a b : ℕ}
       → Cut arity depth k a es → Cut arity depth k b fs → a ≡ length es → b ≡ length fs
   cut-ends d es fs rule {b = b} u v h =
-      let none : Entry = record { key = 0; level = 0; item = 0 } in
       elim (decLe (length fs) b) [
         | yes l ↦ omega (arith, v .within)
         | no l ↦ absurd (let g : b < length fs = omega arith in
-            omega (arith, u .last h, v .starts none g, start-below none d fs rule b g))
+            omega (arith, u .last h, v .starts noEntry g, start-below noEntry d fs rule b g))
       ]

@@ -11,6 +11,7 @@ use lib.Seq.{getD-take, getD-drop}
 use Rattle.lists.proofs.Reflects.{reflects-eqb, reflects-ltb, reflects-true, reflects-false}
 use Rattle.lists.proofs.PartLaws.{part-map}
 use Rattle.orthtree.specs.Entries.{Entry}
+use Rattle.orthtree.proofs.EntriesLaws.{noEntry}
 use Rattle.chain_blocks.specs.KeyBlocks.{changesAfter, keyBlocks, keyFrom}
 use Rattle.chain_blocks.proofs.PlaceLaws.{map-at}
 
@@ -38,9 +39,8 @@ keys-at {ks} {n} {es} k d i h =
 pub keys-part : {ks : List ℕ} {n : ℕ} {es : List Entry} → KeysOf ks n es → (f t : ℕ) → f ≤ t → t ≤ length es
     → take (t - f) (drop f ks) ≡ map (λ e. e .key) (take (t - f) (drop f es))
 keys-part {ks} {n} {es} k f t h w =
-    let none : Entry = record { key = 0; level = 0; item = 0 } in
     let m = sym (length-take n ks) ∙ ap length (k .keys) ∙ length-map es (λ e. e .key) in
-    part-map (λ e. e .key) es ks none f t h w (omega (arith, k .count)) (λ i l. sym (keys-at k none i (omega (arith, k .count))))
+    part-map (λ e. e .key) es ks noEntry f t h w (omega (arith, k .count)) (λ i l. sym (keys-at k noEntry i (omega (arith, k .count))))
 
 -- the same key again, and another key
 pub changes-same : (k l : ℕ) (ls : List ℕ) → k ≡ l → changesAfter k (l ∷ ls) ≡ changesAfter l ls

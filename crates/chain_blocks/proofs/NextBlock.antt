@@ -12,7 +12,7 @@ use lib.Dec.{T}
 use lib.ListN.{length, getD, take, drop}
 use Rattle.lists.proofs.ListsLaws.{Every}
 use Rattle.orthtree.specs.Entries.{Entry, span, rangeEnd, overlaps, chain}
-use Rattle.orthtree.proofs.EntriesLaws.{overlaps-reflects}
+use Rattle.orthtree.proofs.EntriesLaws.{noEntry, overlaps-reflects}
 use Rattle.chain_blocks.specs.KeyBlocks.{CellEnd, RunEnd, keyFrom}
 use Rattle.chain_blocks.proofs.KeyBlocksLaws.{KeysOf}
 use Rattle.chain_blocks.proofs.CutLaws.{Cut}
@@ -49,36 +49,32 @@ module _ (arity depth : ℕ) (pos : 0 < arity) where
   module _ (c d : ℕ) (es fs : List Entry) (rule : T (chain arity depth c es)) (rule₂ : T (chain arity depth d fs))
       {ks ls : List ℕ} {n m : ℕ} (x : KeysOf ks n es) (y : KeysOf ls m fs) {k a b : ℕ}
       (u : Cut arity depth k a es) (v : Cut arity depth k b fs) where
-    -- an entry for places after the last
-    abbrev none : Entry
-    none = record { key = 0; level = 0; item = 0 }
-
     -- the cells at the two places
     abbrev cell : Entry
-    cell = getD es a none
+    cell = getD es a noEntry
 
     abbrev cell₂ : Entry
-    cell₂ = getD fs b none
+    cell₂ = getD fs b noEntry
 
     runs-block : a < length es → b < length fs → {e : ℕ} → Larger arity depth pos k e → rangeEnd arity depth cell ≤ e
         → rangeEnd arity depth cell₂ ≤ e → (e ≡ rangeEnd arity depth cell) ⊎ (e ≡ rangeEnd arity depth cell₂)
         → {a′ b′ : ℕ} → RunEnd ks n a e a′ → RunEnd ls m b e b′ → Block arity depth e a b a′ b′ es fs
     runs-block h l {e} g le le₂ which {a′} {b′} run run₂ = record {
-      first = run-cut arity depth pos c es rule none x u h g le run;
-      second = run-cut arity depth pos d fs rule₂ none y v l g le₂ run₂;
-      firstGrows = run-grows arity depth pos c es rule none x u h g le run;
-      secondGrows = run-grows arity depth pos d fs rule₂ none y v l g le₂ run₂;
+      first = run-cut arity depth pos c es rule noEntry x u h g le run;
+      second = run-cut arity depth pos d fs rule₂ noEntry y v l g le₂ run₂;
+      firstGrows = run-grows arity depth pos c es rule noEntry x u h g le run;
+      secondGrows = run-grows arity depth pos d fs rule₂ noEntry y v l g le₂ run₂;
       whole = go which;
     }
       where
         go : (e ≡ rangeEnd arity depth cell) ⊎ (e ≡ rangeEnd arity depth cell₂)
             → Every (λ f. Every (λ f₂. T (overlaps arity depth f f₂)) (take (b′ - b) (drop b fs))) (take (a′ - a) (drop a es))
         go (inl q) f i f₂ j =
-            overlap-first f f₂ (run-cell arity depth pos c es rule none x u h g le run q f i)
-            (run-part arity depth pos d fs rule₂ none y v l g le₂ run₂ f₂ j)
+            overlap-first f f₂ (run-cell arity depth pos c es rule noEntry x u h g le run q f i)
+            (run-part arity depth pos d fs rule₂ noEntry y v l g le₂ run₂ f₂ j)
         go (inr q) f i f₂ j =
-            overlap-second f f₂ (run-part arity depth pos c es rule none x u h g le run f i)
-            (run-cell arity depth pos d fs rule₂ none y v l g le₂ run₂ q f₂ j)
+            overlap-second f f₂ (run-part arity depth pos c es rule noEntry x u h g le run f i)
+            (run-cell arity depth pos d fs rule₂ noEntry y v l g le₂ run₂ q f₂ j)
 
     -- two runs that start where both lists are cut, and go on to where the larger of the two cells there ends, are a block
     pub next-block : a < n → b < m → {p q : ℕ} → CellEnd ks n a p → CellEnd ls m b q → {e : ℕ}
@@ -87,13 +83,13 @@ module _ (arity depth : ℕ) (pos : 0 < arity) where
     next-block h l {p} {q} g r {e} s run run₂ =
         let i : a < length es = omega (arith, x .count) in
         let j : b < length fs = omega (arith, y .count) in
-        let first = cell-ends arity depth pos c es rule none x a p g in
-        let second = cell-ends arity depth pos d fs rule₂ none y b q r in
+        let first = cell-ends arity depth pos c es rule noEntry x a p g in
+        let second = cell-ends arity depth pos d fs rule₂ noEntry y b q r in
         elim (decLe (rangeEnd arity depth cell₂) (rangeEnd arity depth cell)) [
           | yes w ↦ let z : rangeEnd arity depth cell ≡ e = omega arith in
-              runs-block i j (subst (λ o. Larger arity depth pos k o) z (larger-at arity depth pos c es rule none u i)) (omega arith) (omega arith)
+              runs-block i j (subst (λ o. Larger arity depth pos k o) z (larger-at arity depth pos c es rule noEntry u i)) (omega arith) (omega arith)
               (inl (sym z)) run run₂
           | no w ↦ let z : rangeEnd arity depth cell₂ ≡ e = omega arith in
-              runs-block i j (subst (λ o. Larger arity depth pos k o) z (larger-at arity depth pos d fs rule₂ none v j)) (omega arith) (omega arith)
+              runs-block i j (subst (λ o. Larger arity depth pos k o) z (larger-at arity depth pos d fs rule₂ noEntry v j)) (omega arith) (omega arith)
               (inr (sym z)) run run₂
         ]

@@ -1,20 +1,20 @@
 -- After an accepted edit the chart is indexed: it passes refusals 1, 2 and 3 of the next call.
 -- The idea: 0 is the number of no refusal, so an edit that gives 0 passed every test, and what it made keeps D > 0 and the limits.
 -- Assumes nothing.
-use mathlib.Core.Path.{_≡_, refl, sym, _∙_, ap, subst}
+use mathlib.Core.Path.{_≡_, refl, sym, _∙_, subst}
 use mathlib.Core.Bool.{Bool, true, false, not}
 use mathlib.Core.List.{List, [], _∷_}
 use mathlib.Core.Option.{Option, none, some}
 use Prim.Native.Nat.{ℕ, _≤_, _<_}
 use native.Mathlib.Omega.{arith}
 use lib.Dec.{T, ltb, lt→ltb}
-use lib.ListN.{length, set, length-append, length-set}
-use Rattle.lists.specs.Lists.{first, all, placesFrom}
+use lib.ListN.{length, length-append, length-set}
+use Rattle.lists.specs.Lists.{first, placesFrom}
 use Rattle.lists.proofs.Reflects.{reflects-test, test-true}
 use Rattle.lists.proofs.ListsLaws.{all-reflects}
 use Rattle.plane.specs.declared.Point.{Point}
 use Rattle.plane.specs.Triangle.{Triangle, proper}
-use Rattle.chart_spec.specs.Table.{Table, numbered, maxTriangles, tableOf}
+use Rattle.chart_spec.specs.Table.{Table, numbered, maxTriangles}
 use Rattle.chart_spec.specs.Cells.{entriesOf, maxEntries}
 use Rattle.chart_spec.specs.Refusals.{Refusal, shortBuffer, brokenChain, staleEntries, noSuchTriangle, notInside, notThreeAround, noFlip, tableFull, tooManyEntries, Outcome, refused, done, refuseIf, andThen, outcomeNumber}
 use Rattle.chart_spec.specs.Edits.{triangle, rotations, sharesSide, hasCorner, closesRound, mergeAround, splitAt, splitTable, mergeThree, takeOutThree, takeOutTable, flipAs, flipWith, flipAmong, flipTable, limited, withinLimit}

@@ -2,13 +2,10 @@
 -- The idea: the cells of a table tile the keys, so neighbouring cells differ and each has one first entry.
 -- Assumes nothing.
 use mathlib.Core.Path.{_≡_, _∙_, ap}
-use mathlib.Core.Bool.{Bool, true, false, _&&_}
 use mathlib.Core.List.{List, [], _∷_, map, map-map}
 use Prim.Native.Nat.{ℕ, _+_, _^_, _≤_, _<_}
 use native.Mathlib.Omega.{arith}
-use lib.Dec.{ltb}
 use lib.ListN.{length, getD, length-map}
-use Rattle.lists.specs.Lists.{sumOf}
 use Rattle.lists.proofs.Reflects.{Reflects, reflects-iff}
 use Rattle.orthtree.specs.Entries.{Entry, cellHeads, span, rangeEnd, overlaps, meetings}
 use Rattle.orthtree.proofs.RangeLaws.{Within}

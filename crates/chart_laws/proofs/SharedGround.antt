@@ -21,7 +21,6 @@ use Rattle.plane.specs.declared.Point.{Point}
 use Rattle.plane.specs.Point.{FracPoint}
 use Rattle.plane.specs.Triangle.{Triangle, proper, holdsAt}
 use Rattle.plane.specs.Box.{triangleMeets}
-use Rattle.plane.specs.Interior.{CommonInterior}
 use Rattle.separation.proofs.Radon.{Triple}
 use Rattle.separation.proofs.Cone.{_•_}
 use Rattle.separation.proofs.Sides.{fraction}

@@ -1,15 +1,14 @@
 -- Examples of Cells.antt, the parts: sides and triangles that meet a square, when it is stopped, and one cell's entries.
 -- Assumes nothing.
 use mathlib.Core.Path.{_≡_, refl}
-use mathlib.Core.Bool.{Bool, true, false}
-use mathlib.Core.List.{List, [], _∷_, map}
+use mathlib.Core.Bool.{true, false}
+use mathlib.Core.List.{[], _∷_, map}
 use Prim.Native.Nat.{ℕ}
-use Rattle.orthtree.specs.Entries.{Entry}
 use Rattle.plane.specs.declared.Point.{Point}
-use Rattle.plane.specs.Triangle.{Triangle, Side}
+use Rattle.plane.specs.Triangle.{Side}
 use Rattle.squares.specs.declared.Square.{Square}
 use Rattle.chart_spec.specs.Table.{Table}
-use Rattle.chart_spec.specs.Cells.{sidesMeeting, isEnd, commonEnd, stopped, cellsIn, cells, trianglesMeeting, orMark, entryOf, cellEntries, entriesIn, entriesOf}
+use Rattle.chart_spec.specs.Cells.{sidesMeeting, isEnd, commonEnd, stopped, cellsIn, cells, trianglesMeeting, orMark, entryOf, cellEntries, entriesIn}
 use Rattle.chart_spec.proofs.Evaluate.{evaluate}
 use Rattle.chart_spec.proofs.MarkedCases.{at, entryNumbers, cellNumbers}
 use Rattle.chart_spec.proofs.EditExamples.{pa, pb, pc, pd, tri}

@@ -1,10 +1,9 @@
 -- Examples of Edits.antt, the parts: what each step of a split, a take-out and a flip makes of its arguments.
 -- Assumes nothing.
 use mathlib.Core.Path.{_≡_, refl}
-use mathlib.Core.Bool.{Bool, true, false}
-use mathlib.Core.List.{List, [], _∷_, map}
-use mathlib.Core.Option.{Option, none, some}
-use Prim.Native.Nat.{ℕ}
+use mathlib.Core.Bool.{true, false}
+use mathlib.Core.List.{[], _∷_, map}
+use mathlib.Core.Option.{none, some}
 use lib.ListN.{length}
 use Rattle.plane.specs.declared.Point.{Point}
 use Rattle.plane.specs.Triangle.{Triangle}

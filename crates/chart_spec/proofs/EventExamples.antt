@@ -1,15 +1,13 @@
 -- Examples of Edits.antt, the events: every rotation of the triangles, every order, every refusal alone.
 -- Assumes nothing.
 use mathlib.Core.Path.{_≡_, refl}
-use mathlib.Core.Bool.{Bool, true, false}
 use mathlib.Core.List.{List, [], _∷_, _++_, map, flatMap}
 use Prim.Native.Nat.{ℕ}
 use lib.ListN.{replicate}
-use Rattle.plane.specs.declared.Point.{Point}
 use Rattle.plane.specs.Triangle.{Triangle}
 use Rattle.chart_spec.specs.Table.{Table, tableNumbers}
-use Rattle.chart_spec.specs.Refusals.{Outcome, refused, done, noSuchTriangle, notInside, notThreeAround, noFlip, tableFull, outcomeNumber}
-use Rattle.chart_spec.specs.Edits.{rotations, splitTable, takeOutTable, flipTable, load, split, takeOut, flip, proposed, eventOn, afterEvent, plainTable}
+use Rattle.chart_spec.specs.Refusals.{refused, done, noSuchTriangle, notInside, notThreeAround, noFlip, tableFull, outcomeNumber}
+use Rattle.chart_spec.specs.Edits.{rotations, splitTable, takeOutTable, flipTable, load, split, takeOut, flip, proposed, plainTable}
 use Rattle.chart_spec.proofs.Evaluate.{evaluate}
 use Rattle.chart_spec.proofs.MarkedCases.{at}
 use Rattle.chart_spec.proofs.EditExamples.{pa, pb, pc, pd, pp, tri}

@@ -1,15 +1,12 @@
 -- Examples of the definitions, none symmetric in x and y: U and V of the marked cases are, and leave much open.
 -- Assumes nothing.
 use mathlib.Core.Path.{_≡_, refl}
-use mathlib.Core.Bool.{Bool, true, false}
+use mathlib.Core.Bool.{true, false}
 use mathlib.Core.List.{List, [], _∷_, _++_, map}
 use Prim.Native.Nat.{ℕ}
 use lib.Dec.{eqb}
 use lib.ListN.{length, take, replicate}
 use Rattle.lists.specs.Lists.{filter}
-use Rattle.orthtree.specs.Entries.{Entry}
-use Rattle.plane.specs.declared.Point.{Point}
-use Rattle.plane.specs.Triangle.{Triangle}
 use Rattle.chart_spec.specs.Table.{Table, tableNumbers}
 use Rattle.chart_spec.specs.Cells.{entriesOf}
 use Rattle.chart_spec.specs.Refusals.{outcomeNumber}

@@ -2,7 +2,6 @@
 -- statement that covers the rows, by computation. Numbers, points, entries and triangles are written out as numbers.
 -- Assumes nothing.
 use mathlib.Core.Path.{_≡_, refl}
-use mathlib.Core.Bool.{Bool, true, false}
 use mathlib.Core.List.{List, [], _∷_, _++_, map, flatMap}
 use mathlib.Core.Option.{Option, none, some}
 use Prim.Native.Nat.{ℕ, _+_, _*_}
@@ -15,7 +14,7 @@ use Rattle.squares.specs.Square.{zOrder, squareKey}
 use Rattle.chart_spec.specs.Table.{Table, tableNumbers}
 use Rattle.chart_spec.specs.Cells.{cells, cellEntries, entriesOf}
 use Rattle.chart_spec.specs.Refusals.{Outcome, refused, done}
-use Rattle.chart_spec.specs.Edits.{Event, load, split, takeOut, flip, eventOn, plainTable}
+use Rattle.chart_spec.specs.Edits.{load, split, takeOut, flip, eventOn, plainTable}
 use Rattle.chart_spec.specs.Overlay.{OverlayAnswer, pairNumbers, overlayOf}
 use Rattle.chart_spec.specs.Reading.{located, totalArea}
 use Rattle.chart_spec.proofs.Evaluate.{evaluate}

@@ -1,16 +1,14 @@
 -- Examples of Overlay.antt: two different tables with different entries, some of them not their own.
 -- Assumes nothing.
 use mathlib.Core.Path.{_≡_, refl}
-use mathlib.Core.Bool.{Bool, true, false}
-use mathlib.Core.List.{List, [], _∷_, map}
+use mathlib.Core.Bool.{true, false}
+use mathlib.Core.List.{List, [], _∷_}
 use Prim.Native.Nat.{ℕ}
 use lib.ListN.{replicate}
 use Rattle.orthtree.specs.Entries.{Entry}
-use Rattle.plane.specs.declared.Point.{Point}
-use Rattle.plane.specs.Triangle.{Triangle}
 use Rattle.chart_spec.specs.Table.{Table}
-use Rattle.chart_spec.specs.Refusals.{Outcome, refused, done, tooManyPairs}
-use Rattle.chart_spec.specs.Overlay.{Pair, pair, OverlayAnswer, pairNumbers, pairListed, pairsListed, withinPairs, overlayOf}
+use Rattle.chart_spec.specs.Refusals.{refused, done, tooManyPairs}
+use Rattle.chart_spec.specs.Overlay.{pair, pairNumbers, pairListed, pairsListed, withinPairs, overlayOf}
 use Rattle.chart_spec.proofs.Evaluate.{evaluate}
 use Rattle.chart_spec.proofs.MarkedCases.{at, overlayNumbers}
 use Rattle.chart_spec.proofs.EditExamples.{tri}

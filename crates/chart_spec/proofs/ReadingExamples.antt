@@ -1,13 +1,10 @@
 -- Examples of Reading.antt: entries that list more than they should, so that each test decides alone.
 -- Assumes nothing.
 use mathlib.Core.Path.{_≡_, refl}
-use mathlib.Core.Bool.{Bool, true, false}
+use mathlib.Core.Bool.{true, false}
 use mathlib.Core.List.{List, [], _∷_, map}
-use mathlib.Core.Option.{Option, none, some}
-use Prim.Native.Nat.{ℕ}
+use mathlib.Core.Option.{none, some}
 use Rattle.orthtree.specs.Entries.{Entry}
-use Rattle.plane.specs.declared.Point.{Point}
-use Rattle.plane.specs.Triangle.{Triangle}
 use Rattle.chart_spec.specs.Table.{Table}
 use Rattle.chart_spec.specs.Reading.{cellOf, listing, located, sound, totalArea}
 use Rattle.chart_spec.proofs.Evaluate.{evaluate}

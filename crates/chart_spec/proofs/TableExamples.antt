@@ -1,14 +1,13 @@
 -- Examples of Table.antt: from numbers to points, triangles and tables, and back.
 -- Assumes nothing.
 use mathlib.Core.Path.{_≡_, refl}
-use mathlib.Core.Bool.{Bool, true, false}
+use mathlib.Core.Bool.{true, false}
 use mathlib.Core.List.{List, [], _∷_, map}
 use Prim.Native.Nat.{ℕ}
 use lib.Dec.{le→leb, leb→le}
-use lib.ListN.{length, replicate}
-use Rattle.plane.specs.declared.Point.{Point}
-use Rattle.plane.specs.Triangle.{Triangle, Side}
-use Rattle.chart_spec.specs.Table.{Table, IsTable, maxTriangles, numbersPerTriangle, tableLength, sixteenBit, pointAt, triangleAt, tableOf, triangleNumbers, tableNumbers, noTriangle, numbered, tableSides}
+use lib.ListN.{replicate}
+use Rattle.plane.specs.Triangle.{Triangle}
+use Rattle.chart_spec.specs.Table.{IsTable, maxTriangles, numbersPerTriangle, tableLength, sixteenBit, pointAt, triangleAt, tableOf, triangleNumbers, tableNumbers, noTriangle, numbered, tableSides}
 use Rattle.chart_spec.specs.Cells.{maxEntries}
 use Rattle.chart_spec.specs.Overlay.{maxPairs}
 use Rattle.chart_spec.proofs.Evaluate.{evaluate}

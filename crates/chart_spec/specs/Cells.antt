@@ -1,6 +1,6 @@
 -- Document 01, "Cells and entries".
 -- Assumes nothing.
-use mathlib.Core.Bool.{Bool, true, _&&_, _||_}
+use mathlib.Core.Bool.{Bool, true, _||_}
 use mathlib.Core.List.{List, [], _∷_, map, flatMap}
 use Prim.Native.Nat.{ℕ, _-_}
 use lib.Dec.{eqb}
@@ -9,7 +9,7 @@ use Rattle.orthtree.specs.Leaves.{leavesBelow}
 use Rattle.orthtree.specs.Entries.{Entry, emptyMark}
 use Rattle.plane.specs.declared.Point.{Point}
 use Rattle.plane.specs.Point.{samePoint}
-use Rattle.plane.specs.Triangle.{Triangle, Side}
+use Rattle.plane.specs.Triangle.{Side}
 use Rattle.plane.specs.Box.{sideMeets, triangleMeets}
 use Rattle.squares.specs.declared.Square.{Square}
 use Rattle.squares.specs.Square.{depth, quarters, wholeSquare, squareKey, squareBox}

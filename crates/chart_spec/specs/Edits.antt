@@ -12,7 +12,7 @@ use Rattle.plane.specs.Point.{samePoint}
 use Rattle.plane.specs.Triangle.{Triangle, proper, strictlyInside}
 use Rattle.chart_spec.specs.Table.{Table, numbered, tableOf, maxTriangles, numbersPerTriangle, tableLength, sixteenBit}
 use Rattle.chart_spec.specs.Cells.{entriesOf, maxEntries}
-use Rattle.chart_spec.specs.Refusals.{Refusal, badLength, faultyTriangle, noSuchTriangle, notInside, notThreeAround, noFlip, tableFull, tooManyEntries, Outcome, refused, done, refuseIf, andThen, doneOr}
+use Rattle.chart_spec.specs.Refusals.{badLength, faultyTriangle, noSuchTriangle, notInside, notThreeAround, noFlip, tableFull, tooManyEntries, Outcome, refused, done, refuseIf, andThen, doneOr}
 
 -- a triangle by its corners
 unfoldable pub triangle : Point → Point → Point → Triangle

@@ -16,6 +16,7 @@ use Rattle.lists.proofs.Reflects.{reflects-eqb, reflects-iff, test-false}
 use Rattle.lists.proofs.ListsLaws.{Every, getD-member}
 use Rattle.lists.proofs.IndexLaws.{reflects-same, all-below-reflects}
 use Rattle.orthtree.specs.Entries.{Entry}
+use Rattle.orthtree.proofs.EntriesLaws.{noEntry}
 use Rattle.call_spec.specs.Buffers.{zipEntries, sameEntries}
 use Rattle.call_laws.proofs.EntriesLaws.{sameEntries-reflects, first-count, first-at}
 use Rattle.leaves.specs.Packed.{packed}
@@ -29,9 +30,6 @@ module _ {most : ℕ} {es : List Entry} {r : ℕ} {l l′ : List ℕ} (p : Packe
   abbrev given : List Entry
   given = take m (zipEntries ks ls is)
 
-  abbrev none : Entry
-  none = record { key = 0; level = 0; item = 0 }
-
   -- another count
   pub match-count : (r ≡ m → ⊥) → false ≡ sameEntries given es
   match-count n =
@@ -42,29 +40,29 @@ module _ {most : ℕ} {es : List Entry} {r : ℕ} {l l′ : List ℕ} (p : Packe
   module _ (e : r ≡ m) (q : Every (λ e. Packable e) es)
       (levels : (k : ℕ) → getD ls k 0 < 256) (items : (k : ℕ) → getD is k 0 < 65536) where
     -- what the list of packed entries holds
-    packed-at : (i : ℕ) → i < m → getD l′ i 0 ≡ packed (getD es i none)
+    packed-at : (i : ℕ) → i < m → getD l′ i 0 ≡ packed (getD es i noEntry)
     unfolding packed
     packed-at i h =
         sym (getD-take r l′ i 0 (omega arith))
         ∙ ap (λ x. getD x i 0) (packed-take p (omega arith))
-        ∙ List·getD-map (λ d. packed d) es i none
+        ∙ List·getD-map (λ d. packed d) es i noEntry
 
     abbrev sameAt : ℕ → Bool
     sameAt i = eqb (getD l′ i 0) (packedAt ks ls is i)
 
     same-to : ((i : ℕ) → i < m → T (sameAt i)) → given ≡ es
     same-to t =
-        ext-getD none given es (first-count ks ls is m a b c ∙ sym e ∙ packed-count p (omega arith)) (λ i h.
+        ext-getD noEntry given es (first-count ks ls is m a b c ∙ sym e ∙ packed-count p (omega arith)) (λ i h.
         let j : i < m = omega (arith, first-count ks ls is m a b c) in
-        first-at ks ls is m a b c none i j
-        ∙ packed-injective (record { key = getD ks i 0; level = getD ls i 0; item = getD is i 0 }) (getD es i none) (record { level = levels i; item = items i })
-        (q (getD es i none) (getD-member es i none (omega (arith, packed-count p (omega arith)))))
+        first-at ks ls is m a b c noEntry i j
+        ∙ packed-injective (record { key = getD ks i 0; level = getD ls i 0; item = getD is i 0 }) (getD es i noEntry) (record { level = levels i; item = items i })
+        (q (getD es i noEntry) (getD-member es i noEntry (omega (arith, packed-count p (omega arith)))))
         (sym (eqb→eq (getD l′ i 0) (packedAt ks ls is i) (t i j)) ∙ packed-at i j))
 
     same-from : given ≡ es → (i : ℕ) → i < m → T (sameAt i)
     same-from g i h =
         reflects-eqb (getD l′ i 0) (packedAt ks ls is i) .from
-        (packed-at i h ∙ ap (λ x. packed (getD x i none)) (sym g) ∙ ap (λ d. packed d) (first-at ks ls is m a b c none i h))
+        (packed-at i h ∙ ap (λ x. packed (getD x i noEntry)) (sym g) ∙ ap (λ d. packed d) (first-at ks ls is m a b c noEntry i h))
 
     -- the same count: the entries are equal when their numbers are, place by place
     pub match-places : {o : Bool} → o ≡ all sameAt (upTo m) → o ≡ sameEntries given es

@@ -2,14 +2,14 @@
 -- Assumes nothing.
 use mathlib.Core.Path.{_≡_, refl, sym, _∙_}
 use mathlib.Core.Bool.{Bool, true, false, true≢false}
-use mathlib.Core.List.{List, [], _∷_, List·Memᴰ, List·Memᴰ·head, List·Memᴰ·tail}
+use mathlib.Core.List.{List, _∷_, List·Memᴰ, List·Memᴰ·head, List·Memᴰ·tail}
 use mathlib.Core.Option.{Option, none, some}
 use Prim.Native.Nat.{ℕ, _≤_, _<_}
 use native.Mathlib.Nat.{le-refl}
 use native.Mathlib.Omega.{arith}
 use Rattle.lists.specs.Lists.{first}
 use Rattle.lists.proofs.ListsLaws.{Every, every-cons}
-use Rattle.lists.proofs.EveryLaws.{every-nil, every-imp}
+use Rattle.lists.proofs.EveryLaws.{every-nil}
 use Rattle.lists.proofs.Order.{Ordered, ordered-none, ordered-more}
 
 module _ (f : ℕ → Bool) where

@@ -3,17 +3,15 @@
 -- Each law is an induction along the order.
 -- Assumes nothing.
 use mathlib.Core.Path.{_≡_, refl, sym, ap₂, subst}
-use mathlib.Core.Bool.{Bool, true, false}
-use mathlib.Core.List.{List, _∷_, _++_, map, flatMap, List·Memᴰ, List·Memᴰ·head, List·Memᴰ·tail, List·Memᴰ·not-nil, List·Memᴰ·cases-cons}
+use mathlib.Core.List.{List, _∷_, _++_, flatMap, List·Memᴰ, List·Memᴰ·head, List·Memᴰ·tail, List·Memᴰ·not-nil, List·Memᴰ·cases-cons}
 use mathlib.Core.Logic.{_⊎_, inl, inr}
 use Prim.Native.Nat.{ℕ, zero, suc, _+_, _<_}
 use native.Mathlib.Nat.{le-refl, zero-add}
 use native.Mathlib.Omega.{arith}
 use lib.ListN.{length, getD}
-use Rattle.lists.specs.Lists.{filter, countFrom, upTo}
+use Rattle.lists.specs.Lists.{countFrom, upTo}
 use Rattle.lists.proofs.ListsLaws.{Every, every-uncons}
-use Rattle.lists.proofs.EveryLaws.{every-map, every-append, every-flatMap}
-use Rattle.lists.proofs.MemberLaws.{filter-to}
+use Rattle.lists.proofs.EveryLaws.{every-append, every-flatMap}
 use Rattle.lists.proofs.Order.{Ordered, ordered-none, ordered-more, ordered-at, Rising, rising-none, rising-more, rising-ordered}
 
 -- two ordered lists joined, where each element of the first stands in the relation to each of the second

@@ -2,18 +2,17 @@
 -- Assumes nothing.
 use mathlib.Core.Path.{_≡_, refl}
 use mathlib.Core.List.{List, [], _∷_, _++_, map}
-use mathlib.Core.Option.{Option, none, some}
+use mathlib.Core.Option.{none, some}
 use Prim.Native.Nat.{ℕ}
 use Rattle.plane.specs.declared.Point.{Point}
 use Rattle.plane.specs.Triangle.{Triangle}
 use Rattle.chart_spec.specs.Table.{Table}
-use Rattle.chart_spec.specs.Refusals.{Outcome, refused, done, brokenChain, faultyTriangle, notThreeAround}
+use Rattle.chart_spec.specs.Refusals.{refused, done, brokenChain, faultyTriangle, notThreeAround}
 use Rattle.chart_spec.specs.Edits.{load, split, takeOut, flip, eventOn}
-use Rattle.chart_spec.specs.Overlay.{OverlayAnswer}
 use Rattle.chart_spec.proofs.MarkedCases.{at}
 use Rattle.chart_spec.proofs.RefusalsExamples.{rows}
-use Rattle.chart_spec.proofs.EditExamples.{pa, pb, pc, pd, pp, tri}
-use Rattle.log_spec.specs.Log.{State, Step, startState, tableIn, withChart, withWaiting, refusalNumbers, eventNumbers, eventStep, waitStep, loadStep, foundNumber, locateStep, overlayLines, overlayStep, runCommand, stepOf, line, badLine, logFrom}
+use Rattle.chart_spec.proofs.EditExamples.{tri}
+use Rattle.log_spec.specs.Log.{State, startState, tableIn, withChart, withWaiting, refusalNumbers, eventNumbers, eventStep, waitStep, loadStep, foundNumber, locateStep, overlayLines, overlayStep, runCommand, stepOf, line, badLine, logFrom}
 use Rattle.log_spec.proofs.Evaluate.{evaluate}
 
 -- the state of two charts and a waiting table

@@ -1,8 +1,7 @@
 -- Examples of the command program's log.
 -- Assumes nothing.
 use mathlib.Core.Path.{_≡_, refl}
-use mathlib.Core.List.{List, [], _∷_, _++_, map}
-use Prim.Native.Nat.{ℕ}
+use mathlib.Core.List.{[], _∷_, _++_, map}
 use lib.ListN.{replicate}
 use Rattle.chart_spec.specs.Refusals.{refused, tooManyPairs}
 use Rattle.log_spec.specs.Log.{logOf, waitStep, overlayLines}

@@ -1,11 +1,10 @@
 -- Examples of Log.antt, the lines that are printed and the bytes that are read.
 -- Assumes nothing.
 use mathlib.Core.Path.{_≡_, refl}
-use mathlib.Core.Bool.{Bool, true, false}
+use mathlib.Core.Bool.{true, false}
 use mathlib.Core.List.{List, [], _∷_, map}
 use Prim.Native.Nat.{ℕ}
 use lib.ListN.{replicate}
-use Rattle.plane.specs.declared.Point.{Point}
 use Rattle.chart_spec.proofs.MarkedCases.{at}
 use Rattle.log_spec.specs.Log.{digits, decimal, spaced, line, heading, badLine, pointOperand, known, takesChart, wordCount, chartBytes, operandBytes, wordsOf, wellFormed, logOf}
 use Rattle.log_spec.proofs.Evaluate.{evaluate}

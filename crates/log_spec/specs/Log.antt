@@ -6,14 +6,13 @@ use mathlib.Core.List.{List, [], _∷_, _++_, flatMap}
 use mathlib.Core.Option.{Option, none, some}
 use Prim.Native.Nat.{ℕ, zero, suc, _+_, _*_, _/_, _%_}
 use lib.Dec.{leb, ltb, eqb}
-use lib.ListN.{length, take, drop, getD}
-use Rattle.orthtree.specs.Entries.{Entry}
+use lib.ListN.{length, drop, getD}
 use Rattle.plane.specs.declared.Point.{Point}
 use Rattle.chart_spec.specs.Table.{Table, tableLength}
 use Rattle.chart_spec.specs.Cells.{entriesOf}
 use Rattle.chart_spec.specs.Refusals.{Refusal, badLength, faultyTriangle, Outcome, refused, done, doneOr}
-use Rattle.chart_spec.specs.Edits.{Event, load, split, takeOut, flip, eventOn}
-use Rattle.chart_spec.specs.Overlay.{Pair, OverlayAnswer, overlayOf}
+use Rattle.chart_spec.specs.Edits.{load, split, takeOut, flip, eventOn}
+use Rattle.chart_spec.specs.Overlay.{OverlayAnswer, overlayOf}
 use Rattle.chart_spec.specs.Reading.{located}
 
 -- Lines

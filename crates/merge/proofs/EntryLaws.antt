@@ -14,6 +14,7 @@ use lib.Seq.{take-all}
 use Rattle.lists.specs.Lists.{any}
 use Rattle.lists.proofs.PartLaws.{part-map}
 use Rattle.orthtree.specs.Entries.{Entry}
+use Rattle.orthtree.proofs.EntriesLaws.{noEntry}
 use Rattle.chain_blocks.proofs.KeyBlocksLaws.{KeysOf}
 use Rattle.call_spec.specs.Buffers.{zipEntries}
 use Rattle.call_laws.proofs.EntriesLaws.{first-count, first-at}
@@ -24,14 +25,11 @@ pub record EntriesOf (ks is : List ℕ) (n : ℕ) (es : List Entry) : Type 0 whe
   pub keys : KeysOf ks n es
   pub items : (a r : ℕ) → a ≤ r → r ≤ n → take (r - a) (drop a is) ≡ map (λ e. e .item) (take (r - a) (drop a es))
 
-abbrev none : Entry
-none = record { key = 0; level = 0; item = 0 }
-
 -- three lists, whatever levels they have
 pub entries-of : (ks us is : List ℕ) (n : ℕ) → n ≤ length ks → n ≤ length us → n ≤ length is → EntriesOf ks is n (take n (zipEntries ks us is))
 entries-of ks us is n h l g = record {
   keys = record { count = sym count; keys = first-keys };
-  items = λ a r p q. part-map (λ e. e .item) es is none a r p (omega (arith, count)) (omega arith) (λ i s. ap (λ e. e .item) (at i (omega arith)));
+  items = λ a r p q. part-map (λ e. e .item) es is noEntry a r p (omega (arith, count)) (omega arith) (λ i s. ap (λ e. e .item) (at i (omega arith)));
 }
   where
     es : List Entry
@@ -40,12 +38,12 @@ entries-of ks us is n h l g = record {
     count : length es ≡ n
     count = first-count ks us is n h l g
 
-    at : (i : ℕ) → i < n → getD es i none ≡ record { key = getD ks i 0; level = getD us i 0; item = getD is i 0 }
-    at i s = first-at ks us is n h l g none i s
+    at : (i : ℕ) → i < n → getD es i noEntry ≡ record { key = getD ks i 0; level = getD us i 0; item = getD is i 0 }
+    at i s = first-at ks us is n h l g noEntry i s
 
     first-keys : take n ks ≡ map (λ e. e .key) es
     first-keys =
-        let p = part-map (λ e. e .key) es ks none 0 n (omega arith) (omega (arith, count)) (omega arith) (λ i s. ap (λ e. e .key) (at i s)) in
+        let p = part-map (λ e. e .key) es ks noEntry 0 n (omega arith) (omega (arith, count)) (omega arith) (λ i s. ap (λ e. e .key) (at i s)) in
         let whole : take n es ≡ es = take-all n es (omega (arith, count)) in
         rw (sub-zero n, whole) at p
 

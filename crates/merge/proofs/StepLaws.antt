@@ -15,6 +15,7 @@ use lib.Seq.{take-all}
 use Rattle.lists.specs.Lists.{any, sumOf, filter}
 use Rattle.lists.proofs.Reflects.{reflects-and, reflects-ltb, reflects-true}
 use Rattle.orthtree.specs.Entries.{Entry, span, chain, cellHeads, meetings, listedTogether}
+use Rattle.orthtree.proofs.EntriesLaws.{noEntry}
 use Rattle.squares.specs.Square.{arity, depth}
 use Rattle.chain_blocks.specs.KeyBlocks.{CellEnd, RunEnd, keyBlocks, keyFrom}
 use Rattle.chain_blocks.proofs.KeyBlocksLaws.{KeysOf, keys-at}
@@ -47,13 +48,10 @@ run-below c {es} rule {ks} {n} x {a} {p} {e} h cell w run = record {
   within = run .within;
   below = λ i l g. elim (decLt a i) [
     | yes s ↦ run .below i (omega arith) g
-    | no s ↦ let q : i ≡ a = omega arith in omega (arith, ap (λ k. getD ks k 0) q, keys-at x none a h, starts-before arity depth pos (getD es a none), cell-ends arity depth pos c es rule none x a p cell)
+    | no s ↦ let q : i ≡ a = omega arith in omega (arith, ap (λ k. getD ks k 0) q, keys-at x noEntry a h, starts-before arity depth pos (getD es a noEntry), cell-ends arity depth pos c es rule noEntry x a p cell)
   ];
   reached = run .reached;
 }
-  where
-    none : Entry
-    none = record { key = 0; level = 0; item = 0 }
 
 -- nothing is passed yet
 reached-start : (c d : ℕ) (es fs : List Entry) → T (chain arity depth c es) → T (chain arity depth d fs) → (rows : List ℕ)

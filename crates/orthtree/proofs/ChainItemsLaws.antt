@@ -10,14 +10,13 @@ use Prim.Native.Nat.{ℕ, _≤_, _<_}
 use native.Mathlib.Omega.{arith}
 use lib.Dec.{T, T-not}
 use Rattle.lists.specs.Lists.{filter}
-use Rattle.lists.proofs.ListsLaws.{Every}
 use Rattle.lists.proofs.EveryLaws.{every-imp, every-map}
 use Rattle.lists.proofs.FilterLaws.{every-filter}
 use Rattle.lists.proofs.Order.{Ordered, Rising, ordered-imp, ordered-map, ordered-filter, ordered-rising}
 use Rattle.orthtree.specs.Entries.{Entry, emptyMark, isMark, covers, chain}
 use Rattle.orthtree.proofs.EntriesLaws.{covers-reflects}
-use Rattle.orthtree.proofs.ChainLaws.{NextItem, Fits, isMark-reflects}
-use Rattle.orthtree.proofs.ChainOrderLaws.{Before, before-common, chain-ordered, chain-fits}
+use Rattle.orthtree.proofs.ChainLaws.{NextItem, isMark-reflects}
+use Rattle.orthtree.proofs.ChainOrderLaws.{before-common, chain-ordered, chain-fits}
 
 -- an item that is below the count or the mark, and not the mark
 unmarked-below : {count : ℕ} (e : Entry) → (e .item < count) ⊎ (e .item ≡ emptyMark) → T (not (isMark e)) → e .item < count

@@ -1,12 +1,14 @@
 -- What the tests on key ranges mean.
 -- Assumes nothing.
-use Prim.Native.Nat.{ℕ, _+_, _≤_, _<_, max}
+use Prim.Native.Nat.{ℕ, _≤_, _<_, max}
 use native.Mathlib.Nat.{one-le-pow}
 use native.Mathlib.Omega.{arith}
-use lib.Dec.{T, leb→le, le→leb, ltb→lt, lt→ltb}
-use mathlib.Core.Bool.{_&&_}
 use Rattle.lists.proofs.Reflects.{Reflects, reflects-and, reflects-leb, reflects-ltb}
 use Rattle.orthtree.specs.Entries.{Entry, span, rangeEnd, covers, overlaps}
+
+-- what a place past the end of a list of entries gives
+abbrev pub noEntry : Entry
+noEntry = record { key = 0; level = 0; item = 0 }
 
 -- every node covers a key
 pub span-positive : (arity depth level : ℕ) → 0 < arity → 0 < span arity depth level

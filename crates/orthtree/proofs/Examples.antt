@@ -2,11 +2,11 @@
 -- rule each.
 -- Assumes nothing.
 use mathlib.Core.Path.{_≡_, refl}
-use mathlib.Core.Bool.{Bool, true, false}
+use mathlib.Core.Bool.{true, false}
 use mathlib.Core.List.{List, [], _∷_, _++_, map, flatMap}
 use Prim.Native.Nat.{ℕ, _+_, _*_}
 use lib.Dec.{ltb}
-use Rattle.lists.specs.Lists.{all, any, filter, sumOf, runLength}
+use Rattle.lists.specs.Lists.{any, filter, sumOf, runLength}
 use Rattle.orthtree.specs.Morton.{lowestBits, mortonKey}
 use Rattle.orthtree.specs.Leaves.{leavesBelow}
 use Rattle.orthtree.specs.Entries.{Entry, emptyMark, isMark, sameCell, cellHeads, cellHeadsAfter, span, rangeEnd, covers, overlaps, meetings, listedTogether, entryFits, follows, chainAfter, chain}

@@ -3,9 +3,9 @@
 -- Assumes nothing.
 use mathlib.Core.Bool.{Bool, true, false, not, _&&_, _||_}
 use mathlib.Core.List.{List, [], _∷_}
-use Prim.Native.Nat.{ℕ, _+_, _*_, _-_, _%_, _^_}
+use Prim.Native.Nat.{ℕ, _+_, _-_, _%_, _^_}
 use lib.Dec.{leb, ltb, eqb}
-use Rattle.lists.specs.Lists.{all, any, filter, sumOf}
+use Rattle.lists.specs.Lists.{any, filter, sumOf}
 
 -- "An entry is key, level, triangle"; the third is the number of whatever the tree holds, an item
 pub record Entry : Type 0 where

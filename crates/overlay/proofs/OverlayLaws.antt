@@ -13,10 +13,10 @@ use Rattle.lists.specs.Lists.{filter, upTo}
 use Rattle.lists.proofs.Reflects.{or-neither}
 use Rattle.lists.proofs.ListsLaws.{upTo-to}
 use Rattle.lists.proofs.EveryLaws.{flatMap-agree}
-use Rattle.orthtree.specs.Entries.{Entry, chain, listedTogether, meetings}
+use Rattle.orthtree.specs.Entries.{Entry, chain, meetings}
 use Rattle.squares.specs.Square.{arity, depth}
 use Rattle.plane.specs.Interior.{interiorsMeet}
-use Rattle.chart_spec.specs.Table.{maxTriangles, tableOf, triangleAt, numbered}
+use Rattle.chart_spec.specs.Table.{maxTriangles, tableOf}
 use Rattle.chart_spec.specs.Refusals.{refuseIf, outcomeNumber}
 use Rattle.chart_spec.specs.Overlay.{Pair, pairNumbers, maxPairs, pairListed, pairsListed, withinPairs, overlayOf}
 use Rattle.chart_laws.proofs.TableLaws.{tableOf-length, numbered-at}

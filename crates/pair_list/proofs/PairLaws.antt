@@ -4,7 +4,7 @@
 use mathlib.Core.Path.{_≡_, refl, sym, _∙_, ap, subst}
 use mathlib.Core.Bool.{Bool, true, false, not, _&&_}
 use mathlib.Core.List.{List, [], _∷_, _++_, map, map-append, flatMap, append-nil, List·Memᴰ}
-use Prim.Native.Nat.{ℕ, suc, _+_, _*_, _-_, _≤_, _<_}
+use Prim.Native.Nat.{ℕ, _+_, _-_, _≤_, _<_}
 use native.Mathlib.Numerals.{add-one}
 use native.Mathlib.Omega.{arith}
 use borrow.Author.Tests.{lt-ltb, le-ltb}
@@ -18,8 +18,8 @@ use Rattle.lists.proofs.FilterLaws.{filter-pass, filter-fail, filter-append}
 use Rattle.lists.proofs.FlatMapLaws.{flatMap-append}
 use Rattle.lists.proofs.MemberLaws.{filter-to}
 use Rattle.lists.proofs.IndexLaws.{upTo-suc}
-use Rattle.chart_spec.specs.Table.{maxTriangles, numbersPerTriangle}
-use Rattle.chart_spec.specs.Overlay.{Pair, maxPairs}
+use Rattle.chart_spec.specs.Table.{maxTriangles}
+use Rattle.chart_spec.specs.Overlay.{maxPairs}
 use Rattle.boxes.specs.Boxes.{clear, boxAt, BoxedTable}
 use Rattle.boxes.proofs.BoxesLaws.{boxes-apart}
 use Rattle.boxes.proofs.CompactLaws.{compact-skip}

@@ -5,11 +5,11 @@ use mathlib.Core.Path.{_≡_, refl}
 use mathlib.Core.Bool.{Bool, true, false, not}
 use mathlib.Core.List.{List, [], _∷_, _++_, map}
 use Prim.Native.Nat.{ℕ}
-use lib.IntN.{ℤ, pos, negsuc}
+use lib.IntN.{pos, negsuc}
 use native.Mathlib.Omega.{arith}
 use Rattle.plane.specs.declared.Point.{Point}
 use Rattle.plane.specs.Point.{FracPoint, orient, orientAt, samePoint, whole}
-use Rattle.plane.specs.Triangle.{Triangle, Side, corners, cornerAt, sides, rotated, triangleOf, proper, holds, strictlyInside, holdsAt, strictlyInsideAt, doubledArea}
+use Rattle.plane.specs.Triangle.{Triangle, corners, cornerAt, sides, rotated, triangleOf, proper, holds, strictlyInside, holdsAt, strictlyInsideAt, doubledArea}
 use Rattle.plane.specs.Interior.{CommonInterior, someCornerInner, noSideSeparates, interiorsMeet}
 use Rattle.plane.specs.Box.{Box, apart, sideBox, triangleBox, allCorners, allInner, allOuter, sideMeets, triangleMeets}
 

@@ -6,8 +6,6 @@ use Prim.Native.Nat.{ℕ}
 use lib.ListN.{length}
 use native.Mathlib.Omega.{arith}
 use Rattle.orthtree.specs.Morton.{lowestBits, mortonKey}
-use Rattle.plane.specs.declared.Point.{Point}
-use Rattle.plane.specs.Box.{Box}
 use Rattle.squares.specs.declared.Square.{Square}
 use Rattle.squares.specs.Square.{depth, arity, sideAt, wholeSquare, topLeft, topRight, bottomLeft, bottomRight, quarters, zOrder, squareKey, squareBox, Aligned}
 

@@ -1,7 +1,6 @@
 use mathlib.Core.Path.{_∙_}
 use borrow.Author.Needs.{needs}
 use Rattle.bitsets.proofs.BitLaws.{zeros-empty}
-use Rattle.pair_list.specs.Pairs.{markedPairs}
 use Rattle.overlay.proofs.OverlayLaws.{overlay-same}
 use Rattle.overlay.proofs.list_pairs.Statement.{statement}
 use Rattle.overlay.proofs.list_pairs.Tie as tie
