@@ -3,7 +3,7 @@
 use mathlib.Core.Path.{_≡_, refl, sym, _∙_, ap, ap₂, subst}
 use mathlib.Core.Bool.{Bool, true, false, not, _&&_, _||_}
 use mathlib.Core.List.{List, [], _++_, map, flatMap}
-use Prim.Native.Nat.{ℕ, _+_, _*_, _-_, _≤_, _<_}
+use Prim.Native.Nat.{ℕ, _*_, _-_, _≤_, _<_}
 use native.Mathlib.Omega.{arith}
 use borrow.Author.Tests.{lt-ltb, le-ltb, ltb-false}
 use lib.Dec.{T, ltb}
@@ -41,7 +41,7 @@ both false b e = absurd (subst (λ b. T b) (sym e) tt)
 -- ---- refusals 1 and 2
 
 -- what a chart has that neither refuses
-pub passed : (c : Chart) → tooShort c ≡ false → chainRule c ≡ true → Passed (c .table) (c .keys) (c .items) (c .triangleCount) (c .entryCount)
+passed : (c : Chart) → tooShort c ≡ false → chainRule c ≡ true → Passed (c .table) (c .keys) (c .items) (c .triangleCount) (c .entryCount)
 unfolding chartTable
 passed c s e =
     let held = rule-held c s e in

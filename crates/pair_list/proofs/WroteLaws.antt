@@ -23,9 +23,6 @@ unfolding pairNumbers
 numbers-append ps qs = flatMap-append (λ p. p .i ∷ p .j ∷ []) ps qs
 
 -- counts that stop at a limit
-least-of : (a n : ℕ) → a ≤ n → a ≡ min a n
-least-of a n h = sym (min-eq-left h)
-
 join-counts : (a b c x y n : ℕ) → b ≡ min (a + x) n → c ≡ min (b + y) n → c ≡ min (a + (x + y)) n
 join-counts a b c x y n e f = omega arith
 
