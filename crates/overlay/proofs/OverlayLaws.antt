@@ -28,7 +28,8 @@ use Rattle.answers.specs.declared.Overlaid.{Overlaid}
 use Rattle.answers.specs.Outcomes.{overlaidOf}
 use Rattle.list_writes.proofs.StoreLaws.{padded-sets}
 use Rattle.merge.specs.Merge.{Overlapping}
-use Rattle.pair_list.specs.Pairs.{meetsAt, markedAt, rowPairs, markedPairs, Wrote}
+use Rattle.pair_list.specs.Pairs.{meetsAt, rowPairs, markedPairs, Wrote}
+use Rattle.row_candidates.specs.RowCandidates.{markedAt}
 use Rattle.pair_list.proofs.WroteLaws.{numbers-length}
 use Rattle.pair_list.proofs.PairLaws.{filter-agree}
 use Rattle.overlay.specs.Judged.{Passed}

@@ -1,4 +1,2 @@
-pub mod WordLaws
-pub mod NearLaws
 pub mod WroteLaws
 pub mod PairLaws

@@ -23,7 +23,8 @@ use Rattle.chart_spec.specs.Overlay.{maxPairs}
 use Rattle.boxes.specs.Boxes.{clear, boxAt, BoxedTable}
 use Rattle.boxes.proofs.BoxesLaws.{boxes-apart}
 use Rattle.boxes.proofs.CompactLaws.{compact-skip}
-use Rattle.pair_list.specs.Pairs.{meetsAt, markedAt, pairIf, nearPairs, rowPairs, markedPairs, Wrote, EachTriangle, isNear, NearInRow}
+use Rattle.pair_list.specs.Pairs.{meetsAt, pairIf, nearPairs, rowPairs, markedPairs, Wrote, EachTriangle}
+use Rattle.row_candidates.specs.RowCandidates.{markedAt, isNear, NearInRow}
 use Rattle.pair_list.proofs.WroteLaws.{wrote-none, wrote-join}
 
 module _ {A : Type 0} (p q : A → Bool) where

@@ -1,27 +1,21 @@
 -- The pairs of an overlay, from two tables and a table of marks: row i has a bit for each triangle of the second table.
 -- Assumes nothing.
 use mathlib.Core.Path.{_≡_}
-use mathlib.Core.Bool.{Bool, not, _&&_, cond}
+use mathlib.Core.Bool.{Bool, _&&_, cond}
 use mathlib.Core.List.{List, [], _∷_, map, flatMap}
 use Prim.Native.Nat.{ℕ, suc, _+_, _*_, _≤_, _<_, min}
-use lib.Dec.{ltb}
-use lib.ListN.{length, getD, take, drop}
+use lib.ListN.{length, getD, drop}
 use lib.Seq.{sets}
 use Rattle.lists.specs.Lists.{filter, upTo}
 use Rattle.plane.specs.Interior.{interiorsMeet}
 use Rattle.chart_spec.specs.Table.{maxTriangles, numbersPerTriangle, triangleAt}
 use Rattle.chart_spec.specs.Overlay.{Pair, pairNumbers, maxPairs}
 use Rattle.call_spec.specs.Buffers.{pairsLength}
-use Rattle.boxes.specs.Boxes.{clear, boxAt}
-use Rattle.bitsets.specs.Bits.{hasBit}
+use Rattle.row_candidates.specs.RowCandidates.{markedAt}
 
 -- triangle i of the first table shares ground with triangle j of the second
 abbrev pub meetsAt : List ℕ → List ℕ → ℕ → ℕ → Bool
 meetsAt first second i j = interiorsMeet (triangleAt first i) (triangleAt second j)
-
--- triangles i and j are marked
-abbrev pub markedAt : List ℕ → ℕ → ℕ → Bool
-markedAt rows i j = hasBit rows (maxTriangles * i + j)
 
 -- the pair of i and j, or nothing
 abbrev pub pairIf : Bool → ℕ → ℕ → List Pair
@@ -47,16 +41,6 @@ pub record Wrote (ps : List Pair) (at next : ℕ) (before after : List ℕ) : Ty
   pub stored : at + length ps ≤ maxPairs → after ≡ sets before (2 * at) (pairNumbers ps)
   pub beyond : drop pairsLength after ≡ drop pairsLength before
   pub kept : length after ≡ length before
-
--- triangle j of the second table may share ground with triangle i of the first: they are marked, and their boxes are not clear
-abbrev pub isNear : List ℕ → List ℕ → List ℕ → List ℕ → List ℕ → List ℕ → List ℕ → List ℕ → List ℕ → ℕ → ℕ → ℕ → Bool
-isNear ls ts rs bs ls′ ts′ rs′ bs′ rows m i j =
-    markedAt rows i j && not (clear (boxAt ls ts rs bs i) (boxAt ls′ ts′ rs′ bs′ j)) && ltb j m
-
--- the first c numbers of a list are those below j, of row i
-pub record NearInRow (ls ts rs bs ls′ ts′ rs′ bs′ rows : List ℕ) (m i : ℕ) (near : List ℕ) (j c : ℕ) : Type 0 where
-  pub few : c ≤ j
-  pub listed : take c near ≡ filter (λ k. isNear ls ts rs bs ls′ ts′ rs′ bs′ rows m i k) (upTo j)
 
 -- the first d numbers of a list are those of triangles of a table
 abbrev pub EachTriangle : List ℕ → List ℕ → ℕ → Type 0

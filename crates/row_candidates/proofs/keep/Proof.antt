@@ -3,8 +3,8 @@ use mathlib.Core.Bool.{cond, _||_}
 use Prim.Native.Nat.{_+_}
 use borrow.Author.Needs.{needs}
 use lib.Dec.{leb}
-use Rattle.pair_list.proofs.keep.Statement.{statement}
-use Rattle.pair_list.proofs.keep.Tie as tie
+use Rattle.row_candidates.proofs.keep.Statement.{statement}
+use Rattle.row_candidates.proofs.keep.Tie as tie
 
 mul-near : tie.Need-mul-near
 mul-near c = search needs

@@ -15,8 +15,8 @@ use lib.ListN.{length, getD, set}
 use Rattle.boxes.specs.Boxes.{clear, boxAt}
 use Rattle.boxes.proofs.CompactLaws.{compact-none, compact-step, compact-skip}
 use Rattle.bitsets.specs.Bits.{wordBit, hasBit}
-use Rattle.pair_list.specs.Pairs.{markedAt, isNear, NearInRow}
-use Rattle.pair_list.proofs.WordLaws.{Lowest, lowest, bits-before, bit-there, bit-within, bits-after, bits-none}
+use Rattle.row_candidates.specs.RowCandidates.{markedAt, isNear, NearInRow}
+use Rattle.row_candidates.proofs.WordLaws.{Lowest, lowest, bits-before, bit-there, bit-within, bits-after, bits-none}
 
 -- j is below m, or not
 below-not : (j m : ℕ) → ltb j m ≡ not (leb m j)

@@ -6,11 +6,11 @@ use lib.Count.{trailingZeros, trailing-le}
 use lib.ListN.{length, getD}
 use Rattle.chart_spec.specs.Table.{maxTriangles}
 use Rattle.boxes.proofs.BoxesLaws.{places-fewer, set-length}
-use Rattle.pair_list.specs.Pairs.{NearInRow}
-use Rattle.pair_list.proofs.WordLaws.{Lowest}
-use Rattle.pair_list.proofs.NearLaws.{word-start, near-more, word-ended, next-mark, mark-within, mark-next, mark-there, mark-past}
-use Rattle.pair_list.proofs.collect_word.Statement.{statement}
-use Rattle.pair_list.proofs.collect_word.Tie as tie
+use Rattle.row_candidates.specs.RowCandidates.{NearInRow}
+use Rattle.row_candidates.proofs.WordLaws.{Lowest}
+use Rattle.row_candidates.proofs.NearLaws.{word-start, near-more, word-ended, next-mark, mark-within, mark-next, mark-there, mark-past}
+use Rattle.row_candidates.proofs.collect_word.Statement.{statement}
+use Rattle.row_candidates.proofs.collect_word.Tie as tie
 
 abbrev Inv-loop : tie.InvT-loop
 Inv-loop lefts tops rights bottoms other-lefts other-tops other-rights other-bottoms rows m i q near₀ c w₀ j₀ n₀ near w j n =

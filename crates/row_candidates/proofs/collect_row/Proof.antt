@@ -4,10 +4,10 @@ use native.Mathlib.Omega.{arith}
 use borrow.Author.Needs.{needs}
 use lib.ListN.{length}
 use Rattle.chart_spec.specs.Table.{maxTriangles}
-use Rattle.pair_list.specs.Pairs.{NearInRow}
-use Rattle.pair_list.proofs.NearLaws.{near-none}
-use Rattle.pair_list.proofs.collect_row.Statement.{statement}
-use Rattle.pair_list.proofs.collect_row.Tie as tie
+use Rattle.row_candidates.specs.RowCandidates.{NearInRow}
+use Rattle.row_candidates.proofs.NearLaws.{near-none}
+use Rattle.row_candidates.proofs.collect_row.Statement.{statement}
+use Rattle.row_candidates.proofs.collect_row.Tie as tie
 
 abbrev Inv-loop : tie.InvT-loop
 Inv-loop lefts tops rights bottoms other-lefts other-tops other-rights other-bottoms rows m i near₀ c₀ q₀ near c q =
