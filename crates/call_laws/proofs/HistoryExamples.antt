@@ -1,5 +1,5 @@
--- Examples of lists of calls on charts: each call gets what the one before it left. They take long, so they are not among those
--- of call_spec, which every edit of its definitions computes again.
+-- Examples of accepted and refused calls on charts, and of lists of calls: each call gets what the one before it left. They take
+-- long, so they are not among those of call_spec, which every edit of its definitions computes again.
 -- Assumes nothing.
 use mathlib.Core.Path.{_≡_, refl}
 use mathlib.Core.List.{List, [], _∷_, _++_}
@@ -8,11 +8,37 @@ use lib.ListN.{take}
 use Rattle.chart_spec.specs.Edits.{load, split, takeOut, flip}
 use Rattle.chart_spec.proofs.MarkedCases.{at}
 use Rattle.call_spec.specs.Buffers.{Chart}
-use Rattle.call_spec.specs.Calls.{splitCall, takeOutCall}
+use Rattle.call_spec.specs.Calls.{Changed, loadCall, splitCall, takeOutCall, flipCall}
 use Rattle.call_spec.specs.History.{chartAfter}
 use Rattle.call_spec.proofs.Evaluate.{evaluate}
 use Rattle.call_spec.proofs.Examples.{numbersA, dirty, indexedA}
-use Rattle.call_spec.proofs.CallExamples.{numbersU, numbersV, stale}
+use Rattle.call_spec.proofs.CallExamples.{numbersU, numbersV, chartU, chartUV, stale}
+
+-- 5 with the lowest faulty triangle
+loadCall-faulty-example : loadCall (numbersU ++ (0 ∷ 0 ∷ 5 ∷ 5 ∷ 9 ∷ 9 ∷ []) ++ numbersU) chartU ≡ record { number = 5; value = 1; chart = chartU }
+unfolding evaluate
+loadCall-faulty-example = refl
+
+-- a split: the numbers and the new table
+abbrev splitU : Changed
+unfolding evaluate
+splitU = splitCall 0 (at 20000 10000) chartU
+
+splitCall-example : splitU .number ∷ splitU .value ∷ splitU .chart .triangleCount ∷ take 19 (splitU .chart .table)
+    ≡ 0 ∷ 0 ∷ 3 ∷ 0 ∷ 0 ∷ 65535 ∷ 0 ∷ 20000 ∷ 10000 ∷ 65535 ∷ 0 ∷ 0 ∷ 65535 ∷ 20000 ∷ 10000 ∷ 0 ∷ 65535 ∷ 0 ∷ 0 ∷ 20000 ∷ 10000 ∷ 0 ∷ []
+unfolding evaluate
+splitCall-example = refl
+
+-- flips of 0 and 1 and of 1 and 0 differ
+abbrev flipped : Changed → List ℕ
+flipped r = r .number ∷ r .value ∷ r .chart .triangleCount ∷ r .chart .entryCount ∷ take 13 (r .chart .table)
+
+flipCall-example : flipped (flipCall 0 1 chartUV) ∷ flipped (flipCall 1 0 chartUV) ∷ []
+    ≡ (0 ∷ 0 ∷ 2 ∷ 14 ∷ 65535 ∷ 0 ∷ 65535 ∷ 65535 ∷ 0 ∷ 0 ∷ 65535 ∷ 65535 ∷ 0 ∷ 65535 ∷ 0 ∷ 0 ∷ 0 ∷ [])
+    ∷ (0 ∷ 0 ∷ 2 ∷ 14 ∷ 0 ∷ 0 ∷ 65535 ∷ 0 ∷ 65535 ∷ 65535 ∷ 0 ∷ 65535 ∷ 0 ∷ 0 ∷ 65535 ∷ 65535 ∷ 0 ∷ [])
+    ∷ []
+unfolding evaluate
+flipCall-example = refl
 
 -- an edit after an edit: take out what was split, and the chart is as it was
 round-example : takeOutCall (at 50000 50000) (splitCall 1 (at 50000 50000) indexedA .chart) ≡ record { number = 0; value = 0; chart = indexedA }

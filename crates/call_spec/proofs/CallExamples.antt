@@ -6,10 +6,12 @@ use mathlib.Core.Bool.{true, false}
 use mathlib.Core.List.{List, [], _∷_, _++_, map}
 use Prim.Native.Nat.{ℕ}
 use lib.ListN.{take, replicate}
+use Rattle.plane.specs.declared.Point.{Point}
 use Rattle.plane.specs.Triangle.{Triangle}
 use Rattle.chart_spec.specs.Table.{Table}
-use Rattle.chart_spec.specs.Refusals.{shortBuffer, brokenChain, staleEntries, Outcome, refused, done, tooManyPairs, andThen}
-use Rattle.chart_spec.specs.Edits.{Event, load, split, takeOut, flip, eventOn, withinLimit}
+use Rattle.chart_spec.specs.Refusals.{Refusal, shortBuffer, brokenChain, staleEntries, Outcome, refused, done, tooManyPairs, andThen}
+use Rattle.chart_spec.specs.Edits.{Event, load, split, takeOut, flip, eventOn, splitTable, takeOutTable, flipTable, withinLimit}
+use Rattle.chart_spec.specs.Overlay.{OverlayAnswer}
 use Rattle.chart_spec.proofs.MarkedCases.{at}
 use Rattle.chart_spec.proofs.RefusalsExamples.{rows}
 use Rattle.chart_spec.proofs.EditExamples.{tri}
@@ -44,10 +46,10 @@ abbrev levelsU : List ℕ
 levelsU = 2 ∷ 2 ∷ 2 ∷ 2 ∷ 1 ∷ 1 ∷ 1 ∷ []
 
 -- U; V; U with V
-abbrev chartU : Chart
+abbrev pub chartU : Chart
 chartU = filled numbersU keysU levelsU (0 ∷ 0 ∷ 0 ∷ 0 ∷ 0 ∷ 0 ∷ 65535 ∷ []) 1 7
 
-abbrev chartUV : Chart
+abbrev pub chartUV : Chart
 chartUV =
     filled
     (numbersU ++ numbersV)
@@ -99,11 +101,6 @@ loadCall-example : (ns : List ℕ)
 unfolding evaluate
 loadCall-example ns = refl
 
--- 5 with the lowest faulty triangle
-loadCall-faulty-example : loadCall (numbersU ++ (0 ∷ 0 ∷ 5 ∷ 5 ∷ 9 ∷ 9 ∷ []) ++ numbersU) chartU ≡ record { number = 5; value = 1; chart = chartU }
-unfolding evaluate
-loadCall-faulty-example = refl
-
 -- 1, 2 and 3 before any edit, in this order; then what the edit makes of the table, and 11
 editCall-example : (edit : Table → Outcome Table)
     → map (λ c. editCall edit c) (short ∷ broken ∷ stale ∷ chartU ∷ [])
@@ -115,26 +112,12 @@ editCall-example : (edit : Table → Outcome Table)
 unfolding evaluate
 editCall-example edit = refl
 
--- a split: the numbers and the new table
-abbrev splitU : Changed
-unfolding evaluate
-splitU = splitCall 0 (at 20000 10000) chartU
-
-splitCall-example : splitU .number ∷ splitU .value ∷ splitU .chart .triangleCount ∷ take 19 (splitU .chart .table)
-    ≡ 0 ∷ 0 ∷ 3 ∷ 0 ∷ 0 ∷ 65535 ∷ 0 ∷ 20000 ∷ 10000 ∷ 65535 ∷ 0 ∷ 0 ∷ 65535 ∷ 20000 ∷ 10000 ∷ 0 ∷ 65535 ∷ 0 ∷ 0 ∷ 20000 ∷ 10000 ∷ 0 ∷ []
-unfolding evaluate
-splitCall-example = refl
-
--- flips of 0 and 1 and of 1 and 0 differ
-abbrev flipped : Changed → List ℕ
-flipped r = r .number ∷ r .value ∷ r .chart .triangleCount ∷ r .chart .entryCount ∷ take 13 (r .chart .table)
-
-flipCall-example : flipped (flipCall 0 1 chartUV) ∷ flipped (flipCall 1 0 chartUV) ∷ []
-    ≡ (0 ∷ 0 ∷ 2 ∷ 14 ∷ 65535 ∷ 0 ∷ 65535 ∷ 65535 ∷ 0 ∷ 0 ∷ 65535 ∷ 65535 ∷ 0 ∷ 65535 ∷ 0 ∷ 0 ∷ 0 ∷ [])
-    ∷ (0 ∷ 0 ∷ 2 ∷ 14 ∷ 0 ∷ 0 ∷ 65535 ∷ 0 ∷ 65535 ∷ 65535 ∷ 0 ∷ 65535 ∷ 0 ∷ 0 ∷ 65535 ∷ 65535 ∷ 0 ∷ [])
-    ∷ []
-unfolding evaluate
-flipCall-example = refl
+-- which edit of the table each call is
+edit-calls-example : (t i j : ℕ) (p : Point) (c : Chart)
+    → splitCall t p c ∷ takeOutCall p c ∷ flipCall i j c ∷ []
+    ≡ editCall (λ table. splitTable t p table) c ∷ editCall (λ table. takeOutTable p table) c ∷ editCall (λ table. flipTable i j table) c ∷ []
+unfolding splitCall takeOutCall flipCall
+edit-calls-example t i j p c = refl
 
 -- Readers
 
@@ -144,8 +127,8 @@ unfolding evaluate
 reading-example a = refl
 
 -- U twice, in one cell, is not sound
-soundCall-example : map (λ c. soundCall c) (chartUV ∷ filled (numbersU ++ numbersU) (0 ∷ []) (0 ∷ []) (65535 ∷ []) 2 1 ∷ short ∷ broken ∷ [])
-    ≡ record { number = 0; isSound = true } ∷ record { number = 0; isSound = false } ∷ record { number = 1; isSound = false } ∷ record { number = 2; isSound = false } ∷ []
+soundCall-example : map (λ c. soundCall c) (chartUV ∷ filled (numbersU ++ numbersU) (0 ∷ []) (0 ∷ []) (65535 ∷ []) 2 1 ∷ [])
+    ≡ record { number = 0; isSound = true } ∷ record { number = 0; isSound = false } ∷ []
 unfolding evaluate
 soundCall-example = refl
 
