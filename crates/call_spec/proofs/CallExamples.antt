@@ -9,14 +9,13 @@ use lib.ListN.{take, replicate}
 use Rattle.plane.specs.declared.Point.{Point}
 use Rattle.plane.specs.Triangle.{Triangle}
 use Rattle.chart_spec.specs.Table.{Table}
-use Rattle.chart_spec.specs.Refusals.{Refusal, shortBuffer, brokenChain, staleEntries, Outcome, refused, done, tooManyPairs, andThen}
+use Rattle.chart_spec.specs.Refusals.{shortBuffer, brokenChain, staleEntries, Outcome, refused, done, tooManyPairs, andThen}
 use Rattle.chart_spec.specs.Edits.{Event, load, split, takeOut, flip, eventOn, splitTable, takeOutTable, flipTable, withinLimit}
-use Rattle.chart_spec.specs.Overlay.{OverlayAnswer}
 use Rattle.chart_spec.proofs.MarkedCases.{at}
 use Rattle.chart_spec.proofs.RefusalsExamples.{rows}
 use Rattle.chart_spec.proofs.EditExamples.{tri}
 use Rattle.call_spec.specs.Buffers.{Chart, chartOf, indexedChart}
-use Rattle.call_spec.specs.Calls.{Changed, Overlaid, changedBy, loadCall, editCall, splitCall, takeOutCall, flipCall, reading, soundCall, pairsRefused, overlaidBy, overlayCall}
+use Rattle.call_spec.specs.Calls.{Overlaid, changedBy, loadCall, editCall, splitCall, takeOutCall, flipCall, reading, soundCall, pairsRefused, overlaidBy, overlayCall}
 use Rattle.call_spec.specs.History.{eventCall, chartAfter}
 use Rattle.call_spec.proofs.Evaluate.{evaluate}
 

@@ -11,7 +11,7 @@ use Rattle.plane.specs.declared.Point.{Point}
 use Rattle.plane.specs.Point.{FracPoint, orient, orientAt, samePoint, whole}
 use Rattle.plane.specs.Triangle.{Triangle, corners, cornerAt, sides, rotated, triangleOf, proper, holds, strictlyInside, holdsAt, strictlyInsideAt, doubledArea}
 use Rattle.plane.specs.Interior.{CommonInterior, someCornerInner, noSideSeparates, interiorsMeet}
-use Rattle.plane.specs.Box.{Box, apart, sideBox, triangleBox, allCorners, allInner, allOuter, sideMeets, triangleMeets}
+use Rattle.plane.specs.Box.{Box, Framed, apart, sideBox, triangleBox, allCorners, allInner, allOuter, sideMeets, triangleMeets}
 
 abbrev at : ℕ → ℕ → Point
 at x y = record { x = x; y = y }
@@ -222,3 +222,13 @@ interiorsMeet-example = refl
 common-example : CommonInterior t u
 unfolding strictlyInsideAt orientAt
 common-example = record { point = frac 3 4 1; above = omega arith; first = tt; second = tt }
+
+-- the frame of the whole grid, whose right and bottom borders are at 65,536, one of a single point, and boxes that are none
+framed-example : Framed (box 0 0 65536 65536) × Framed (box 7 3 7 3)
+framed-example = (
+  record { wide = omega arith; tall = omega arith; right = omega arith; bottom = omega arith },
+  record { wide = omega arith; tall = omega arith; right = omega arith; bottom = omega arith },
+)
+
+unframed-example : ((Framed (box 8 3 7 3) → ⊥) × (Framed (box 7 4 7 3) → ⊥)) × ((Framed (box 0 0 65537 1) → ⊥) × (Framed (box 0 0 1 65537) → ⊥))
+unframed-example = ((λ f. omega (arith, f .wide), λ f. omega (arith, f .tall)), (λ f. omega (arith, f .right), λ f. omega (arith, f .bottom)))
