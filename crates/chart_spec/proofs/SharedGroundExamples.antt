@@ -6,10 +6,8 @@ use mathlib.Core.List.{[], _∷_}
 use mathlib.Core.Logic.{inl, inr}
 use native.Mathlib.Omega.{arith}
 use lib.IntN.{pos}
-use lib.ListN.{length}
 use Rattle.squares.specs.declared.Square.{Square}
 use Rattle.chart_spec.specs.Table.{Table}
-use Rattle.chart_spec.specs.Cells.{cells}
 use Rattle.chart_spec.specs.Overlay.{pair, Earlier, SharesGround, rangesOverlap, cellMeetings}
 use Rattle.chart_spec.proofs.Evaluate.{evaluate}
 use Rattle.chart_spec.proofs.MarkedCases.{at}
@@ -57,16 +55,15 @@ rangesOverlap-example = refl
 abbrev corner : Table
 corner = record { a = at 0 0; b = at 65535 0; c = at 0 65535 } ∷ []
 
--- two triangles whose cells are one of level 1, thirteen in the top right, one of level 1, four of level 2
+-- two triangles, of which the second covers a part of the first chart's
 abbrev two : Table
 two =
     record { a = at 40000 5000; b = at 45000 5000; c = at 60000 45000 }
     ∷ record { a = at 65535 65535; b = at 0 40000; c = at 60000 45000 }
     ∷ []
 
--- the cells of each, and 4 + 13 + 1 + 4 meetings: more than the cells of either, and fewer than all of them
-cellMeetings-example : length (cells corner) ∷ length (cells two) ∷ cellMeetings corner two ∷ cellMeetings two [] ∷ cellMeetings [] corner ∷ []
-    ≡ 7 ∷ 19 ∷ 22 ∷ 19 ∷ 7 ∷ []
+-- the one cell of an empty table meets each of seven
+cellMeetings-example : cellMeetings corner [] ∷ cellMeetings [] corner ∷ cellMeetings [] [] ∷ [] ≡ 7 ∷ 7 ∷ 1 ∷ []
 unfolding evaluate
 cellMeetings-example = refl
 

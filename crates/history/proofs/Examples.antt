@@ -2,10 +2,30 @@
 -- Assumes nothing.
 use mathlib.Core.Path.{_≡_, refl}
 use mathlib.Core.List.{[], _∷_, _++_, map}
-use lib.ListN.{replicate}
-use Rattle.chart_spec.specs.Overlay.{pair}
+use lib.ListN.{length, replicate}
+use Rattle.chart_spec.specs.Table.{Table}
+use Rattle.chart_spec.specs.Cells.{cells}
+use Rattle.chart_spec.specs.Overlay.{pair, cellMeetings}
+use Rattle.chart_spec.proofs.MarkedCases.{at}
 use Rattle.call_spec.proofs.Evaluate.{evaluate}
 use Rattle.history.specs.Histories.{overlayAnswer}
+
+-- a triangle whose cells are four of level 2, then three of level 1
+abbrev corner : Table
+corner = record { a = at 0 0; b = at 65535 0; c = at 0 65535 } ∷ []
+
+-- two triangles whose cells are one of level 1, thirteen in the top right, one of level 1, four of level 2
+abbrev two : Table
+two =
+    record { a = at 40000 5000; b = at 45000 5000; c = at 60000 45000 }
+    ∷ record { a = at 65535 65535; b = at 0 40000; c = at 60000 45000 }
+    ∷ []
+
+-- the cells of each, and 4 + 13 + 1 + 4 meetings: more than the cells of either, and fewer than all of them
+cellMeetings-example : length (cells corner) ∷ length (cells two) ∷ cellMeetings corner two ∷ cellMeetings two [] ∷ cellMeetings [] corner ∷ []
+    ≡ 7 ∷ 19 ∷ 22 ∷ 19 ∷ 7 ∷ []
+unfolding evaluate
+cellMeetings-example = refl
 
 -- two pairs in a list with one place more than asked, which stays
 listed-example : overlayAnswer (pair 3 5 ∷ pair 4 1 ∷ []) 8 (replicate 8193 7)

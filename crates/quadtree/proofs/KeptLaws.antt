@@ -13,7 +13,7 @@ use Rattle.plane.specs.declared.Point.{Point}
 use Rattle.plane.specs.Triangle.{proper}
 use Rattle.squares.specs.declared.Square.{Square}
 use Rattle.squares.specs.Square.{wholeSquare, Aligned}
-use Rattle.chart_spec.specs.Table.{pointAt, triangleAt, tableOf, numbered, noTriangle}
+use Rattle.chart_spec.specs.Table.{pointAt, triangleAt, tableOf, numbered, noTriangle, numbersPerTriangle}
 use Rattle.chart_laws.proofs.TableLaws.{tableOf-length, numbered-at}
 use Rattle.shapes.specs.Shape.{shapeOf, offsetsOf, packedPoint, cornersOf, coordinates}
 use Rattle.shapes.proofs.ShapeLaws.{corners-length}
@@ -56,9 +56,9 @@ module _ (n : ℕ) (ns cs : List ℕ) (e : take (3 * n) cs ≡ flatMap (λ t. co
   triangle-kept : (i : ℕ) → i < n → triangleAt (coordinates cs) i ≡ triangleAt ns i
   unfolding triangleAt pointAt cornersOf
   triangle-kept i l =
-      let a = corner-point i 0 (6 * i) (pointAt ns (6 * i)) l (omega arith) (omega arith) refl (small (6 * i)) in
-      let b = corner-point i 1 (6 * i + 2) (pointAt ns (6 * i + 2)) l (omega arith) (omega arith) refl (small (6 * i + 2)) in
-      let c = corner-point i 2 (6 * i + 4) (pointAt ns (6 * i + 4)) l (omega arith) (omega arith) refl (small (6 * i + 4)) in
+      let a = corner-point i 0 (numbersPerTriangle * i) (pointAt ns (numbersPerTriangle * i)) l (omega arith) (omega arith) refl (small (numbersPerTriangle * i)) in
+      let b = corner-point i 1 (numbersPerTriangle * i + 2) (pointAt ns (numbersPerTriangle * i + 2)) l (omega arith) (omega arith) refl (small (numbersPerTriangle * i + 2)) in
+      let c = corner-point i 2 (numbersPerTriangle * i + 4) (pointAt ns (numbersPerTriangle * i + 4)) l (omega arith) (omega arith) refl (small (numbersPerTriangle * i + 4)) in
       λ j. record { a = a j; b = b j; c = c j }
 
   -- the table of these corners

@@ -18,7 +18,7 @@ use Rattle.squares.specs.declared.Square.{Square}
 use Rattle.squares.specs.Square.{wholeSquare, squareBox, squareKey, zOrder, Aligned}
 use Rattle.squares.proofs.SquareLaws.{whole-aligned}
 use Rattle.orthtree.specs.Morton.{lowestBits, mortonKey}
-use Rattle.chart_spec.specs.Table.{tableOf, numbered}
+use Rattle.chart_spec.specs.Table.{tableOf, numbered, numbersPerTriangle}
 use Rattle.chart_spec.specs.Cells.{trianglesMeeting}
 use Rattle.chart_laws.proofs.TableLaws.{tableOf-length}
 use Rattle.shapes.specs.Shape.{shapeOf, offsetsOf}
@@ -34,7 +34,7 @@ part-whole n l =
     let e : n - 0 ≡ n = omega arith in
     ap (λ m. take m l) e
 
-pub whole-ready : (n : ℕ) (table shape offsets l : List ℕ) → 6 * n ≤ length table → 28 * n ≤ length shape → 3 * n ≤ length offsets → n ≤ length l
+pub whole-ready : (n : ℕ) (table shape offsets l : List ℕ) → numbersPerTriangle * n ≤ length table → 28 * n ≤ length shape → 3 * n ≤ length offsets → n ≤ length l
     → Ready n 0 n table shape offsets (sets l 0 (upTo n))
 whole-ready n table shape offsets l t s o h =
     let e : 0 + length (upTo n) ≡ n = zero-add (length (upTo n)) ∙ upTo-length n in
@@ -74,7 +74,7 @@ module _ (n : ℕ) (ns : List ℕ) where
   -- all that the recursion asks at the whole square
   pub whole-start : (sh sh₁ o o₁ l l₁ : List ℕ) (s : Square)
       → sh₁ ≡ sets sh 0 (flatMap (λ t. shapeOf t) (tableOf ns n)) → o₁ ≡ sets o 0 (flatMap (λ t. offsetsOf t) (tableOf ns n)) → l₁ ≡ sets l 0 (upTo n)
-      → s ≡ wholeSquare → 6 * n ≤ length ns → 28 * n ≤ length sh → 3 * n ≤ length o → 18 * n ≤ length l
+      → s ≡ wholeSquare → numbersPerTriangle * n ≤ length ns → 28 * n ≤ length sh → 3 * n ≤ length o → 18 * n ≤ length l
       → ((k : ℕ) → getD ns k 0 < 65536) → all (λ t. proper t) (tableOf ns n) ≡ true
       → Ready n 0 n ns sh₁ o₁ l₁ × (Prepared n ns sh₁ o₁ × (Candidates n 0 n ns l₁ s × Aligned s))
   whole-start sh sh₁ o o₁ l l₁ s es eo el e ht hs ho hl small good =

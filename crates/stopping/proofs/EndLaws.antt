@@ -22,7 +22,7 @@ use Rattle.plane.specs.Point.{samePoint}
 use Rattle.plane.specs.Triangle.{Side, sides}
 use Rattle.plane.specs.Box.{Box}
 use Rattle.plane.proofs.PointLaws.{samePoint-reflects}
-use Rattle.chart_spec.specs.Table.{pointAt, triangleAt}
+use Rattle.chart_spec.specs.Table.{pointAt, triangleAt, numbersPerTriangle}
 use Rattle.chart_spec.specs.Cells.{isEnd, commonEnd}
 use Rattle.side_masks.specs.Masks.{maskOf, masked, unpacked, unpackedTriangle, startOf, sidesMet}
 use Rattle.stopping.specs.Stopping.{sidesAt, eitherEnd, Skipped, Tested}
@@ -200,9 +200,9 @@ module _ (S : ℕ → List Side) (l : List ℕ) where
 pub record Read (table s o : List ℕ) (box : Box) (j i m a b c : ℕ) : Type 0 where
   pub number : i ≡ j
   pub mask : m ≡ maskOf (sidesMet s o box i)
-  pub first : unpacked a ≡ pointAt table (6 * i)
-  pub second : unpacked b ≡ pointAt table (6 * i + 2)
-  pub third : unpacked c ≡ pointAt table (6 * i + 4)
+  pub first : unpacked a ≡ pointAt table (numbersPerTriangle * i)
+  pub second : unpacked b ≡ pointAt table (numbersPerTriangle * i + 2)
+  pub third : unpacked c ≡ pointAt table (numbersPerTriangle * i + 4)
 
 module _ (table s o : List ℕ) (box : Box) where
   -- a mask of 0: no side meets the box

@@ -20,7 +20,7 @@ use Rattle.lists.proofs.EveryLaws.{every-map, flatMap-agree}
 use Rattle.plane.specs.Triangle.{Triangle, Side, sides, proper}
 use Rattle.plane.specs.Box.{Box, Framed, sideMeets, triangleMeets}
 use Rattle.plane.proofs.ExtremeLaws.{OnGrid}
-use Rattle.chart_spec.specs.Table.{Table, pointAt, triangleAt, tableOf, numbered, noTriangle}
+use Rattle.chart_spec.specs.Table.{Table, pointAt, triangleAt, tableOf, numbered, noTriangle, numbersPerTriangle}
 use Rattle.squares.specs.declared.Square.{Square}
 use Rattle.squares.specs.Square.{squareBox, Aligned}
 use Rattle.chart_spec.specs.Cells.{sidesMeeting, commonEnd, stopped, trianglesMeeting}
@@ -41,7 +41,7 @@ unfolding tableOf triangleAt pointAt
 corners-small ns n small =
     let on : (k : ℕ) → OnGrid (pointAt ns k) = λ k. record { x = le-of-suc-le-suc (small k); y = le-of-suc-le-suc (small (k + 1)) } in
     every-map (λ t. OnTriangle t) (λ i. triangleAt ns i) (upTo n)
-    (λ i m. record { a = on (6 * i); b = on (6 * i + 2); c = on (6 * i + 4) })
+    (λ i m. record { a = on (numbersPerTriangle * i); b = on (numbersPerTriangle * i + 2); c = on (numbersPerTriangle * i + 4) })
 
 module _ (n : ℕ) (ns s o : List ℕ) (h : Prepared n ns s o) (b : Box) (f : Framed b) where
   -- the sides of triangle i that meet the box, where the triangle does

@@ -1,3 +1,4 @@
+-- Call after call: the chart is the one after the calls before the place, and the rest of the list gives the events to come.
 use mathlib.Core.Path.{refl, _∙_, ap}
 use Prim.Native.Nat.{_-_}
 use native.Mathlib.Omega.{arith}

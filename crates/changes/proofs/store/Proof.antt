@@ -1,3 +1,4 @@
+-- The entries are built first, and the table is written only where they fit: a refusal leaves all as it was.
 use native.Mathlib.Omega.{arith}
 use borrow.Author.Needs.{needs}
 use Rattle.chart_spec.specs.Refusals.{outcomeNumber, outcomeValue}

@@ -1,3 +1,4 @@
+-- Judged, made, stored: one proof for every edit, since `tableEdit` says what an edit makes of a table.
 use mathlib.Core.Path.{_≡_, sym, _∙_, ap}
 use mathlib.Core.Bool.{true, false}
 use native.Mathlib.Omega.{arith}

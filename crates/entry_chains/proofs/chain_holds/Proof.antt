@@ -1,3 +1,5 @@
+-- The chain rule, taken apart list by list: levels and items have loops of their own, and each entry is linked to the next by lending
+-- the same lists shifted by one. `chain-joined` puts the parts together; no entry, or a level above 16, ends the test before.
 use mathlib.Core.Path.{_≡_, sym, _∙_}
 use mathlib.Core.Bool.{true}
 use Prim.Native.Nat.{_-_}

@@ -1,3 +1,4 @@
+-- The bits of half and half - 1 differ in half's own bit and all below it: one less than the keys of the square.
 use native.Mathlib.Omega.{arith}
 use Prim.Native.Nat.{_-_, _*_}
 use Rattle.links.proofs.MaskLaws.{span-deepest, half-at, xor-below}

@@ -1,3 +1,5 @@
+-- Refusals 1, 4 and 5 in their order, then the store. Each return is a law of LoadLaws over the tests that led to it; nothing is
+-- written before the store.
 use mathlib.Core.Path.{_≡_, sym, _∙_}
 use mathlib.Core.Bool.{false}
 use native.Mathlib.Omega.{arith}

@@ -1,3 +1,5 @@
+-- The walk along both lists: at places a and b both are cut at one key, the rows mark what is listed together before it, and the sum is
+-- the meetings before it. A block moves both places on, and the lists end together.
 use Prim.Native.Nat.{_-_, _<_}
 use native.Mathlib.Omega.{arith}
 use Rattle.merge.proofs.StepLaws.{Merging, merging-start, merging-few, merging-next, merging-end, pairs-fit, both-below, not-both}

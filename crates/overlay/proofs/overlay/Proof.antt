@@ -1,3 +1,4 @@
+-- Refusal 1 of all buffers, then 2 of both charts, then the pairs: each return is a case of `overlayCall`.
 use mathlib.Core.Path.{_≡_, sym, _∙_, ap₂}
 use mathlib.Core.Bool.{Bool, true, false, _&&_, _||_}
 use borrow.Author.Needs.{needs}

@@ -1,3 +1,4 @@
+-- Row after row: the pairs of the rows before row i are written, or more than 4,096 were found and what is written no longer counts.
 use mathlib.Core.Path.{_≡_, refl, _∙_, subst}
 use Prim.Native.Nat.{_+_, _-_, _≤_}
 use native.Mathlib.Omega.{arith}

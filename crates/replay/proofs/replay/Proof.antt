@@ -1,3 +1,4 @@
+-- Both histories, then the overlay of the charts that they left: demand 3 of the buffers as they were lent.
 use borrow.Author.Needs.{needs}
 use Rattle.replay.proofs.ReplayLaws.{replayed}
 use Rattle.replay.proofs.replay.Statement.{statement}

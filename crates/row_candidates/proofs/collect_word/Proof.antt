@@ -1,3 +1,4 @@
+-- Mark after mark: the lowest bit that is left is the next place, and a word without a bit adds nothing.
 use mathlib.Core.Path.{_≡_, refl}
 use Prim.Native.Nat.{_+_, _*_, _-_, _/_, _^_, _≤_, _<_}
 use native.Mathlib.Omega.{arith}

@@ -1,3 +1,4 @@
+-- A point that is an end of every side is an end of the first side that meets: its two ends are the only points to try.
 use mathlib.Core.Path.{_≡_, sym, _∙_, ap}
 use Prim.Native.Nat.{_+_, _*_}
 use native.Mathlib.Omega.{arith}

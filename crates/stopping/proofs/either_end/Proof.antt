@@ -1,3 +1,4 @@
+-- Each of two masks has the sides seen so far that miss one of the two points; when neither is empty, no point is left.
 use Prim.Native.Nat.{_+_, _*_, _-_}
 use native.Mathlib.Omega.{arith}
 use lib.ListN.{getD}

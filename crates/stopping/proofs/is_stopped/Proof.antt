@@ -1,3 +1,4 @@
+-- The candidates are the triangles that meet the square, so their sides that meet it are all sides that do.
 use mathlib.Core.Path.{_∙_, ap}
 use mathlib.Core.List.{flatMap}
 use Rattle.chart_spec.specs.Cells.{commonEnd}
