@@ -64,6 +64,7 @@ check "the reference model on the stored command streams" python3 tests/log_case
 check "the definitions, executed, against the reference model" python3 tests/definitions.py 7 4
 check "entries built by the program and by the reference model" python3 tests/quadtree.py 7 10
 check "calls on sound and damaged charts by the program and by the reference model" python3 tests/calls.py 7 20
+check "two lists of calls and the overlay after them by the program and by the reference model" python3 tests/replay.py 7 20
 
 echo "$passed passed, $failed failed"
 [ "$failed" -eq 0 ]
