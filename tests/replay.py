@@ -104,8 +104,8 @@ def model_lines(cases):
 def stored():
     """Cases that nothing is drawn for, and what the overlay is to answer, where it is known: number, pairs and meetings."""
     out = (65535, 65535)
-    splits = load(U, V) + split(0, INNER) + split(1, (50000, 50000)) + flip(0, 3) + split(2, (3000, 30000)) + flip(1, 4) + flip(4, 5)
-    others = load(V, U) + split(0, (40000, 40000)) + flip(1, 0) + flip(0, 2) + split(1, INNER) + take_out((40000, 40000)) + split(0, (40000, 60000))
+    splits = load(U, V) + split(0, INNER) + split(1, (50000, 50000)) + flip(4, 2) + split(3, (3000, 30000)) + flip(7, 4)
+    others = load(V, U) + split(0, (40000, 40000)) + flip(1, 2) + split(1, (30000, 10000)) + split(2, (10000, 30000)) + take_out((30000, 10000))
     grid = quadtree.mesh(random.Random(4))
     return [
         ([], [], "0 0 1"),
