@@ -14,7 +14,7 @@ use lib.Pow.{pow-add, pow-lt, shl-shr, shl-exact}
 use lib.Dec.{leb, ltb, eqb}
 use lib.ListN.{length, getD, set, replicate, length-set, length-replicate, getD-replicate, List·getD-eq-default}
 use lib.Seq.{getD-set-same, getD-set-other}
-use Rattle.bitsets.specs.Bits.{wordBit, hasBit, Inserted, Joined, Cleared}
+use Rattle.bitsets.specs.Bits.{wordBit, hasBit, Inserted, Joined}
 
 -- a word that is 0 has no bit
 pub word-empty : (b : ℕ) → wordBit 0 b ≡ false
@@ -179,24 +179,6 @@ module _ {ws : List ℕ} {at : ℕ} {s : List ℕ} {i : ℕ} {vs : List ℕ} (j 
                 bit-elsewhere vs (at + i) more room m n ∙ j .bits m
                 ∙ ap (λ x. hasBit ws m || x && hasBit s (m - 64 * at)) (elsewhere m n)
           ]
-
--- nothing cleared yet
-pub cleared-none : (ws : List ℕ) → Cleared ws 0 ws
-cleared-none ws = record { bits = λ m h. absurd (omega arith); kept = refl }
-
--- one more word cleared
-pub cleared-more : {ws : List ℕ} {i : ℕ} {vs : List ℕ} → Cleared ws i vs → i < length ws → Cleared ws (i + 1) (set vs i 0)
-cleared-more {ws} {i} {vs} d h = record { bits = bits; kept = length-set vs i 0 ∙ d .kept }
-  where
-    room : i < length vs
-    room = omega (arith, d .kept)
-
-    bits : (m : ℕ) → m < 64 * (i + 1) → hasBit (set vs i 0) m ≡ false
-    bits m l =
-        elim (ℕ-discrete (m / 64) i) [
-          | yes e ↦ bit-here vs i 0 room m e ∙ word-empty (m % 64)
-          | no n ↦ bit-elsewhere vs i 0 room m n ∙ d .bits m (omega arith)
-        ]
 
 -- no bit lies in a word that is 0
 pub empty-word : (ws : List ℕ) (w m : ℕ) → getD ws w 0 ≡ 0 → m / 64 ≡ w → hasBit ws m ≡ false

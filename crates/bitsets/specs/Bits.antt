@@ -1,9 +1,9 @@
 -- Sets of small numbers as bits of words, 64 to a word.
 -- Assumes nothing.
 use mathlib.Core.Path.{_≡_}
-use mathlib.Core.Bool.{Bool, false, _&&_, _||_}
+use mathlib.Core.Bool.{Bool, _&&_, _||_}
 use mathlib.Core.List.{List}
-use Prim.Native.Nat.{ℕ, _+_, _*_, _-_, _/_, _%_, _^_, _<_}
+use Prim.Native.Nat.{ℕ, _+_, _*_, _-_, _/_, _%_, _^_}
 use lib.Dec.{leb, ltb, eqb}
 use lib.ListN.{length, getD}
 
@@ -23,9 +23,4 @@ pub record Inserted (before : List ℕ) (k : ℕ) (after : List ℕ) : Type 0 wh
 -- the words with the bits of the set's first n words set from word `at` on, and every other bit as it was
 pub record Joined (before : List ℕ) (at : ℕ) (set : List ℕ) (n : ℕ) (after : List ℕ) : Type 0 where
   pub bits : (m : ℕ) → hasBit after m ≡ hasBit before m || leb (64 * at) m && ltb m (64 * (at + n)) && hasBit set (m - 64 * at)
-  pub kept : length after ≡ length before
-
--- the words with no bit in the first n of them
-pub record Cleared (before : List ℕ) (n : ℕ) (after : List ℕ) : Type 0 where
-  pub bits : (m : ℕ) → m < 64 * n → hasBit after m ≡ false
   pub kept : length after ≡ length before

@@ -1,20 +1,11 @@
 // Sets of small numbers as bits of words, 64 to a word.
 
-ghost use mathlib.Core.Path.{_≡_};
 ghost use Prim.Native.Nat.{_+_, _/_, _≤_, _<_};
 ghost use lib.ListN.{length};
-ghost use Rattle.bitsets.specs.Bits.{hasBit, Inserted, Joined, Cleared};
+ghost use Rattle.bitsets.specs.Bits.{Inserted, Joined};
 
 // Bits of a word.
 pub const WORD: usize = 64;
-
-// Bit k of the words is set.
-pub fn has_bit(words: &[u64], k: usize) -> bool
-    requires { ⌜ k / 64 < length (now words) ⌝ }
-    ensures { λ o. ⌜ o ≡ hasBit (now (words .entry)) k ⌝ }
-{
-    (words[k / WORD] >> ((k % WORD) as u32)) % 2 == 1
-}
 
 // Sets bit k.
 pub fn insert(words: &mut [u64], k: usize)
@@ -32,18 +23,6 @@ pub fn join(words: &mut [u64], at: usize, set: &[u64], n: usize)
     let mut i = 0;
     while i < n {
         words[at + i] = words[at + i] | set[i];
-        i += 1;
-    }
-}
-
-// Leaves no bit in the first n words.
-pub fn clear(words: &mut [u64], n: usize)
-    requires { ⌜ n ≤ length (now words) ⌝ }
-    ensures { λ r. ⌜ Cleared (now (words .entry)) n (now (words .exit)) ⌝ }
-{
-    let mut i = 0;
-    while i < n {
-        words[i] = 0;
         i += 1;
     }
 }

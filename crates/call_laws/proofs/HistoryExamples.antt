@@ -11,7 +11,7 @@ use Rattle.call_spec.specs.Buffers.{Chart}
 use Rattle.call_spec.specs.Calls.{Changed, loadCall, splitCall, takeOutCall, flipCall}
 use Rattle.call_spec.specs.History.{chartAfter}
 use Rattle.call_spec.proofs.Evaluate.{evaluate}
-use Rattle.call_spec.proofs.Examples.{numbersA, dirty, indexedA}
+use Rattle.call_laws.proofs.LongBufferExamples.{numbersA, dirty, indexedA}
 use Rattle.call_spec.proofs.CallExamples.{numbersU, numbersV, chartU, chartUV, stale}
 
 -- 5 with the lowest faulty triangle

@@ -7,3 +7,4 @@ pub mod OverwriteLaws
 pub mod EditCalls
 pub mod HistoryLaws
 pub mod HistoryExamples
+pub mod LongBufferExamples

@@ -1,5 +1,1 @@
-pub mod EncodingLaws
-pub mod EncodeLaws
-pub mod CallLaws
 pub mod RunLaws
-pub mod Examples

@@ -8,8 +8,8 @@ use lib.ListN.{length, take, drop, length-drop}
 use lib.Seq.{drop-drop}
 use Rattle.call_spec.specs.Buffers.{Chart}
 use Rattle.call_spec.specs.History.{eventCall, chartAfter}
-use Rattle.call_lists.specs.Encoding.{wholeCall, IsCall, callEvent, decode}
-use Rattle.call_lists.proofs.EncodingLaws.{whole-within, whole-call, decode-none, decode-more}
+use Rattle.call_encoding.specs.Encoding.{wholeCall, IsCall, callEvent, decode}
+use Rattle.call_encoding.proofs.EncodingLaws.{whole-within, whole-call, decode-none, decode-more}
 
 -- the calls before place `at` made chart d of chart c, and the call at that place has this size, or 0: what is left makes of d what
 -- all calls make of c

@@ -1,9 +1,10 @@
--- Examples of Calls.antt and History.antt beside those in Examples.antt: every refusal, the order in which they are judged,
+-- Examples of Calls.antt and History.antt: every refusal, the order in which they are judged,
 -- accepted edits of each kind, and overlays of two different charts. What an example does not depend on is any list, chart, edit or event.
 -- Assumes nothing.
 use mathlib.Core.Path.{_≡_, refl}
 use mathlib.Core.Bool.{true, false}
 use mathlib.Core.List.{List, [], _∷_, _++_, map}
+use mathlib.Core.Option.{none, some}
 use Prim.Native.Nat.{ℕ}
 use lib.ListN.{take, replicate}
 use Rattle.plane.specs.declared.Point.{Point}
@@ -15,7 +16,7 @@ use Rattle.chart_spec.proofs.MarkedCases.{at}
 use Rattle.chart_spec.proofs.RefusalsExamples.{rows}
 use Rattle.chart_spec.proofs.EditExamples.{tri}
 use Rattle.call_spec.specs.Buffers.{Chart, chartOf, indexedChart}
-use Rattle.call_spec.specs.Calls.{Overlaid, changedBy, loadCall, editCall, splitCall, takeOutCall, flipCall, reading, soundCall, pairsRefused, overlaidBy, overlayCall}
+use Rattle.call_spec.specs.Calls.{Overlaid, changedBy, loadCall, editCall, splitCall, takeOutCall, flipCall, reading, locateCall, soundCall, areaCall, pairsRefused, overlaidBy, overlayCall}
 use Rattle.call_spec.specs.History.{eventCall, chartAfter}
 use Rattle.call_spec.proofs.Evaluate.{evaluate}
 
@@ -131,6 +132,22 @@ soundCall-example : map (λ c. soundCall c) (chartUV ∷ filled (numbersU ++ num
 unfolding evaluate
 soundCall-example = refl
 
+-- at a refusal locate is nowhere, soundness is no and the sum is 0
+locateCall-example : map (λ c. locateCall c (at 9 7)) (short ∷ broken ∷ chartU ∷ [])
+    ≡ record { number = 1; found = none } ∷ record { number = 2; found = none } ∷ record { number = 0; found = some 0 } ∷ []
+unfolding evaluate
+locateCall-example = refl
+
+sound-refused-example : map (λ c. soundCall c) (short ∷ broken ∷ [])
+    ≡ record { number = 1; isSound = false } ∷ record { number = 2; isSound = false } ∷ []
+unfolding evaluate
+sound-refused-example = refl
+
+areaCall-example : map (λ c. areaCall c) (short ∷ broken ∷ chartU ∷ [])
+    ≡ record { number = 1; area = 0 } ∷ record { number = 2; area = 0 } ∷ record { number = 0; area = 4294836225 } ∷ []
+unfolding evaluate
+areaCall-example = refl
+
 -- Overlay
 
 -- only 12 writes the pairs
@@ -167,6 +184,20 @@ overlayCall-example :
     ≡ (0 ∷ 1 ∷ 7 ∷ 0 ∷ 0 ∷ 0 ∷ 0 ∷ 0 ∷ []) ∷ (0 ∷ 1 ∷ 7 ∷ 0 ∷ 1 ∷ 0 ∷ 0 ∷ 0 ∷ []) ∷ (0 ∷ 1 ∷ 7 ∷ 1 ∷ 0 ∷ 0 ∷ 0 ∷ 0 ∷ []) ∷ []
 unfolding evaluate
 overlayCall-example = refl
+
+-- 1 is judged of every buffer before 2 of any, and both of either chart
+overlay-refused-example :
+    map (λ r. r .number)
+    (overlayCall broken chartU (replicate 8191 7)
+    ∷ overlayCall short chartU (replicate 8192 7)
+    ∷ overlayCall chartU short (replicate 8192 7)
+    ∷ overlayCall broken short (replicate 8192 7)
+    ∷ overlayCall broken chartU (replicate 8192 7)
+    ∷ overlayCall chartU broken (replicate 8192 7)
+    ∷ [])
+    ≡ 1 ∷ 1 ∷ 1 ∷ 1 ∷ 2 ∷ 2 ∷ []
+unfolding evaluate
+overlay-refused-example = refl
 
 -- Lists of events
 

@@ -1,4 +1,3 @@
 pub mod Evaluate
 pub mod BufferExamples
 pub mod CallExamples
-pub mod Examples

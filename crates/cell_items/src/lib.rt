@@ -21,7 +21,7 @@ pub fn listing<'a, 'b>(keys: &'b [u32], items: &'a [u16], n: usize, p: Point) ->
     ensures { λ r. ⌜ ((count : ℕ) (levels : List ℕ) → n ≤ length levels → chain arity depth count (take n (zipEntries (now (keys .entry)) levels (now (items .entry)))) ≡ true → now r ≡ Reading·listing (take n (zipEntries (now (keys .entry)) levels (now (items .entry)))) p) ⌝ }
     ensures { λ r. ⌜ ((count : ℕ) (levels : List ℕ) → n ≤ length levels → chain arity depth count (take n (zipEntries (now (keys .entry)) levels (now (items .entry)))) ≡ true → OwnPart (items .entry) r (listedPlaces (take n (zipEntries (now (keys .entry)) levels (now (items .entry)))) p)) ⌝ }
 {
-    let cell = search::last_block(keys, n, squares::z_order(p));
+    let cell = search::last_block(keys, n, morton::z_order(p));
     let from = cell.from;
     let to = cell.to;
     if items[from] == 65535 {

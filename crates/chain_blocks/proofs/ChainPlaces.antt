@@ -1,68 +1,45 @@
 -- A list that satisfies the chain rule, by places: what stands at the next place, and where the last cell ends.
 -- Assumes nothing.
 use mathlib.Core.Path.{_≡_}
-use mathlib.Core.List.{List, _∷_}
-use Prim.Native.Nat.{ℕ, zero, suc, _-_, _≤_, _<_}
+use mathlib.Core.List.{List, [], _∷_}
+use Prim.Native.Nat.{ℕ, suc, _-_, _≤_, _<_}
 use native.Mathlib.Decide.{decLe}
 use native.Mathlib.Omega.{arith}
 use lib.Dec.{T}
 use lib.ListN.{length, getD}
+use Rattle.lists.proofs.Reflects.{reflects-eqb}
 use Rattle.lists.proofs.Order.{ordered-at}
 use Rattle.orthtree.specs.Entries.{Entry, span, rangeEnd, chain}
-use Rattle.orthtree.proofs.ChainLaws.{Follows, ChainAfter, last, link, ChainFrom, end, start, chain-reflects}
+use Rattle.orthtree.proofs.ChainLaws.{Follows, follows-reflects}
+use Rattle.orthtree.proofs.ChainPlaceLaws.{Chained, places-reflect}
 use Rattle.orthtree.proofs.ChainOrderLaws.{Before, before-end, chain-ordered}
 
 module _ (arity depth : ℕ) (d : Entry) where
-  after-step : {count : ℕ} {e : Entry} {es : List Entry} → ChainAfter arity depth count e es → (i : ℕ) → suc i < length (e ∷ es)
-      → Follows arity depth (getD (e ∷ es) i d) (getD (e ∷ es) (suc i) d)
-  after-step (last h) i l = absurd (omega arith)
-  after-step (link fit fol c) zero l = fol
-  after-step (link fit fol c) (suc i) l = after-step c i (omega arith)
-
-  after-last : {count : ℕ} {e : Entry} {es : List Entry} → ChainAfter arity depth count e es → (i : ℕ) → suc i ≡ length (e ∷ es)
-      → rangeEnd arity depth (getD (e ∷ es) i d) ≡ span arity depth 0
-  after-last (last h) zero l = h
-  after-last (last h) (suc i) l = absurd (omega arith)
-  after-last (link fit fol c) zero l = absurd (omega arith)
-  after-last (link fit fol c) (suc i) l = after-last c i (omega arith)
-
-  from-step : {count k : ℕ} {es : List Entry} → ChainFrom arity depth count k es → (i : ℕ) → suc i < length es
-      → Follows arity depth (getD es i d) (getD es (suc i) d)
-  from-step (end h) i l = absurd (omega arith)
-  from-step (start h fit c) i l = after-step c i l
-
-  from-last : {count k : ℕ} {es : List Entry} → ChainFrom arity depth count k es → (i : ℕ) → suc i ≡ length es
-      → rangeEnd arity depth (getD es i d) ≡ span arity depth 0
-  from-last (end h) i l = absurd (omega arith)
-  from-last (start h fit c) i l = after-last c i l
-
-  from-first : {count k : ℕ} {es : List Entry} → ChainFrom arity depth count k es → 0 < length es → getD es 0 d .key ≡ k
-  from-first (end h) l = absurd (omega arith)
-  from-first (start h fit c) l = h
-
-  from-none : {count k : ℕ} {es : List Entry} → ChainFrom arity depth count k es → 0 ≡ length es → k ≡ span arity depth 0
-  from-none (end h) l = h
-  from-none (start h fit c) l = absurd (omega arith)
-
   module _ (count : ℕ) (pos : 0 < arity) (es : List Entry) (rule : T (chain arity depth count es)) where
-    from : ChainFrom arity depth count 0 es
-    from = chain-reflects arity depth pos count es .to rule
+    chained : (m : ℕ) → length es ≡ suc m → Chained arity depth count (λ i. getD es i d) m
+    chained m h = places-reflect arity depth count d es m h .to rule
 
     -- the next entry is a further item of the same cell, or starts where the cell ends
     pub chain-step : (i : ℕ) → suc i < length es → Follows arity depth (getD es i d) (getD es (suc i) d)
-    chain-step i l = from-step from i l
+    chain-step i l =
+        follows-reflects arity depth (getD es i d) (getD es (suc i) d) .to (chained (length es - 1) (omega arith) .next i (omega arith))
 
     -- the last ends where the tree does
     pub chain-last : (i : ℕ) → suc i ≡ length es → rangeEnd arity depth (getD es i d) ≡ span arity depth 0
-    chain-last i l = from-last from i l
+    chain-last i l = reflects-eqb (rangeEnd arity depth (getD es i d)) (span arity depth 0) .to (chained i (omega arith) .end)
 
     -- the first starts at 0
     pub chain-first : 0 < length es → getD es 0 d .key ≡ 0
-    chain-first l = from-first from l
+    chain-first l = chained (length es - 1) (omega arith) .first
 
-    -- where there is none, the tree has no key
+    -- the list is not empty
     pub chain-none : 0 ≡ length es → 0 ≡ span arity depth 0
-    chain-none l = from-none from l
+    unfolding chain
+    chain-none l = go es rule l
+      where
+        go : (es : List Entry) → T (chain arity depth count es) → 0 ≡ length es → 0 ≡ span arity depth 0
+        go [] r l = absurd r
+        go (e ∷ es) r l = absurd (omega arith)
 
     -- of two places the later one has a further item of the same cell, or a cell that starts where the other ends or after that
     pub chain-places : (i j : ℕ) → i < j → j < length es → Before arity depth (getD es i d) (getD es j d)

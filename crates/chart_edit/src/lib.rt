@@ -22,7 +22,7 @@ pub fn edit_chart(
 ) -> Changed
     ensures { λ r. ⌜ _≡_ {A = Calls·Changed} (changedOf r (now (table .exit)) (now (keys .exit)) (now (levels .exit)) (now (items .exit))) (editCall (tableEdit edit) (chartOf (now (table .entry)) (now (keys .entry)) (now (levels .entry)) (now (items .entry)) triangles entries)) ⌝ }
 {
-    let judged = changes::judge_edit(table, keys, levels, items, triangles, entries);
+    let judged = edit_checks::judge_edit(table, keys, levels, items, triangles, entries);
     if let Judged::Fine = judged {
         let mut scratch = [0u16; tables::TABLE_NUMBERS];
         let made = edit_steps::edit_table(edit, table, triangles, &mut scratch);
@@ -37,5 +37,5 @@ pub fn edit_chart(
             entries,
         );
     }
-    edit_steps::refused(edit_steps::judged_change(judged), triangles, entries)
+    edit_steps::refused(edit_answers::judged_change(judged), triangles, entries)
 }

@@ -25,7 +25,8 @@ use Rattle.plane.specs.Box.{triangleMeets}
 use Rattle.separation.proofs.Meets.{holds-meets}
 use Rattle.squares.specs.declared.Square.{Square}
 use Rattle.squares.specs.Square.{squareBox}
-use Rattle.squares.proofs.ZOrderLaws.{InGrid, InSquare}
+use Rattle.plane.proofs.ExtremeLaws.{OnGrid}
+use Rattle.squares.proofs.ZOrderLaws.{InSquare}
 use Rattle.squares.proofs.SquareLeavesLaws.{leaf-of-point, cell-of-point}
 use Rattle.chart_spec.specs.Table.{Table, numbered}
 use Rattle.chart_spec.specs.Cells.{stopped, cellsIn, cells, trianglesMeeting, orMark, entryOf, cellEntries, entriesOf}
@@ -48,7 +49,7 @@ unmarked s few (rising-more {i = i} {is = is} a b r) =
     in
     ap (map (λ e. e .item)) (filter-all (λ e. not (isMark e)) es h) ∙ map-map (λ e. e .item) (λ j. entryOf s j) (i ∷ is) ∙ map-id (i ∷ is)
 
-module _ (table : Table) (few : length table ≤ 512) (p : Point) (g : InGrid p) where
+module _ (table : Table) (few : length table ≤ 512) (p : Point) (g : OnGrid p) where
   -- the cell listing of a point is that of the triangles that meet the cell that the point lies in
   pub listing-cell : {s : Square} → List·Memᴰ s (cells table) → InSquare s p → listing (entriesOf table) p ≡ trianglesMeeting table s
   unfolding listing cellOf entriesOf cells cellsIn cellEntries entryOf

@@ -6,7 +6,7 @@ use mathlib.Core.Path.{_≡_, refl, subst}
 use mathlib.Core.List.{List, [], _∷_, List·Memᴰ, List·Memᴰ·not-nil, Memᴰ·map}
 use mathlib.Core.Logic.{_↔_}
 use Prim.Native.Nat.{ℕ, _/_, _<_}
-use native.Mathlib.Nat.{le-div-iff-mul-le, div-lt-iff-lt-mul}
+use native.Mathlib.Nat.{le-of-suc-le-suc, le-div-iff-mul-le, div-lt-iff-lt-mul}
 use native.Mathlib.Omega.{arith}
 use lib.Dec.{T, ltb}
 use lib.ListN.{length}
@@ -30,7 +30,8 @@ use Rattle.separation.proofs.Boxes.{InBox, inBox-iff, toRight, toBottom}
 use Rattle.separation.proofs.Meets.{holdsAt-meets}
 use Rattle.squares.specs.declared.Square.{Square}
 use Rattle.squares.specs.Square.{arity, depth, zOrder, squareBox}
-use Rattle.squares.proofs.ZOrderLaws.{InGrid, InSquare, point-in-square}
+use Rattle.plane.proofs.ExtremeLaws.{OnGrid, CornersOnGrid}
+use Rattle.squares.proofs.ZOrderLaws.{InSquare, point-in-square}
 use Rattle.squares.proofs.SquareLeavesLaws.{leaf-of-point}
 use Rattle.chart_spec.specs.Table.{Table, numbered, noTriangle, triangleNumbers, tableNumbers, sixteenBit, IsTable}
 use Rattle.chart_spec.specs.Cells.{stopped, cellsIn, cells, trianglesMeeting, orMark, entryOf, cellEntries, entriesOf}
@@ -40,14 +41,8 @@ use Rattle.chart_laws.proofs.EntriesOfTable.{meeting-filter}
 use Rattle.chart_laws.proofs.ChainOfTable.{cells-aligned}
 use Rattle.chart_laws.proofs.OverlayLaws.{pairs-listed-iff}
 
--- the corners of the triangle are points of the grid
-pub record Corners (t : Triangle) : Type 0 where
-  pub a : InGrid (t .a)
-  pub b : InGrid (t .b)
-  pub c : InGrid (t .c)
-
--- so they are where the table is one of document 01
-pub corners-at : (table : Table) → IsTable table → (i : ℕ) → i < length table → Corners (numbered table i)
+-- the corners of a triangle are points of the grid where the table is one of document 01
+pub corners-at : (table : Table) → IsTable table → (i : ℕ) → i < length table → CornersOnGrid (numbered table i)
 unfolding numbered sixteenBit tableNumbers triangleNumbers
 corners-at table ok i h =
     let small = all-reflects (λ n. ltb n 65536) (λ n. reflects-ltb n 65536) (tableNumbers table) .to (ok .words) in
@@ -60,9 +55,9 @@ corners-at table ok i h =
     let m = every-uncons (l .1) in
     let n = every-uncons (m .1) in
     record {
-      a = record { across = g .0; down = k .0 };
-      b = record { across = l .0; down = m .0 };
-      c = record { across = n .0; down = every-uncons (n .1) .0 };
+      a = record { x = le-of-suc-le-suc (g .0); y = le-of-suc-le-suc (k .0) };
+      b = record { x = le-of-suc-le-suc (l .0); y = le-of-suc-le-suc (m .0) };
+      c = record { x = le-of-suc-le-suc (n .0); y = le-of-suc-le-suc (every-uncons (n .1) .0) };
     }
 
 -- all triangles have D > 0
@@ -73,7 +68,7 @@ proper-of table ok = all-reflects (λ t. proper t) (λ t. reflects-test (proper 
 abbrev floorOf : Triple → Point
 floorOf z = record { x = z .x / z .w; y = z .y / z .w }
 
-floor-grid : (t : Triangle) → Corners t → {p : FracPoint} (v : Average t p) → InGrid (floorOf (v .point))
+floor-grid : (t : Triangle) → CornersOnGrid t → {p : FracPoint} (v : Average t p) → OnGrid (floorOf (v .point))
 unfolding _•_
 floor-grid t g v =
     let a = g .a in
@@ -82,7 +77,10 @@ floor-grid t g v =
     let r = at-average (toRight 65535) v (omega arith) (omega arith) (omega arith) in
     let d = at-average (toBottom 65535) v (omega arith) (omega arith) (omega arith) in
     let w = v .above in
-    record { across = div-lt-iff-lt-mul w .1 (omega arith); down = div-lt-iff-lt-mul w .1 (omega arith) }
+    record {
+      x = le-of-suc-le-suc (div-lt-iff-lt-mul w .1 (omega arith));
+      y = le-of-suc-le-suc (div-lt-iff-lt-mul w .1 (omega arith));
+    }
 
 -- a square that has it has the fractional point, the border included
 floor-box : (z : Triple) → 0 < z .w → (q : Square) → InSquare q (floorOf z) → InBox (squareBox q) (fraction z)
@@ -110,7 +108,7 @@ module _ (table : Table) (i : ℕ) (h : i < length table) where
       (Memᴰ·map (entryOf q) (mark-member (trianglesMeeting table q) (subst (λ is. List·Memᴰ i is) (meeting-filter table q) n)))
 
   -- an entry of the triangle whose cell has the key of the grid point above and left of a point that the triangle holds
-  held-listed : T (proper (numbered table i)) → (z : Triple) → 0 < z .w → InGrid (floorOf z) → T (holdsAt (numbered table i) (fraction z))
+  held-listed : T (proper (numbered table i)) → (z : Triple) → 0 < z .w → OnGrid (floorOf z) → T (holdsAt (numbered table i) (fraction z))
       → Some (λ e. (e .item ≡ i) × InRange arity depth (zOrder (floorOf z)) e) (entriesOf table)
   unfolding cells cellsIn entryOf rangeEnd
   held-listed good z w g t =

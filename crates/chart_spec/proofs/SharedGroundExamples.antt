@@ -62,8 +62,9 @@ two =
     ∷ record { a = at 65535 65535; b = at 0 40000; c = at 60000 45000 }
     ∷ []
 
--- the one cell of an empty table meets each of seven
-cellMeetings-example : cellMeetings corner [] ∷ cellMeetings [] corner ∷ cellMeetings [] [] ∷ [] ≡ 7 ∷ 7 ∷ 1 ∷ []
+-- the one cell of an empty table meets each of seven, and of seven cells each meets itself alone
+cellMeetings-example : cellMeetings corner [] ∷ cellMeetings [] corner ∷ cellMeetings [] [] ∷ cellMeetings corner corner ∷ []
+    ≡ 7 ∷ 7 ∷ 1 ∷ 7 ∷ []
 unfolding evaluate
 cellMeetings-example = refl
 
@@ -75,3 +76,10 @@ shares-example = record {
   second = omega arith;
   common = record { point = record { X = pos 36001; Y = pos 129001; W = 3 }; above = omega arith; first = tt; second = tt };
 }
+
+-- triangle 1 of the one and triangle 2 of the other are not there
+no-first-example : SharesGround corner two 1 1 → ⊥
+no-first-example h = let l = h .first in omega arith
+
+no-second-example : SharesGround corner two 0 2 → ⊥
+no-second-example h = let l = h .second in omega arith

@@ -3,9 +3,8 @@
 -- Assumes nothing.
 use mathlib.Core.Path.{_≡_, refl, sym, _∙_, ap}
 use mathlib.Core.Bool.{true}
-use mathlib.Core.Logic.{inl, inr}
-use mathlib.Core.List.{List, [], _∷_, map}
-use Prim.Native.Nat.{ℕ, suc, _*_, _≤_}
+use mathlib.Core.List.{List, [], _∷_}
+use Prim.Native.Nat.{ℕ, _*_, _≤_}
 use native.Mathlib.Omega.{arith}
 use lib.Dec.{T}
 use lib.ListN.{length, set}
@@ -26,25 +25,22 @@ use Rattle.chart_laws.proofs.EditLaws.{split-done, takeOut-done}
 use Rattle.chart_laws.proofs.FlipLaws.{flip-done}
 use Rattle.chart_laws.proofs.MergeLaws.{taken-sum, merge-every}
 use Rattle.call_spec.specs.Buffers.{Chart, chartTable, chainRule}
-use Rattle.call_spec.specs.Calls.{Changed, changedBy, ifIndexed, editCall}
+use Rattle.call_spec.specs.Calls.{changedBy, ifIndexed, editCall}
 use Rattle.call_laws.proofs.BufferLaws.{ruled}
 use Rattle.call_laws.proofs.EditCalls.{edit-refused}
-use Rattle.answers.specs.declared.Change.{Change}
 use Rattle.answers.proofs.Judged as judged
+use Rattle.answers.proofs.AnswerLaws.{answered, other-tag}
 use Rattle.answers.specs.declared.Judged.{Judged}
 use Rattle.answers.specs.declared.Judged.the-variants.{Fine, ShortBuffer, BrokenChain, StaleEntries}
-use Rattle.answers.specs.Outcomes.{judgedOutcome, changeOutcome}
+use Rattle.answers.specs.Outcomes.{judgedOutcome}
 use Rattle.table_edits.proofs.Edited as edited
 use Rattle.table_edits.specs.declared.Edited.{Edited}
 use Rattle.table_edits.specs.declared.Edited.the-variants.{Made, NoSuchTriangle, NotInside, NotThreeAround, NoFlip, TableFull}
 use Rattle.table_edits.specs.Edited.{editedOutcome, editedCount}
 use Rattle.edit_steps.specs.declared.Edit.{Edit}
 use Rattle.edit_steps.specs.declared.Edit.the-variants.{Split, TakeOut, Flip}
-use Rattle.edit_steps.specs.Edit.{tableEdit, judgedChange, editedChange}
-
--- what is given back at a refusal: lists and counts as they were
-abbrev pub answered : Chart → Change → Changed
-answered c r = record { number = outcomeNumber (changeOutcome r); value = outcomeValue (changeOutcome r); chart = c }
+use Rattle.edit_steps.specs.Edit.{tableEdit}
+use Rattle.edit_answers.specs.ChangeOf.{judgedChange, editedChange}
 
 -- each triangle has D > 0
 abbrev pub Oriented : Table → Type 0
@@ -107,13 +103,6 @@ made-stored ns {e} {n} d h =
     ((omega arith, omega arith), ap (λ m. all (λ s. proper s) (tableOf ns m)) (sym k) ∙ h .1)
 
 -- ---- refusals, by the tag that code tested
-
--- tag 0 is none of the others
-other-tag : (ks : List ℕ) → OneOf (map suc ks) 0 → ⊥
-other-tag [] h = h
-other-tag (k ∷ []) h = omega arith
-other-tag (k ∷ l ∷ ks) (inl e) = omega arith
-other-tag (k ∷ l ∷ ks) (inr r) = other-tag (l ∷ ks) r
 
 -- what an edit of a plain table refuses
 pub edited-refused : (c : Chart) (ns : List ℕ) (e : Edited) → OneOf (1 ∷ 2 ∷ 3 ∷ 4 ∷ 5 ∷ []) (tagOf edited.the-type e)

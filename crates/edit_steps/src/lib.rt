@@ -2,7 +2,6 @@
 
 use answers::Change;
 use answers::Changed;
-use answers::Judged;
 use plane::Point;
 use table_edits::Edited;
 ghost use mathlib.Core.Path.{_≡_};
@@ -20,39 +19,13 @@ ghost use Rattle.call_spec.specs.Calls.{Changed as Calls·Changed};
 ghost use Rattle.answers.specs.declared.Changed.{Changed as Answers·Changed};
 ghost use Rattle.answers.specs.Outcomes.{changedOf};
 ghost use Rattle.table_edits.specs.Edited.{editedOutcome, editedCount};
-ghost use Rattle.edit_steps.specs.Edit.{tableEdit, judgedChange, editedChange};
+ghost use Rattle.edit_steps.specs.Edit.{tableEdit};
 
 // An edit of a chart.
 pub enum Edit {
     Split(usize, Point),
     TakeOut(Point),
     Flip(usize, usize),
-}
-
-// The answer to what judging a chart found.
-pub fn judged_change(judged: Judged) -> Change
-    ensures { λ r. ⌜ r ≡ judgedChange judged ⌝ }
-{
-    match judged {
-        Judged::Fine => Change::Done,
-        Judged::ShortBuffer => Change::ShortBuffer,
-        Judged::BrokenChain => Change::BrokenChain,
-        Judged::StaleEntries => Change::StaleEntries,
-    }
-}
-
-// The answer to how an edit of a plain table went.
-fn edited_change(made: Edited) -> Change
-    ensures { λ r. ⌜ r ≡ editedChange made ⌝ }
-{
-    match made {
-        Edited::Made(_) => Change::Done,
-        Edited::NoSuchTriangle => Change::NoSuchTriangle,
-        Edited::NotInside => Change::NotInside,
-        Edited::NotThreeAround => Change::NotThreeAround,
-        Edited::NoFlip => Change::NoFlip,
-        Edited::TableFull => Change::TableFull,
-    }
 }
 
 // A refusal, with the counts as they were.
@@ -97,5 +70,5 @@ pub fn finish(
     if let Edited::Made(n) = made {
         return changes::store(scratch, n, table, keys, levels, items, triangles, entries);
     }
-    refused(edited_change(made), triangles, entries)
+    refused(edit_answers::edited_change(made), triangles, entries)
 }

@@ -17,7 +17,8 @@ use Rattle.orthtree.specs.Entries.{Entry, isMark, span, rangeEnd, entryFits, fo
 use Rattle.squares.specs.Square.{arity, depth}
 use Rattle.call_spec.specs.Buffers.{zipEntries}
 use Rattle.links.specs.Links.{entryAt, itemFits, aligned, linked, linkedAt, endsTree}
-use Rattle.entry_chains.proofs.ChainLaws.{Chained, chain-reflects}
+use Rattle.orthtree.proofs.ChainPlaceLaws.{Chained}
+use Rattle.entry_chains.proofs.ChainLaws.{lists-reflect}
 
 -- two tests pass together
 both : (a b : Bool) → Reflects (a && b) (T a × T b)
@@ -116,7 +117,7 @@ module _ (count : ℕ) (ks ls is : List ℕ) (n m : ℕ) (e : n ≡ suc m) where
     chain-parts : chain arity depth count (take n (zipEntries ks ls is))
         ≡ all levelTest (upTo n) && (eqb (getD ks 0 0) 0 && all itemTest (upTo n) && all linkTest (upTo m) && endsTree (at m))
     chain-parts =
-        reflects-same (chain-reflects arity depth count ks ls is n m e a b c)
+        reflects-same (lists-reflect arity depth count ks ls is n m e a b c)
         (reflects-iff found-chained chained-found found-reflects)
 
     pub chain-stopped : all levelTest (upTo n) ≡ false → false ≡ chain arity depth count (take n (zipEntries ks ls is))

@@ -20,6 +20,7 @@ use Rattle.orthtree.proofs.EntriesLaws.{noEntry}
 use Rattle.call_spec.specs.Buffers.{zipEntries, sameEntries}
 use Rattle.call_laws.proofs.EntriesLaws.{sameEntries-reflects, first-count, first-at}
 use Rattle.leaves.specs.Packed.{packed}
+use Rattle.links.specs.Links.{entryAt}
 use Rattle.entry_checks.specs.Places.{packedAt}
 use Rattle.scratch.proofs.PackLaws.{Packable, packed-injective}
 use Rattle.scratch.specs.Packed.{Packed}
@@ -51,15 +52,17 @@ module _ {most : ℕ} {es : List Entry} {r : ℕ} {l l′ : List ℕ} (p : Packe
     sameAt i = eqb (getD l′ i 0) (packedAt ks ls is i)
 
     same-to : ((i : ℕ) → i < m → T (sameAt i)) → given ≡ es
+    unfolding entryAt
     same-to t =
         ext-getD noEntry given es (first-count ks ls is m a b c ∙ sym e ∙ packed-count p (omega arith)) (λ i h.
         let j : i < m = omega (arith, first-count ks ls is m a b c) in
         first-at ks ls is m a b c noEntry i j
-        ∙ packed-injective (record { key = getD ks i 0; level = getD ls i 0; item = getD is i 0 }) (getD es i noEntry) (record { level = levels i; item = items i })
+        ∙ packed-injective (entryAt ks ls is i) (getD es i noEntry) (record { level = levels i; item = items i })
         (q (getD es i noEntry) (getD-member es i noEntry (omega (arith, packed-count p (omega arith)))))
         (sym (eqb→eq (getD l′ i 0) (packedAt ks ls is i) (t i j)) ∙ packed-at i j))
 
     same-from : given ≡ es → (i : ℕ) → i < m → T (sameAt i)
+    unfolding entryAt
     same-from g i h =
         reflects-eqb (getD l′ i 0) (packedAt ks ls is i) .from
         (packed-at i h ∙ ap (λ x. packed (getD x i noEntry)) (sym g) ∙ ap (λ d. packed d) (first-at ks ls is m a b c noEntry i h))

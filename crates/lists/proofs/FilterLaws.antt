@@ -1,8 +1,8 @@
 -- `filter` of joined lists, and of lists whose elements all pass or all fail; what the elements that pass have.
 -- Each law is an induction on the list.
 -- Assumes nothing.
-use mathlib.Core.Path.{_≡_, refl, _∙_, ap}
-use mathlib.Core.Bool.{Bool, true, false}
+use mathlib.Core.Path.{_≡_, refl, sym, _∙_, ap, ap₂}
+use mathlib.Core.Bool.{Bool, true, false, _&&_}
 use mathlib.Core.List.{List, [], _∷_, _++_}
 use lib.Dec.{T}
 use Rattle.lists.specs.Lists.{filter}
@@ -53,3 +53,29 @@ every-filter {A} {P} f (y ∷ ys) h = let g = every-uncons h in go (f y) refl (g
         → Every (λ x. P x × T (f x)) (elim b [ true ↦ y ∷ filter f ys | false ↦ filter f ys ])
     go true e p r = every-cons ((p, rw e tt), r)
     go false e p r = r
+
+module _ {A : Type 0} (p q : A → Bool) where
+  -- tests that agree on a list
+  pub filter-agree : (l : List A) → Every (λ x. p x ≡ q x) l → filter p l ≡ filter q l
+  unfolding filter
+  filter-agree [] h = refl
+  filter-agree (x ∷ xs) h =
+      let u = every-uncons h in
+      ap₂ (λ b r. elim b [ true ↦ x ∷ r | false ↦ r ]) (u .0) (filter-agree xs (u .1))
+
+  -- one test after another
+  pub filter-both : (l : List A) → filter p (filter q l) ≡ filter (λ x. p x && q x) l
+  unfolding filter
+  filter-both [] = refl
+  filter-both (x ∷ xs) = go (p x) (q x) refl refl (filter-both xs)
+    where
+      go : (b c : Bool) → p x ≡ b → q x ≡ c → filter p (filter q xs) ≡ filter (λ x. p x && q x) xs
+          → filter p (filter q (x ∷ xs)) ≡ filter (λ x. p x && q x) (x ∷ xs)
+      go true true e d r =
+          ap (filter p) (filter-pass q x xs d) ∙ filter-pass p x (filter q xs) e ∙ ap (λ l. x ∷ l) r
+          ∙ sym (filter-pass (λ x. p x && q x) x xs (rw (e, d)))
+      go true false e d r = ap (filter p) (filter-fail q x xs d) ∙ r ∙ sym (filter-fail (λ x. p x && q x) x xs (rw (e, d)))
+      go false true e d r =
+          ap (filter p) (filter-pass q x xs d) ∙ filter-fail p x (filter q xs) e ∙ r
+          ∙ sym (filter-fail (λ x. p x && q x) x xs (rw e))
+      go false false e d r = ap (filter p) (filter-fail q x xs d) ∙ r ∙ sym (filter-fail (λ x. p x && q x) x xs (rw e))

@@ -17,3 +17,4 @@ pub mod LentLaws
 pub mod EditedLists
 pub mod FirstLaws
 pub mod FoldLaws
+pub mod StoredLaws

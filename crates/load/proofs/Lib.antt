@@ -1,3 +1,2 @@
-pub mod FaultyLaws
 pub mod LoadLaws
 pub mod LoadIndexed

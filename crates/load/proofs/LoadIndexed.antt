@@ -8,15 +8,17 @@ use Prim.Native.Nat.{ℕ, _/_, _≤_, _<_}
 use native.Mathlib.Decide.{decLe}
 use native.Mathlib.Omega.{arith}
 use lib.ListN.{length}
-use Rattle.chart_spec.specs.Table.{numbersPerTriangle}
+use Rattle.chart_spec.specs.Table.{Table, numbersPerTriangle}
 use Rattle.chart_spec.specs.Cells.{entriesOf, maxEntries}
-use Rattle.chart_spec.specs.Refusals.{Refusal, shortBuffer, badLength, faultyTriangle, tooManyEntries, refused}
+use Rattle.chart_spec.specs.Refusals.{Refusal, shortBuffer, badLength, faultyTriangle, tooManyEntries, Outcome, refused, done, refuseIf, andThen}
+use Rattle.chart_spec.specs.Edits.{loadTable, givenTable}
 use Rattle.chart_laws.proofs.TableLaws.{tableOf-length}
 use Rattle.call_spec.specs.Buffers.{Chart, tooShort}
-use Rattle.call_spec.specs.Calls.{changedBy, loadCall}
+use Rattle.call_spec.specs.Calls.{changedBy, ifLong, loadCall}
 use Rattle.changes.proofs.StoreLaws.{limit-over, limit-fits}
-use Rattle.load.specs.Faulty.{firstFaulty}
-use Rattle.load.proofs.LoadLaws.{lengthTest, length-few, given, given-proper, load-short, load-length, load-faulty, load-rest}
+use Rattle.load_checks.specs.Faulty.{firstFaulty}
+use Rattle.load_checks.proofs.GivenLaws.{lengthTest, given-length, given-faulty, given-done, Accepted}
+use Rattle.load.proofs.LoadLaws.{judgedLoad, load-refused, load-judged, load-accepted, load-rest}
 use Rattle.call_laws.proofs.IndexedLaws.{Editable, indexed-editable}
 
 module _ (ns : List ℕ) (c : Chart) (z : loadCall ns c .number ≡ 0) where
@@ -25,42 +27,45 @@ module _ (ns : List ℕ) (c : Chart) (z : loadCall ns c .number ≡ 0) where
   unfolding changedBy
   not-refused r p e = let n = ap (λ d. d .number) e in omega arith
 
-  -- so not 1
-  long : (b : Bool) → tooShort c ≡ b → tooShort c ≡ false
-  long true s = absurd (not-refused shortBuffer (omega arith) (load-short ns c s))
-  long false s = s
+  short : tooShort c ≡ true → refused shortBuffer ≡ judgedLoad ns c
+  unfolding ifLong refuseIf
+  short s = rw s
 
-  abbrev isLong : tooShort c ≡ false
-  isLong = long (tooShort c) refl
+  later : tooShort c ≡ false → {o : Outcome Table} → loadTable ns ≡ o → andThen o (λ t. done true) ≡ judgedLoad ns c
+  unfolding ifLong refuseIf
+  later s e = rw s (sym (ap (λ o. andThen o (λ t. done true)) e))
 
-  -- nor 4
-  whole : (b : Bool) → lengthTest ns ≡ b → lengthTest ns ≡ false
-  whole true e = absurd (not-refused badLength (omega arith) (load-length ns c isLong e))
-  whole false e = e
+  -- so it was none of 1, 4 and 5
+  judged : done true ≡ judgedLoad ns c
+  unfolding andThen
+  judged = long (tooShort c) refl
+    where
+      whole : tooShort c ≡ false → (b : Bool) → lengthTest ns ≡ b → done true ≡ judgedLoad ns c
+      whole s true b = absurd (not-refused badLength (omega arith) (load-refused ns c (later s (given-length ns b))))
+      whole s false b = elim (decLe (length ns / numbersPerTriangle) (firstFaulty (givenTable ns))) [
+        | yes h ↦ later s (given-done ns b h)
+        | no h ↦ absurd (not-refused (faultyTriangle (firstFaulty (givenTable ns))) (omega arith) (load-refused ns c (later s (given-faulty ns b (omega arith)))))
+      ]
 
-  abbrev isWhole : lengthTest ns ≡ false
-  isWhole = whole (lengthTest ns) refl
+      long : (b : Bool) → tooShort c ≡ b → done true ≡ judgedLoad ns c
+      long true s = absurd (not-refused shortBuffer (omega arith) (load-refused ns c (short s)))
+      long false s = whole s (lengthTest ns) refl
 
-  -- nor 5
-  none-faulty : length ns / numbersPerTriangle ≤ firstFaulty (given ns)
-  none-faulty = elim (decLe (length ns / numbersPerTriangle) (firstFaulty (given ns))) [
-    | yes h ↦ h
-    | no n ↦ absurd (not-refused (faultyTriangle (firstFaulty (given ns))) (omega arith) (load-faulty ns c isLong isWhole refl (omega arith)))
-  ]
+  abbrev given : Accepted ns
+  given = load-accepted ns c judged
 
   -- nor 11
-  few-entries : length (entriesOf (given ns)) ≤ maxEntries
-  few-entries = elim (decLe (length (entriesOf (given ns))) maxEntries) [
+  few-entries : length (entriesOf (givenTable ns)) ≤ maxEntries
+  few-entries = elim (decLe (length (entriesOf (givenTable ns))) maxEntries) [
     | yes h ↦ h
-    | no n ↦ absurd (not-refused tooManyEntries (omega arith) (ap (changedBy c) (sym (limit-over (given ns) (omega arith))) ∙ load-rest ns c isLong isWhole refl none-faulty))
+    | no n ↦ absurd (not-refused tooManyEntries (omega arith) (ap (changedBy c) (sym (limit-over (givenTable ns) (omega arith))) ∙ load-rest ns c judged))
   ]
 
   editable : Editable (loadCall ns c .chart)
-  unfolding changedBy
+  unfolding changedBy givenTable
   editable =
-      let few = length-few ns isWhole in
-      rw (← load-rest ns c isLong isWhole refl none-faulty, limit-fits (given ns) few-entries)
-      (indexed-editable c (given ns) (omega (arith, tableOf-length ns (length ns / numbersPerTriangle))) few-entries isLong (given-proper ns refl none-faulty))
+      rw (← load-rest ns c judged, limit-fits (givenTable ns) few-entries)
+      (indexed-editable c (givenTable ns) (omega (arith, tableOf-length ns (length ns / numbersPerTriangle), given .few)) few-entries (load-judged ns c judged .0) (given .oriented))
 
 -- the buffers that an accepted load leaves are long enough, follow the chain rule and hold the entries of their table
 pub load-indexed : (ns : List ℕ) (c : Chart) → loadCall ns c .number ≡ 0 → Editable (loadCall ns c .chart)

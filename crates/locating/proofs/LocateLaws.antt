@@ -11,7 +11,7 @@ use Rattle.lists.specs.Lists.{first, upTo}
 use Rattle.lists.proofs.LowestLaws.{Lowest}
 use Rattle.plane.specs.declared.Point.{Point}
 use Rattle.plane.specs.Triangle.{holds}
-use Rattle.squares.proofs.ZOrderLaws.{InGrid}
+use Rattle.plane.proofs.ExtremeLaws.{OnGrid}
 use Rattle.chart_spec.specs.Table.{numbered}
 use Rattle.chart_spec.specs.Cells.{entriesOf}
 use Rattle.chart_spec.specs.Reading.{listing, located}
@@ -40,7 +40,7 @@ module _ (c : Chart) (p : Point) (r : chainRule c ≡ true) where
   lowest-listed f = first-listed (c .triangleCount) (chartEntries c) (ruled c r .chained) p f
 
   -- on an indexed chart, for a test that only triangles pass that hold the point, that is the first of the whole table
-  pub first-indexed : InGrid p → indexed c ≡ true → (f : ℕ → Bool) → ((i : ℕ) → T (f i) → T (holds (numbered (chartTable c) i) p))
+  pub first-indexed : OnGrid p → indexed c ≡ true → (f : ℕ → Bool) → ((i : ℕ) → T (f i) → T (holds (numbered (chartTable c) i) p))
       → first f (listing (chartEntries c) p) ≡ first f (upTo (length (chartTable c)))
   first-indexed g e f only =
       let rule = ruled c r in
@@ -57,6 +57,6 @@ module _ (c : Chart) (p : Point) (r : chainRule c ≡ true) where
     locate-lowest-listed = rw found-first (lowest-listed (λ i. holds (numbered (chartTable c) i) p))
 
     -- on an indexed chart it is the lowest numbered of the whole table that holds the point
-    pub locate-lowest : InGrid p → indexed c ≡ true
+    pub locate-lowest : OnGrid p → indexed c ≡ true
         → locateCall c p .found ≡ first (λ i. holds (numbered (chartTable c) i) p) (upTo (length (chartTable c)))
     locate-lowest g e = found-first ∙ first-indexed g e (λ i. holds (numbered (chartTable c) i) p) (λ i h. h)

@@ -18,3 +18,4 @@ pub mod MortonLaws
 pub mod MortonRangeLaws
 pub mod MortonChildLaws
 pub mod Examples
+pub mod ChainPlaceLaws

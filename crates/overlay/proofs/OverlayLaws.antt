@@ -1,16 +1,16 @@
--- The answer of an overlay: at each refusal, and from what is marked and written.
+-- The answer of an overlay: at each refusal, and from what is marked.
 -- Assumes nothing.
 use mathlib.Core.Path.{_≡_, refl, sym, _∙_, ap, ap₂, subst}
 use mathlib.Core.Bool.{Bool, true, false, not, _&&_, _||_}
-use mathlib.Core.List.{List, [], _++_, map, flatMap}
-use Prim.Native.Nat.{ℕ, _*_, _-_, _≤_, _<_}
+use mathlib.Core.List.{List, map, flatMap}
+use Prim.Native.Nat.{ℕ, _-_, _≤_, _<_}
 use native.Mathlib.Omega.{arith}
-use borrow.Author.Tests.{lt-ltb, le-ltb, ltb-false}
+use borrow.Author.Tests.{ltb-false}
 use lib.Dec.{T, ltb}
-use lib.ListN.{length, take, drop, replicate}
-use lib.Seq.{sets}
+use lib.ListN.{length, take}
 use Rattle.lists.specs.Lists.{filter, upTo}
 use Rattle.lists.proofs.Reflects.{or-neither}
+use Rattle.lists.proofs.FilterLaws.{filter-agree}
 use Rattle.lists.proofs.ListsLaws.{upTo-to}
 use Rattle.lists.proofs.EveryLaws.{flatMap-agree}
 use Rattle.orthtree.specs.Entries.{Entry, chain, meetings}
@@ -18,20 +18,17 @@ use Rattle.squares.specs.Square.{arity, depth}
 use Rattle.plane.specs.Interior.{interiorsMeet}
 use Rattle.chart_spec.specs.Table.{maxTriangles, tableOf}
 use Rattle.chart_spec.specs.Refusals.{refuseIf, outcomeNumber}
-use Rattle.chart_spec.specs.Overlay.{Pair, pairNumbers, maxPairs, pairListed, pairsListed, withinPairs, overlayOf}
+use Rattle.chart_spec.specs.Overlay.{Pair, pairListed, pairsListed, withinPairs, overlayOf}
 use Rattle.chart_laws.proofs.TableLaws.{tableOf-length, numbered-at}
-use Rattle.call_spec.specs.Buffers.{Chart, tooShort, zipEntries, chainRule, chartTable, chartEntries, padded, pairsLength}
+use Rattle.call_spec.specs.Buffers.{Chart, tooShort, zipEntries, chainRule, chartTable, chartEntries, pairsLength}
 use Rattle.call_spec.specs.Calls.{pairsRefused, overlaidBy, overlayCall}
 use Rattle.call_laws.proofs.BufferLaws.{ruled, rule-held, searchable}
 use Rattle.answers.specs.declared.Overlay.the-variants as overlays
 use Rattle.answers.specs.declared.Overlaid.{Overlaid}
 use Rattle.answers.specs.Outcomes.{overlaidOf}
-use Rattle.list_writes.proofs.StoreLaws.{padded-sets}
 use Rattle.merge.specs.Merge.{Overlapping}
-use Rattle.pair_list.specs.Pairs.{meetsAt, rowPairs, markedPairs, Wrote}
+use Rattle.pair_writes.specs.Pairs.{meetsAt, rowPairs, markedPairs}
 use Rattle.row_candidates.specs.RowCandidates.{markedAt}
-use Rattle.pair_list.proofs.WroteLaws.{numbers-length}
-use Rattle.pair_list.proofs.PairLaws.{filter-agree}
 use Rattle.overlay.specs.Judged.{Passed}
 
 -- both of two tests
@@ -100,37 +97,6 @@ module _ (c d : Chart) (pairs : List ℕ) where
       pub overlay-passed : overlaidBy pairs (overlayOf (chartTable c) (chartEntries c) (chartTable d) (chartEntries d)) ≡ overlayCall c d pairs
       unfolding overlayCall refuseIf
       overlay-passed = rw (long, both (chainRule c) (chainRule d) rules .0, both (chainRule c) (chainRule d) rules .1)
-
--- ---- what is written
-
--- zeros over all pairs
-zeros : (n : ℕ) (mid before : List ℕ) → n ≤ length mid → drop n mid ≡ drop n before → sets mid 0 (replicate (n - 0) 0) ≡ padded n [] before
-unfolding padded
-zeros n mid before h e = padded-sets n [] mid (omega arith) h ∙ ap (λ r. [] ++ replicate (n - length {A = ℕ} []) 0 ++ r) e
-
-module _ {ps : List Pair} {found : ℕ} {before mid : List ℕ} (w : Wrote ps 0 found before mid) (room : pairsLength ≤ length mid) (m : ℕ) (after : List ℕ) where
-  -- too many pairs
-  pub finish-over : maxPairs < found → after ≡ sets mid 0 (replicate (pairsLength - 0) 0)
-      → {r : Overlaid} → r ≡ record { overlay = overlays.TooManyPairs; pairs = 0; meetings = 0 } → overlaidOf r after ≡ overlaidBy before (withinPairs ps m)
-  unfolding overlaidBy withinPairs refuseIf pairsRefused outcomeNumber
-  finish-over h e f =
-      ap (λ r. overlaidOf r after) f ∙
-      rw (lt-ltb maxPairs (length ps) (omega (arith, w .count)))
-      (λ i. record { number = 12; pairCount = 0; meets = 0; pairs = (e ∙ zeros pairsLength mid before room (w .beyond)) i })
-
-  -- not too many
-  pub finish-done : found ≤ maxPairs → after ≡ sets mid (2 * found) (replicate (pairsLength - 2 * found) 0)
-      → overlaidOf (record { overlay = overlays.Done; pairs = found; meetings = m }) after ≡ overlaidBy before (withinPairs ps m)
-  unfolding overlaidBy withinPairs refuseIf outcomeNumber
-  finish-done h e =
-      let few : length ps ≤ maxPairs = omega (arith, w .count) in
-      let n : found ≡ length ps = omega (arith, w .count) in
-      let size : 2 * found ≡ length (pairNumbers ps) = omega (arith, numbers-length ps) in
-      let written = e
-      ∙ ap (λ k. sets mid k (replicate (pairsLength - k) 0)) size
-      ∙ ap (λ l. sets l (length (pairNumbers ps)) (replicate (pairsLength - length (pairNumbers ps)) 0)) (w .stored (omega arith))
-      ∙ padded-sets pairsLength (pairNumbers ps) before (omega arith) (omega (arith, w .kept)) in
-      rw (le-ltb maxPairs (length ps) few) (λ i. record { number = 0; pairCount = n i; meets = m; pairs = written i })
 
 -- ---- the marked pairs are those of the overlay
 

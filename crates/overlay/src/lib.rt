@@ -5,21 +5,17 @@ use answers::Overlay;
 ghost use mathlib.Core.Path.{_≡_};
 ghost use mathlib.Core.Bool.{true, false, _&&_};
 ghost use mathlib.Core.List.{List};
-ghost use Prim.Native.Nat.{ℕ, _+_, _≤_};
+ghost use Prim.Native.Nat.{ℕ, _≤_};
 ghost use lib.ListN.{length, take};
 ghost use Rattle.orthtree.specs.Entries.{chain};
 ghost use Rattle.squares.specs.Square.{arity, depth};
 ghost use Rattle.chart_spec.specs.Table.{tableOf};
-ghost use Rattle.chart_spec.specs.Overlay.{Pair, maxPairs, withinPairs, overlayOf};
+ghost use Rattle.chart_spec.specs.Overlay.{overlayOf};
 ghost use Rattle.call_spec.specs.Buffers.{chartOf, tooShort, zipEntries, chainRule, pairsLength};
 ghost use Rattle.call_spec.specs.Calls.{overlaidBy, overlayCall};
 ghost use Rattle.call_spec.specs.Calls.{Overlaid as Calls·Overlaid};
 ghost use Rattle.answers.specs.Outcomes.{overlaidOf};
-ghost use Rattle.pair_list.specs.Pairs.{Wrote};
 ghost use Rattle.overlay.specs.Judged.{Passed};
-
-// The numbers of a full list of pairs.
-const PAIR_NUMBERS: usize = 8192;
 
 // Both charts follow the chain rule.
 fn chain_rules(
@@ -58,34 +54,6 @@ fn chain_rules(
     first & second
 }
 
-// A refusal.
-fn refused(overlay: Overlay) -> Overlaid
-    ensures { λ r. ⌜ r ≡ record { overlay = overlay; pairs = 0; meetings = 0 } ⌝ }
-{
-    Overlaid {
-        overlay,
-        pairs: 0,
-        meetings: 0,
-    }
-}
-
-// The answer, where so many pairs are written, or 4097 are too many: zeros after the pairs, or in all places.
-fn finish(found: usize, meetings: usize, pairs: &mut [u16]) -> Overlaid
-    requires { ⌜ (found ≤ maxPairs + 1) × (pairsLength ≤ length (now pairs)) ⌝ }
-    ensures { λ r. ⌜ ((ps : List Pair) (before : List ℕ) → Wrote ps 0 found before (now (pairs .entry)) → _≡_ {A = Calls·Overlaid} (overlaidOf r (now (pairs .exit))) (overlaidBy before (withinPairs ps meetings))) ⌝ }
-{
-    if found > pair_list::MOST_PAIRS {
-        list_writes::clear_items(pairs, 0, PAIR_NUMBERS);
-        return refused(Overlay::TooManyPairs);
-    }
-    list_writes::clear_items(pairs, 2 * found, PAIR_NUMBERS);
-    Overlaid {
-        overlay: Overlay::Done,
-        pairs: found,
-        meetings,
-    }
-}
-
 // The overlay of two charts that no refusal meets, by their keys and items: levels follow from keys.
 fn list_pairs(
     first_table: &[u16],
@@ -122,7 +90,7 @@ fn list_pairs(
         &rows,
         pairs,
     );
-    finish(found, meetings, pairs)
+    overlay_answers::finish(found, meetings, pairs)
 }
 
 // Overlay: the pairs ascending by the first number, then the second, and how many cells of the one overlap cells of the other.
@@ -145,9 +113,9 @@ pub fn overlay(
 {
     if chains::too_short(first_table, first_keys, first_levels, first_items)
         | chains::too_short(second_table, second_keys, second_levels, second_items)
-        | (pairs.len() < PAIR_NUMBERS)
+        | (pairs.len() < overlay_answers::PAIR_NUMBERS)
     {
-        return refused(Overlay::ShortBuffer);
+        return overlay_answers::refused(Overlay::ShortBuffer);
     }
     if !chain_rules(
         first_table,
@@ -163,7 +131,7 @@ pub fn overlay(
         second_triangles,
         second_entries,
     ) {
-        return refused(Overlay::BrokenChain);
+        return overlay_answers::refused(Overlay::BrokenChain);
     }
     list_pairs(
         first_table,

@@ -14,6 +14,7 @@ use lib.Dec.{leb, ltb}
 use Rattle.lists.proofs.Reflects.{Reflects, reflects-le, reflects-ltb, reflects-and, reflects-iff}
 use Rattle.plane.specs.declared.Point.{Point}
 use Rattle.plane.specs.Point.{orient, distance}
+use Rattle.plane.specs.Triangle.{Triangle}
 use Rattle.plane.specs.Box.{Box, Framed, allCorners, allInner, allOuter}
 use Rattle.plane.proofs.Difference.{Diff, diff-shift, diff-above, diff-below}
 use Rattle.plane.proofs.OrientLaws.{orient-difference}
@@ -109,6 +110,12 @@ offset p q = steepX p q * mirrorX p q (p .x) + steepY p q * mirrorY p q (p .y)
 pub record OnGrid (p : Point) : Type 0 where
   pub x : p .x ≤ 65535
   pub y : p .y ≤ 65535
+
+-- the corners of a triangle are points of the grid
+pub record CornersOnGrid (t : Triangle) : Type 0 where
+  pub a : OnGrid (t .a)
+  pub b : OnGrid (t .b)
+  pub c : OnGrid (t .c)
 
 sum : (u v w z x y a b c d : ℕ) → u * x + v * z + a ≡ v * x + u * z + b → w * y + z * u + c ≡ z * y + w * u + d
     → w * y + v * z + u * x + (a + c) ≡ b + d + (w * u + z * y + v * x)

@@ -21,7 +21,7 @@ use Rattle.lists.proofs.FlatMapLaws.{flatMap-length}
 use Rattle.side_masks.specs.Masks.{unpacked}
 use Rattle.candidates.specs.Stack.{Ready, Prepared}
 use Rattle.quadtree.specs.Build.{Candidates}
-use Rattle.candidates.proofs.ReadyLaws.{take-stored}
+use Rattle.lists.proofs.StoredLaws.{take-stored}
 use Rattle.quadtree.proofs.WholeWalk.{whole-start}
 use Rattle.stopping.proofs.CoordinateLaws.{coordinates-length, coordinates-small, point-kept}
 

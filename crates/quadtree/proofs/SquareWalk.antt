@@ -33,7 +33,9 @@ use Rattle.leaves.specs.Packed.{packed}
 use Rattle.quadtree.specs.Build.{Candidates, Built}
 use Rattle.candidates.proofs.StackLaws.{filter-length}
 use Rattle.stopping.proofs.StopLaws.{framed, corners-small, meeting-below}
-use Rattle.candidates.proofs.ReadyLaws.{filter-agree, part-stored, take-before, ready-stored}
+use Rattle.lists.proofs.FilterLaws.{filter-agree}
+use Rattle.lists.proofs.StoredLaws.{part-stored, take-before}
+use Rattle.candidates.proofs.ReadyLaws.{ready-stored}
 
 quarters-four : (s : Square) → length (quarters s) ≡ 4
 unfolding quarters

@@ -27,7 +27,7 @@ use Rattle.lists.proofs.FlatMapLaws.{flatMap-length}
 use Rattle.candidates.specs.Stack.{part, Ready, Prepared}
 use Rattle.quadtree.specs.Build.{Candidates}
 use Rattle.candidates.proofs.ReadyLaws.{ready-stored}
-use Rattle.candidates.proofs.ReadyLaws.{take-stored}
+use Rattle.lists.proofs.StoredLaws.{take-stored}
 
 pub part-whole : (n : ℕ) (l : List ℕ) → part 0 n l ≡ take n l
 part-whole n l =

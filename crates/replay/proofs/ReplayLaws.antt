@@ -9,8 +9,8 @@ use Rattle.call_spec.specs.Buffers.{Chart}
 use Rattle.call_spec.specs.Calls.{Overlaid, overlayCall}
 use Rattle.call_spec.specs.History.{chartAfter}
 use Rattle.history.proofs.Demand3.{demand-3}
-use Rattle.call_lists.specs.Encoding.{decode}
-use Rattle.call_lists.proofs.EncodingLaws.{decode-words}
+use Rattle.call_encoding.specs.Encoding.{decode}
+use Rattle.call_encoding.proofs.EncodingLaws.{decode-words}
 use Rattle.replay.specs.Replay.{Replayed}
 
 module _ {c d : Chart} {before ms ns : List ℕ} (u : (i : ℕ) → getD ms i 0 < 65536) (v : (i : ℕ) → getD ns i 0 < 65536) where

@@ -10,7 +10,7 @@ use Rattle.call_spec.specs.Buffers.{Chart, tooShort, pairsLength}
 use Rattle.call_spec.specs.Calls.{Overlaid, overlayCall}
 use Rattle.call_spec.specs.History.{chartAfter}
 use Rattle.history.specs.Histories.{HistoriesOverlaid}
-use Rattle.call_lists.specs.Encoding.{decode}
+use Rattle.call_encoding.specs.Encoding.{decode}
 
 -- charts c and d and a pairs list came to charts c' and d' and to the overlay's answer o by the calls ms and ns. Whatever the buffers
 -- and counts were, each chart has had its calls, one after another, and the overlay after them. And where the buffers are long enough,

@@ -8,7 +8,7 @@ use native.Mathlib.Omega.{arith}
 use lib.ListN.{length, take, length-map}
 use Rattle.orthtree.specs.Entries.{Entry}
 use Rattle.leaves.specs.Packed.{packed}
-use Rattle.candidates.proofs.ReadyLaws.{take-stored}
+use Rattle.lists.proofs.StoredLaws.{take-stored}
 use Rattle.scratch.specs.Packed.{Packed}
 
 -- a number within the limit says that it is the count of what fits

@@ -15,7 +15,7 @@ use Rattle.plane.specs.declared.Point.{Point}
 use Rattle.plane.specs.Point.{distance}
 use Rattle.plane.specs.Triangle.{Triangle}
 use Rattle.plane.specs.Box.{Box, Framed, apart, sideBox, triangleBox, allInner, allOuter, sideMeets, triangleMeets}
-use Rattle.plane.proofs.ExtremeLaws.{offset, OnGrid, allOuter-extreme, allInner-extreme}
+use Rattle.plane.proofs.ExtremeLaws.{offset, OnGrid, CornersOnGrid, allOuter-extreme, allInner-extreme}
 use Rattle.chart_spec.specs.Table.{Table, numbered, noTriangle}
 use Rattle.shapes.specs.Shape.{atMost, chosen, sideShape, boxShape, shapeOf, sideOffset, offsetsOf, cornersOf, Shaped, reachAt, baseAt, touchesAt, triangleMeetsAt, sideMeetsAt}
 
@@ -82,12 +82,6 @@ unfolding apart
 not-apart d b = simp (not-or, not-ltb)
 
 -- ---- the numbers of a triangle
-
--- the corners of a triangle are grid points
-pub record OnTriangle (t : Triangle) : Type 0 where
-  pub a : OnGrid (t .a)
-  pub b : OnGrid (t .b)
-  pub c : OnGrid (t .c)
 
 pub shape-length : (t : Triangle) → length (shapeOf t) ≡ 28
 unfolding shapeOf sideShape boxShape
@@ -191,8 +185,8 @@ module _ (table : Table) (s o : List ℕ) (h : Shaped table s o) (i : ℕ) (l : 
   whole-box = box-at (28 * i + 24) 24 refl (omega arith) (record { left = refl; top = refl; right = refl; bottom = refl })
 
   -- the corners of the triangle are grid points
-  module _ (grid : (t : Triangle) → List·Memᴰ t table → OnTriangle t) (b : Box) (f : Framed b) where
-    corners-on : OnTriangle (numbered table i)
+  module _ (grid : (t : Triangle) → List·Memᴰ t table → CornersOnGrid t) (b : Box) (f : Framed b) where
+    corners-on : CornersOnGrid (numbered table i)
     unfolding numbered
     corners-on = grid (numbered table i) (getD-member table i noTriangle l)
 

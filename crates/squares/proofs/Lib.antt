@@ -2,6 +2,4 @@ pub mod SquareLaws
 pub mod ZOrderLaws
 pub mod SquareLeavesLaws
 pub mod SideLaws
-pub mod Cases
-pub mod SpreadLaws
 pub mod Examples

@@ -21,7 +21,8 @@ use Rattle.plane.specs.declared.Point.{Point}
 use Rattle.squares.specs.declared.Square.{Square}
 use Rattle.squares.specs.Square.{depth, arity, wholeSquare, quarters, zOrder, squareKey, Aligned}
 use Rattle.squares.proofs.SquareLaws.{whole-aligned, squareKey-aligned, square-tree}
-use Rattle.squares.proofs.ZOrderLaws.{InGrid, InSquare, zOrder-bound, point-in-square}
+use Rattle.plane.proofs.ExtremeLaws.{OnGrid}
+use Rattle.squares.proofs.ZOrderLaws.{InSquare, zOrder-bound, point-in-square}
 
 abbrev keys : Square → ℕ
 keys s = span arity depth (s .level)
@@ -41,18 +42,18 @@ module _ (stopped : Square → Bool) where
   leaves-aligned = leaves-nodes square-tree stopped wholeSquare whole-aligned
 
   -- the key of a point is in the range of a leaf that it lies in
-  key-in-leaf : (p : Point) → InGrid p → {s : Square} → List·Memᴰ s squareLeaves → InSquare s p → Within (squareKey s) (keys s) (zOrder p)
+  key-in-leaf : (p : Point) → OnGrid p → {s : Square} → List·Memᴰ s squareLeaves → InSquare s p → Within (squareKey s) (keys s) (zOrder p)
   key-in-leaf p g {s} m u = point-in-square s (leaves-aligned s m) p g .0 u
 
   -- each point of the grid lies in a leaf
-  pub leaf-of-point : (p : Point) → InGrid p → Some (λ s. InSquare s p) squareLeaves
+  pub leaf-of-point : (p : Point) → OnGrid p → Some (λ s. InSquare s p) squareLeaves
   leaf-of-point p g =
       let l = tiles-cover (λ s. squareKey s) keys (zOrder p) whole-tiles (omega arith) (zOrder-bound p) in
       let ok = leaves-aligned (l .value) (l .member) in
       record { value = l .value; member = l .member; has = point-in-square (l .value) ok p g .1 (l .has) }
 
   -- and in no other
-  pub leaf-of-point-unique : (p : Point) → InGrid p → {s t : Square} → List·Memᴰ s squareLeaves → List·Memᴰ t squareLeaves
+  pub leaf-of-point-unique : (p : Point) → OnGrid p → {s t : Square} → List·Memᴰ s squareLeaves → List·Memᴰ t squareLeaves
       → InSquare s p → InSquare t p → s ≡ t
   leaf-of-point-unique p g a b u v =
       tiles-apart (λ s. squareKey s) keys (zOrder p) whole-tiles a b (key-in-leaf p g a u) (key-in-leaf p g b v)
@@ -67,7 +68,7 @@ module _ (stopped : Square → Bool) where
       record { deep = ok .deep; aligned = squareKey-aligned s ok; listing = h s m })
 
   -- among them the entries of the cell that has a point's key are those of the leaf that the point lies in
-  pub cell-of-point : (items : Square → List ℕ) (p : Point) → InGrid p → {s : Square} → List·Memᴰ s squareLeaves → InSquare s p
+  pub cell-of-point : (items : Square → List ℕ) (p : Point) → OnGrid p → {s : Square} → List·Memᴰ s squareLeaves → InSquare s p
       → filter (λ e. covers arity depth (zOrder p) e) (entriesFrom (λ s. squareKey s) (λ s. s .level) items squareLeaves)
       ≡ map (λ i. entry (squareKey s) (s .level) i) (items s)
   cell-of-point items p g m u =

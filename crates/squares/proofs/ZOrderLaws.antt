@@ -16,6 +16,7 @@ use Rattle.orthtree.proofs.RangeLaws.{Within}
 use Rattle.orthtree.proofs.MortonLaws.{morton-bound, morton-injective, morton-bit}
 use Rattle.orthtree.proofs.MortonRangeLaws.{key-in-range}
 use Rattle.plane.specs.declared.Point.{Point}
+use Rattle.plane.proofs.ExtremeLaws.{OnGrid}
 use Rattle.squares.specs.declared.Square.{Square}
 use Rattle.squares.specs.Square.{depth, arity, sideAt, zOrder, squareKey, Aligned}
 use Rattle.squares.proofs.SquareLaws.{corner-multiples, side-positive}
@@ -35,16 +36,14 @@ pub zOrder-y : (p : Point) (k : ℕ) → k < depth → zOrder p / 2 ^ (2 * k + 1
 unfolding zOrder
 zOrder-y p k h = morton-bit depth k 1 (p .x ∷ p .y ∷ []) h (omega arith)
 
--- a point of the grid
-pub record InGrid (p : Point) : Type 0 where
-  pub across : p .x < 65536
-  pub down : p .y < 65536
-
-grid-every : (p : Point) → InGrid p → Every (λ c. c < 2 ^ depth) (p .x ∷ p .y ∷ [])
-grid-every p g = every-cons (g .across, every-cons (g .down, every-nil (λ c. c < 2 ^ depth)))
+grid-every : (p : Point) → OnGrid p → Every (λ c. c < 2 ^ depth) (p .x ∷ p .y ∷ [])
+grid-every p g =
+    let a : p .x < 65536 = omega (arith, g .x) in
+    let b : p .y < 65536 = omega (arith, g .y) in
+    every-cons (a, every-cons (b, every-nil (λ c. c < 2 ^ depth)))
 
 -- points of the grid with the same key are the same
-pub zOrder-injective : (p q : Point) → InGrid p → InGrid q → zOrder p ≡ zOrder q → p ≡ q
+pub zOrder-injective : (p q : Point) → OnGrid p → OnGrid q → zOrder p ≡ zOrder q → p ≡ q
 unfolding zOrder
 zOrder-injective p q g h e =
     let c = morton-injective depth (p .x ∷ p .y ∷ []) (q .x ∷ q .y ∷ []) refl (grid-every p g) (grid-every q h) e in
@@ -69,7 +68,7 @@ corner-grid s ok =
     let h = side-positive (s .level) in
     every-cons (omega (arith, ok .right), every-cons (omega (arith, ok .bottom), every-nil (λ c. c < 2 ^ depth)))
 
-box-iff : (s : Square) → Aligned s → (p : Point) → InGrid p
+box-iff : (s : Square) → Aligned s → (p : Point) → OnGrid p
     → Pointwise (λ c d. Within c (sideAt (s .level)) d) (s .x ∷ s .y ∷ []) (p .x ∷ p .y ∷ [])
     ↔ Within (squareKey s) (span arity depth (s .level)) (zOrder p)
 unfolding sideAt squareKey zOrder span
@@ -84,7 +83,7 @@ box-iff s ok p g =
     (key-in-range m (s .level) cs ps refl (corner-multiples s ok)) (corner-grid s ok) (grid-every p g)
 
 -- a point of the grid lies in a square exactly when its key lies in the square's key range
-pub point-in-square : (s : Square) → Aligned s → (p : Point) → InGrid p
+pub point-in-square : (s : Square) → Aligned s → (p : Point) → OnGrid p
     → InSquare s p ↔ Within (squareKey s) (span arity depth (s .level)) (zOrder p)
 point-in-square s ok p g =
     (λ h. box-iff s ok p g .0 (square-iff s p .0 h), λ w. square-iff s p .1 (box-iff s ok p g .1 w))

@@ -19,7 +19,7 @@ use Rattle.lists.proofs.EditedLists.{places-pass}
 use Rattle.lists.proofs.EveryLaws.{every-map, flatMap-agree}
 use Rattle.plane.specs.Triangle.{Triangle, Side, sides, proper}
 use Rattle.plane.specs.Box.{Box, Framed, sideMeets, triangleMeets}
-use Rattle.plane.proofs.ExtremeLaws.{OnGrid}
+use Rattle.plane.proofs.ExtremeLaws.{OnGrid, CornersOnGrid}
 use Rattle.chart_spec.specs.Table.{Table, pointAt, triangleAt, tableOf, numbered, noTriangle, numbersPerTriangle}
 use Rattle.squares.specs.declared.Square.{Square}
 use Rattle.squares.specs.Square.{squareBox, Aligned}
@@ -27,7 +27,7 @@ use Rattle.chart_spec.specs.Cells.{sidesMeeting, commonEnd, stopped, trianglesM
 use Rattle.chart_laws.proofs.EntriesOfTable.{sides-narrow}
 use Rattle.chart_laws.proofs.ChainOfTable.{meeting-rising}
 use Rattle.chart_laws.proofs.TableLaws.{numbered-at, tableOf-length}
-use Rattle.shapes.proofs.ShapeLaws.{OnTriangle, first-meets, second-meets, third-meets}
+use Rattle.shapes.proofs.ShapeLaws.{first-meets, second-meets, third-meets}
 use Rattle.side_masks.specs.Masks.{maskOf, masked, sidesMet}
 use Rattle.stopping.specs.Stopping.{sidesAt}
 use Rattle.candidates.specs.Stack.{Prepared}
@@ -36,11 +36,11 @@ use Rattle.side_masks.proofs.MaskLaws.{masked-filter}
 -- ---- the triangles of a table
 
 -- the corners of its triangles are grid points
-pub corners-small : (ns : List ℕ) (n : ℕ) → ((k : ℕ) → getD ns k 0 < 65536) → (t : Triangle) → List·Memᴰ t (tableOf ns n) → OnTriangle t
+pub corners-small : (ns : List ℕ) (n : ℕ) → ((k : ℕ) → getD ns k 0 < 65536) → (t : Triangle) → List·Memᴰ t (tableOf ns n) → CornersOnGrid t
 unfolding tableOf triangleAt pointAt
 corners-small ns n small =
     let on : (k : ℕ) → OnGrid (pointAt ns k) = λ k. record { x = le-of-suc-le-suc (small k); y = le-of-suc-le-suc (small (k + 1)) } in
-    every-map (λ t. OnTriangle t) (λ i. triangleAt ns i) (upTo n)
+    every-map (λ t. CornersOnGrid t) (λ i. triangleAt ns i) (upTo n)
     (λ i m. record { a = on (numbersPerTriangle * i); b = on (numbersPerTriangle * i + 2); c = on (numbersPerTriangle * i + 4) })
 
 module _ (n : ℕ) (ns s o : List ℕ) (h : Prepared n ns s o) (b : Box) (f : Framed b) where

@@ -222,11 +222,11 @@ fn answer(what: u8, t: &[u16], k: &[u32], v: &[u8], i: &[u16], n: usize, m: usiz
     }
     if what == 4 {
         say(b"sound");
-        print_soundness(measures::soundness(t, k, v, i, n, m));
+        print_soundness(soundness::soundness(t, k, v, i, n, m));
         return;
     }
     say(b"area");
-    print_area(measures::doubled_area(t, k, v, i, n, m));
+    print_area(areas::doubled_area(t, k, v, i, n, m));
 }
 
 // The same of a chart in the buffers of both, and its line.

@@ -1,7 +1,7 @@
 use mathlib.Core.Path.{_∙_}
 use native.Mathlib.Omega.{arith}
 use borrow.Author.Needs.{needs}
-use Rattle.apart.proofs.NearLaws.{near-before, near-sound}
+use Rattle.near_boxes.proofs.NearLaws.{near-before, near-sound}
 use Rattle.apart.proofs.is_apart.Statement.{statement}
 use Rattle.apart.proofs.is_apart.Tie as tie
 

@@ -1,7 +1,7 @@
 use mathlib.Core.Path.{_∙_, ap}
 use borrow.Author.Needs.{needs}
 use Rattle.call_spec.specs.History.{eventCall, chartAfter}
-use Rattle.call_lists.specs.Encoding.{decode}
+use Rattle.call_encoding.specs.Encoding.{decode}
 use Rattle.call_lists.proofs.run_history.Statement.{statement}
 use Rattle.call_lists.proofs.run_history.Tie as tie
 

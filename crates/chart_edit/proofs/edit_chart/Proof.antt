@@ -13,7 +13,8 @@ use Rattle.call_spec.specs.Calls.{Changed as Calls·Changed}
 use Rattle.answers.specs.declared.Changed.{Changed}
 use Rattle.answers.specs.Outcomes.{judgedOutcome, changedOf}
 use Rattle.edit_steps.specs.Edit.{tableEdit}
-use Rattle.edit_steps.proofs.MadeLaws.{answered, made-proper, edit-keeps, judged-refused}
+use Rattle.answers.proofs.AnswerLaws.{answered}
+use Rattle.edit_steps.proofs.MadeLaws.{made-proper, edit-keeps, judged-refused}
 use borrow.Author.Needs.{needs}
 use Rattle.chart_edit.proofs.edit_chart.Statement.{statement}
 use Rattle.chart_edit.proofs.edit_chart.Tie as tie

@@ -7,7 +7,8 @@ use Rattle.call_spec.specs.Calls.{Changed as Calls·Changed}
 use Rattle.answers.specs.declared.Changed.{Changed}
 use Rattle.answers.specs.Outcomes.{changedOf}
 use Rattle.table_edits.specs.Edited.{editedOutcome}
-use Rattle.edit_steps.proofs.MadeLaws.{answered, made-stored, edited-refused}
+use Rattle.answers.proofs.AnswerLaws.{answered}
+use Rattle.edit_steps.proofs.MadeLaws.{made-stored, edited-refused}
 use borrow.Author.Needs.{needs}
 use Rattle.edit_steps.proofs.finish.Statement.{statement}
 use Rattle.edit_steps.proofs.finish.Tie as tie

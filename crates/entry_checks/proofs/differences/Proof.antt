@@ -7,6 +7,7 @@ use lib.ListN.{getD}
 use Rattle.lists.specs.Lists.{all, upTo}
 use Rattle.lists.proofs.IndexLaws.{all-below-none, all-below-step}
 use Rattle.numbers.proofs.BitLaws.{or-zero, xor-zero}
+use Rattle.links.specs.Links.{entryAt}
 use Rattle.entry_checks.specs.Places.{packedAt}
 use Rattle.entry_checks.proofs.differences.Statement.{statement}
 use Rattle.entry_checks.proofs.differences.Tie as tie
@@ -54,6 +55,7 @@ loop-less : tie.Need-loop-less Inv-loop μ-loop
 loop-less c = search needs
 
 loop-again : tie.Need-loop-again Inv-loop μ-loop
+unfolding entryAt
 loop-again c =
     let a = c .before .before .before .before .before .before .before .before .before .before .before .args in
     let l = c .before .before .before .before .before .before .loop in

@@ -16,7 +16,8 @@ use Rattle.chart_spec.specs.Cells.{entriesIn}
 use Rattle.shapes.specs.Shape.{coordinates}
 use Rattle.quadtree.specs.Build.{Built}
 use Rattle.quadtree.proofs.WalkLaws.{built-none, built-join}
-use Rattle.candidates.proofs.ReadyLaws.{ready-fits, ready-kept, part-kept, take-less}
+use Rattle.lists.proofs.StoredLaws.{part-kept, take-less}
+use Rattle.candidates.proofs.ReadyLaws.{ready-fits, ready-kept}
 use Rattle.quadtree.proofs.SquareWalk.{after-narrow, narrow-room, level-below, key-small, built-leaf, quarter-tree, quarter-level, quarter-first, quarter-candidates, quarters-more, quarters-all}
 use borrow.Fn.Kinds.{In}
 use borrow.Fn.PlainCycle.{Measures, is, falls, and}

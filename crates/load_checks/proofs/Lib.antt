@@ -1,0 +1,2 @@
+pub mod FaultyLaws
+pub mod GivenLaws

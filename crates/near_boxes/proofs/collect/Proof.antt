@@ -1,0 +1,80 @@
+use mathlib.Core.Path.{_≡_, refl, subst}
+use Prim.Native.Nat.{_+_, _≤_, _-_}
+use native.Mathlib.Omega.{arith}
+use borrow.Author.Needs.{needs}
+use lib.ListN.{length}
+use Rattle.near_boxes.specs.Near.{Near}
+use Rattle.boxes.proofs.BoxesLaws.{places-fewer, set-length}
+use Rattle.near_boxes.proofs.NearLaws.{near-more}
+use Rattle.near_boxes.proofs.collect.Statement.{statement}
+use Rattle.near_boxes.proofs.collect.Tie as tie
+
+abbrev Inv-loop : tie.InvT-loop
+Inv-loop lefts tops rights bottoms i j m near₀ c n₀ k₀ near n k =
+    ((k ≤ m) × (length near ≡ length near₀)) × Near lefts tops rights bottoms near i (j + k) n
+
+abbrev μ-loop : tie.MeasureT-loop
+μ-loop lefts tops rights bottoms i j m near₀ c n₀ k₀ near n k = m - k
+
+loop-holds : tie.Need-loop-holds Inv-loop μ-loop
+loop-holds c =
+    let top = c .before .before .before .before .before in
+    let a = top .args in
+    let e : a .j ≡ a .j + 0 = omega arith in
+    ((omega arith, refl), subst (λ x. Near (a .lefts .now) (a .tops .now) (a .rights .now) (a .bottoms .now) (a .near .now) (a .i) x (a .c)) e (top .pre .1))
+
+add-keep : tie.Need-add-keep Inv-loop μ-loop
+add-keep c = search needs
+
+keep-requires : tie.Need-keep-requires Inv-loop μ-loop
+keep-requires c κs =
+    let top = c .before .before .before .before .before .before .before .before in
+    let a = top .args in
+    let l = c .before .before .loop in (
+      (
+        top .pre .0 .0,
+        places-fewer (a .lefts .now) (a .tops .now) (a .rights .now) (a .bottoms .now) (a .j + l .k + 1) (a .i + 1) (omega arith) (top .pre .0 .0),
+      ),
+      omega (arith, l .inv .1 .few),
+    )
+
+add-k : tie.Need-add-k Inv-loop μ-loop
+add-k c = search needs
+
+loop-less : tie.Need-loop-less Inv-loop μ-loop
+loop-less c = search needs
+
+loop-again : tie.Need-loop-again Inv-loop μ-loop
+loop-again c =
+    let a = c .before .before .before .before .before .before .before .before .before .before .before .args in
+    let l = c .before .before .before .before .before .loop in
+    let call = c .before .before .keep in (
+      (omega arith, set-length (l .near) _ (l .n) (a .j + l .k) _ (call .ensures .0) (l .inv .0 .1)),
+      near-more (a .lefts .now) (a .tops .now) (a .rights .now) (a .bottoms .now) (l .near) (a .i) (a .j + l .k) (l .n) (l .inv .1) _
+          (call .result) (a .j + (l .k + 1)) (omega arith) (omega (arith, l .inv .1 .few)) (call .ensures .0) (call .ensures .1),
+    )
+
+same-length : tie.Need-same-length Inv-loop μ-loop
+same-length c = c .before .loop .inv .0 .1
+
+returns : tie.Need-returns Inv-loop μ-loop
+returns c =
+    let a = c .before .before .before .before .before .before .before .args in
+    let l = c .before .loop in
+    let e : l .k ≡ a .m = omega arith in
+    (subst (λ x. Near (a .lefts .now) (a .tops .now) (a .rights .now) (a .bottoms .now) (l .near) (a .i) (a .j + x) (l .n)) e (l .inv .1), l .inv .0 .1)
+
+pub collect-spec : {M : Type 1} → statement M
+collect-spec =
+    tie.close
+    (tie.spec
+    Inv-loop
+    μ-loop
+    loop-holds
+    add-keep
+    keep-requires
+    add-k
+    loop-less
+    loop-again
+    same-length
+    returns)

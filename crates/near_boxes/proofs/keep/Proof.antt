@@ -1,0 +1,47 @@
+use mathlib.Core.Path.{refl, sym, _∙_, ap}
+use mathlib.Core.Bool.{cond}
+use Prim.Native.Nat.{_+_}
+use borrow.Author.Needs.{needs}
+use Rattle.near_boxes.proofs.keep.Statement.{statement}
+use Rattle.near_boxes.proofs.keep.Tie as tie
+
+mul-near : tie.Need-mul-near
+mul-near c = search needs
+
+slice-write-near : tie.Need-slice-write-near
+slice-write-near c = search needs
+
+is-clear-requires : tie.Need-is-clear-requires
+is-clear-requires c κs = search needs
+
+add-result : tie.Need-add-result
+add-result c = search needs
+
+same-length : tie.Need-same-length
+same-length c = search needs
+
+returns : tie.Need-returns
+returns c =
+    let n = c .before .before .before .before .before .before .before .args .c in
+    (refl, sym (ap (λ b. cond b n (n + 1)) (sym (c .before .is-clear .ensures) ∙ c .if1 .taken)))
+
+same-length-2 : tie.Need-same-length-2
+same-length-2 c = search needs
+
+returns-2 : tie.Need-returns-2
+returns-2 c =
+    let n = c .before .before .before .before .before .before .before .args .c in
+    (refl, sym (ap (λ b. cond b n (n + 1)) (sym (c .before .is-clear .ensures) ∙ c .if1 .left)))
+
+pub keep-spec : {M : Type 1} → statement M
+keep-spec =
+    tie.close
+    (tie.spec
+    mul-near
+    slice-write-near
+    is-clear-requires
+    add-result
+    same-length
+    returns
+    same-length-2
+    returns-2)

@@ -1,0 +1,20 @@
+// A table's numbers written into a chart's table, zeros after them.
+
+ghost use mathlib.Core.Path.{_≡_};
+ghost use Prim.Native.Nat.{_≤_};
+ghost use lib.ListN.{length, take};
+ghost use Rattle.chart_spec.specs.Table.{tableLength};
+ghost use Rattle.call_spec.specs.Buffers.{padded};
+
+// The first n numbers given, then zeros up to place 3072.
+pub fn put_table(given: &[u16], n: usize, table: &mut [u16])
+    requires { ⌜ (n ≤ length (now given)) × ((n ≤ tableLength) × (tableLength ≤ length (now table))) ⌝ }
+    ensures { λ _. ⌜ now (table .exit) ≡ padded tableLength (take n (now (given .entry))) (now (table .entry)) ⌝ }
+{
+    let mut i = 0;
+    while i < n {
+        table[i] = given[i];
+        i += 1;
+    }
+    list_writes::clear_items(table, n, tables::TABLE_NUMBERS);
+}
