@@ -8,8 +8,8 @@ COUNT of each kind of drawn case: the entries of a table; the log of a command s
 them damaged; an event on a plain table; the overlay of two different tables. With them the fixed ones: take-outs with the
 point at each corner and flips in every rotation, both ways, and the worked streams of tests/cases.txt but those that load
 over 500 triangles, which are named. That accepted take-outs at each corner, accepted flips of the nine pairs of rotations both
-ways and pairs with i and j different are among them is asserted. The cases are facts of a crate that is written below
-target/ and checked there; nothing of it is kept."""
+ways and pairs with i and j different are among them is asserted. The cases are facts of two crates that are written below
+target/ and checked there, side by side; nothing of them is kept."""
 
 import collections
 import os
@@ -22,6 +22,7 @@ import sys
 ROOT = os.path.dirname(os.path.dirname(os.path.abspath(__file__)))
 MODEL = os.path.join(ROOT, "target", "model", "model")
 SCRATCH = os.path.join(ROOT, "target", "definitions")
+TRIALS = ["trial", "trial_worked"]  # the crates of the cases, checked side by side: the worked streams take as long as all others
 CRATES = ["lists", "plane", "separation", "orthtree", "squares", "chart_spec", "call_spec", "log_spec"]
 
 
@@ -249,11 +250,14 @@ def event_case(rng):
 def fixed_events(rng):
     """Take-outs with the point at each corner of each of the three triangles, flips in the nine pairs of rotations, both ways,
     on a table of few entries."""
+    few = lambda ts: (found := entries_of(ts)) is not None and len(found) <= 3 * 60
     while True:
-        (p, three), two = around(rng, "coarse"), list(sharing(rng, "coarse"))
-        rest = [triangle(rng, "coarse"), triangle(rng, "coarse")]
-        found = [entries_of(three + rest), entries_of(rest[:1] + two)]
-        if all(f is not None and len(f) <= 3 * 60 for f in found):
+        (p, three), rest = around(rng, "coarse"), [triangle(rng, "coarse"), triangle(rng, "coarse")]
+        if few(three + rest):
+            break
+    while True:
+        two = list(sharing(rng, "coarse"))
+        if few(rest[:1] + two):
             break
     for k in range(3):
         turned = [rotated(t, (k + n) % 3) for n, t in enumerate(three)]
@@ -472,12 +476,8 @@ def main():
                 shutil.copytree(source, copy)
             elif os.path.isfile(source):
                 shutil.copyfile(source, copy)
-    trial = os.path.join(SCRATCH, "crates", "trial")
-    os.makedirs(os.path.join(trial, "src"))
-    os.makedirs(os.path.join(trial, "proofs"))
     lines = [l for l in open(os.path.join(ROOT, "crates.txt")) if l.split(":")[0] in CRATES]
-    open(os.path.join(SCRATCH, "crates.txt"), "w").write("".join(lines) + f"trial: {' '.join(CRATES)}\n")
-    open(os.path.join(trial, "src", "lib.rt"), "w").write("// Facts to try.\n")
+    open(os.path.join(SCRATCH, "crates.txt"), "w").write("".join(lines) + "".join(f"{t}: {' '.join(CRATES)}\n" for t in TRIALS))
     facts = {
         "entries": [entries_case(rng) for _ in range(count)],
         "log": [log_case(rng) for _ in range(count)],
@@ -492,14 +492,21 @@ def main():
     if missing:
         print("not met:", ", ".join(missing))
         sys.exit(1)
-    text, cases = HEADER, sum(len(fs) for fs in facts.values())
+    texts = dict.fromkeys(TRIALS, HEADER)
     for kind, fs in facts.items():
         for k, (given, want) in enumerate(fs):
-            text += f"\n{kind}-{k} : {given} ≡ {want}\nunfolding evaluate logging\n{kind}-{k} = refl\n"
-    open(os.path.join(trial, "proofs", "Lib.antt"), "w").write("pub mod Cases\n")
-    open(os.path.join(trial, "proofs", "Cases.antt"), "w").write(text)
+            fact = f"\n{kind}-{k} : {given} ≡ {want}\nunfolding evaluate logging\n{kind}-{k} = refl\n"
+            texts[TRIALS[kind == "worked"]] += fact
+    for trial, text in texts.items():
+        for part in ("src", "proofs"):
+            os.makedirs(os.path.join(SCRATCH, "crates", trial, part))
+        write = lambda name, said: open(os.path.join(SCRATCH, "crates", trial, name), "w").write(said)
+        write("src/lib.rt", "// Facts to try.\n")
+        write("proofs/Lib.antt", "pub mod Cases\n")
+        write("proofs/Cases.antt", text)
+    cases = sum(map(len, facts.values()))
     print(f"checking {cases} cases, seed {seed}", flush=True)
-    run = subprocess.run(["rt", "dev", "trial"], cwd=SCRATCH, stdout=subprocess.PIPE, stderr=subprocess.STDOUT, text=True)
+    run = subprocess.run(["rt", "check", *TRIALS], cwd=SCRATCH, stdout=subprocess.PIPE, stderr=subprocess.STDOUT, text=True)
     wrong = sorted(set(re.findall(r"error: `([a-z]+-\d+)`", run.stdout)))
     if run.returncode != 0 or wrong:
         print("\n".join(l[:2000] for l in run.stdout.split("\n") if "Cases.antt" in l or "error" in l)[:8000])

@@ -11,7 +11,7 @@ places. It is judged in these steps:
     specs/ itself: invalid, it is no definition. Any other refusal: killed.
  2. what passes is tried on the crates above whose texts name the definition, or one that is made of it, in the order of
     crates.txt, until one refuses it; programs are left out, which state nothing of their own. After log_spec, the last crate
-    of definitions, come the executed cases: those that tests/definitions.py draws, as a crate 'trial'.
+    of definitions, come the executed cases: those that tests/definitions.py draws, as crates of their own.
 In step 1 a check may take 4 times the processor time that the right definition takes, at least 20 s; in step 2 it may take
 900 s; and 4 GB. A check of many mutants that takes more is done again for each of them. A mutant whose check alone takes more
 has the verdict 'does not end': what is shown of the right definition in a part of that time is not shown of it. It counts as
@@ -45,6 +45,7 @@ import time
 ROOT = os.path.dirname(os.path.dirname(os.path.abspath(__file__)))
 SAME = os.path.join(ROOT, "tests", "mutants-same.tsv")
 CASES = ["7", "4"]  # seed and count of the executed cases
+TRIALS = ["trial", "trial_worked"]  # the crates that tests/definitions.py makes of them
 AT_ONCE = 24  # mutants in one check of the examples
 TIMES, LEAST = 4, 20  # a check of the own crate may take so many times what it takes as things stand, and at least so many seconds
 LONGEST = 900  # seconds that a check of a crate above may take
@@ -579,7 +580,7 @@ def prepare(work, crates, chosen, jobs):
 
 
 def add_cases(work, places, crates):
-    """The crates with the executed cases as one more."""
+    """The crates with those of the executed cases."""
     root = os.path.join(work, "cases")
     for part in ("crates", "tests", "model"):
         shutil.copytree(os.path.join(ROOT, part), os.path.join(root, part))
@@ -590,9 +591,11 @@ def add_cases(work, places, crates):
         if subprocess.run(words, cwd=root, stdout=subprocess.DEVNULL).returncode:
             sys.exit("the executed cases do not agree with the model on the repository as it stands")
     made = os.path.join(root, "target", "definitions")
-    more = crates | {"trial": crates_of(read(os.path.join(made, "crates.txt")))["trial"]}
+    needs = crates_of(read(os.path.join(made, "crates.txt")))
+    more = crates | {t: needs[t] for t in TRIALS}
     for p in places:
-        shutil.copytree(os.path.join(made, "crates", "trial"), os.path.join(p.root, "crates", "trial"))
+        for t in TRIALS:
+            shutil.copytree(os.path.join(made, "crates", t), os.path.join(p.root, "crates", t))
         p.crates = more
     return more
 
@@ -701,7 +704,7 @@ def main():
             built = os.listdir(os.path.join(p.root, "target", "rlib"))
             p.prove([c for c in crates if c + ".rlib" not in built])
         cut = order.index("log_spec") + 1
-        for step, some in [("crates above", order[:cut]), ("executed cases", ["trial"]), ("crates above", order[cut:])]:
+        for step, some in [("crates above", order[:cut]), ("executed cases", TRIALS), ("crates above", order[cut:])]:
             if step == "executed cases" and any(not m.verdict and m.crate in order[:cut] for m in left) and time.time() < run.until:
                 run.say("preparing the executed cases")
                 reach = Reach(places[0].root, add_cases(work, places, crates))

@@ -34,6 +34,9 @@ test_model() {
     [[ $said =~ test\ result:\ ok\.\ 23\ passed\;\ 0\ failed\;\ 0\ ignored ]]
 }
 
+# more jobs than processors: rt starts crates and edits in groups and waits for the slowest of each
+export RT_JOBS=${RT_JOBS:-4}
+
 echo "== rt ci: prove every crate, try the must-fail edits, run the programs"
 rt ci 2>&1 | tee "$log"
 verdict=${PIPESTATUS[0]}
