@@ -19,7 +19,7 @@ use Rattle.chart_spec.specs.Edits.{triangle, rotations, sharesSide, flipAs, fli
 use Rattle.chart_laws.proofs.TableLaws.{tableOf-length, numbered-at}
 use Rattle.table_edits.proofs.RowLaws.{withRow, rows-set}
 use Rattle.table_edits.proofs.CopyLaws.{triangle-read}
-use Rattle.edge_flip.proofs.RotationSteps.{rotation-cons, rotations-end}
+use Rattle.shared_edges.proofs.RotationSteps.{rotation-cons, rotations-end}
 
 -- ---- flip
 

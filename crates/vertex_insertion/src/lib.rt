@@ -3,22 +3,11 @@
 use plane::Point;
 use table_edits::Edited;
 ghost use mathlib.Core.Path.{_≡_};
-ghost use Prim.Native.Nat.{_+_, _*_, _≤_, _<_};
+ghost use Prim.Native.Nat.{_+_, _*_, _≤_};
 ghost use lib.ListN.{length};
-ghost use Rattle.plane.specs.Triangle.{triangleOf};
 ghost use Rattle.chart_spec.specs.Table.{numbersPerTriangle, maxTriangles, tableLength, tableOf};
-ghost use Rattle.chart_spec.specs.Edits.{splitAt, splitTable};
+ghost use Rattle.chart_spec.specs.Edits.{splitTable};
 ghost use Rattle.table_edits.specs.Edited.{editedOutcome, editedCount};
-
-// The table with triangle i, of corners a, b, c, split at p.
-fn put_split(table: &[u16], n: usize, i: usize, s: [Point; 3], p: Point, out: &mut [u16])
-    requires { ⌜ ((i < n) × (n + 2 ≤ maxTriangles)) × ((numbersPerTriangle * n ≤ length (now table)) × (tableLength ≤ length (now out))) ⌝ }
-    ensures { λ _. ⌜ tableOf (now (out .exit)) (n + 2) ≡ splitAt (tableOf (now (table .entry)) n) i (triangleOf s) p ⌝ }
-{
-    table_edits::replace_row(table, n, i, [s[0], s[1], p], out);
-    tables::put_triangle(out, n, [s[1], s[2], p]);
-    tables::put_triangle(out, n + 1, [s[2], s[0], p]);
-}
 
 // Split: triangle i at p.
 pub fn split_table(table: &[u16], n: usize, i: usize, p: Point, out: &mut [u16]) -> Edited
@@ -36,6 +25,6 @@ pub fn split_table(table: &[u16], n: usize, i: usize, p: Point, out: &mut [u16])
     if n + 2 > tables::MOST_TRIANGLES {
         return Edited::TableFull;
     }
-    put_split(table, n, i, s, p, out);
+    triangle_split::put_split(table, n, i, s, p, out);
     Edited::Made(n + 2)
 }

@@ -1,2 +1,1 @@
 pub mod TakeOutSteps
-pub mod MergeRows

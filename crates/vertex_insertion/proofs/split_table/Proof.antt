@@ -6,7 +6,7 @@ use Rattle.chart_spec.specs.Table.{triangleAt, tableOf}
 use Rattle.chart_spec.specs.Refusals.{done}
 use Rattle.chart_spec.specs.Edits.{splitAt}
 use Rattle.table_edits.proofs.CopyLaws.{triangle-read}
-use Rattle.vertex_insertion.proofs.SplitLaws.{split-beyond, split-outside, split-full, split-made}
+use Rattle.triangle_split.proofs.SplitLaws.{split-beyond, split-outside, split-full, split-made}
 use borrow.Author.Needs.{needs}
 use Rattle.vertex_insertion.proofs.split_table.Statement.{statement}
 use Rattle.vertex_insertion.proofs.split_table.Tie as tie

@@ -6,7 +6,7 @@ use Rattle.plane.specs.Triangle.{triangleOf}
 use Rattle.chart_spec.specs.Table.{tableOf}
 use Rattle.chart_spec.specs.Refusals.{done}
 use Rattle.chart_spec.specs.Edits.{triangle, mergeAround}
-use Rattle.vertex_removal.proofs.MergeRows.{merge-made, merge-refused}
+use Rattle.triangle_merge.proofs.MergeRows.{merge-made, merge-refused}
 use borrow.Author.Needs.{needs}
 use Rattle.vertex_removal.proofs.merge_three.Statement.{statement}
 use Rattle.vertex_removal.proofs.merge_three.Tie as tie

@@ -3,8 +3,8 @@ use mathlib.Core.Bool.{_&&_}
 use Rattle.plane.specs.Triangle.{triangleOf, cornerAt}
 use Rattle.chart_spec.specs.Edits.{closesRound}
 use borrow.Author.Needs.{needs}
-use Rattle.vertex_removal.proofs.closes_round.Statement.{statement}
-use Rattle.vertex_removal.proofs.closes_round.Tie as tie
+use Rattle.triangle_merge.proofs.closes_round.Statement.{statement}
+use Rattle.triangle_merge.proofs.closes_round.Tie as tie
 
 array-copy-out-same-point : tie.Need-array-copy-out-same-point
 array-copy-out-same-point c = search needs

@@ -1,10 +1,10 @@
 use native.Mathlib.Omega.{arith}
 use Rattle.plane.specs.Triangle.{triangleOf, cornerAt}
 use Rattle.chart_spec.specs.Edits.{triangle, splitAt}
-use Rattle.vertex_insertion.proofs.SplitLaws.{two-appended}
+use Rattle.triangle_split.proofs.SplitLaws.{two-appended}
 use borrow.Author.Needs.{needs}
-use Rattle.vertex_insertion.proofs.put_split.Statement.{statement}
-use Rattle.vertex_insertion.proofs.put_split.Tie as tie
+use Rattle.triangle_split.proofs.put_split.Statement.{statement}
+use Rattle.triangle_split.proofs.put_split.Tie as tie
 
 array-copy-out-t11 : tie.Need-array-copy-out-t11
 array-copy-out-t11 c = search needs

@@ -3,8 +3,8 @@ use mathlib.Core.Bool.{_&&_}
 use Rattle.plane.specs.Triangle.{triangleOf, cornerAt}
 use Rattle.chart_spec.specs.Edits.{sharesSide}
 use borrow.Author.Needs.{needs}
-use Rattle.edge_flip.proofs.shares_side.Statement.{statement}
-use Rattle.edge_flip.proofs.shares_side.Tie as tie
+use Rattle.shared_edges.proofs.shares_side.Statement.{statement}
+use Rattle.shared_edges.proofs.shares_side.Tie as tie
 
 array-copy-out-same-point : tie.Need-array-copy-out-same-point
 array-copy-out-same-point c = search needs

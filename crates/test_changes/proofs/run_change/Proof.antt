@@ -1,6 +1,6 @@
 use native.Mathlib.Omega.{arith}
-use Rattle.test_calls.proofs.run_change.Statement.{statement}
-use Rattle.test_calls.proofs.run_change.Tie as tie
+use Rattle.test_changes.proofs.run_change.Statement.{statement}
+use Rattle.test_changes.proofs.run_change.Tie as tie
 
 start-requires : tie.Need-start-requires
 start-requires c κs = tt

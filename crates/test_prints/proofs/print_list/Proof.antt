@@ -1,8 +1,8 @@
 use native.Mathlib.Omega.{arith}
 use Prim.Native.Nat.{_≤_, _-_}
 use lib.ListN.{length}
-use Rattle.test_calls.proofs.print_list.Statement.{statement}
-use Rattle.test_calls.proofs.print_list.Tie as tie
+use Rattle.test_prints.proofs.print_list.Statement.{statement}
+use Rattle.test_prints.proofs.print_list.Tie as tie
 
 abbrev Inv-loop : tie.InvT-loop
 Inv-loop list k₀ k = k ≤ length list

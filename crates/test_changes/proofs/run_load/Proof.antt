@@ -4,8 +4,8 @@ use borrow.Author.Needs.{needs}
 use lib.Seq.{length-take-le}
 use mathlib.Core.Path.{sym}
 use native.Mathlib.Omega.{arith}
-use Rattle.test_calls.proofs.run_load.Statement.{statement}
-use Rattle.test_calls.proofs.run_load.Tie as tie
+use Rattle.test_changes.proofs.run_load.Statement.{statement}
+use Rattle.test_changes.proofs.run_load.Tie as tie
 
 mul-size : tie.Need-mul-size
 mul-size c = search needs

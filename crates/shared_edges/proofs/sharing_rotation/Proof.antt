@@ -4,9 +4,9 @@ use native.Mathlib.Omega.{arith}
 use borrow.Author.Needs.{needs}
 use Rattle.plane.specs.Triangle.{triangleOf}
 use Rattle.chart_spec.specs.Edits.{sharesSide}
-use Rattle.edge_flip.proofs.RotationSteps.{Missed, missed-start, missed-hit, missed-next, missed-end}
-use Rattle.edge_flip.proofs.sharing_rotation.Statement.{statement}
-use Rattle.edge_flip.proofs.sharing_rotation.Tie as tie
+use Rattle.shared_edges.proofs.RotationSteps.{Missed, missed-start, missed-hit, missed-next, missed-end}
+use Rattle.shared_edges.proofs.sharing_rotation.Statement.{statement}
+use Rattle.shared_edges.proofs.sharing_rotation.Tie as tie
 
 abbrev Inv-loop : tie.InvT-loop
 Inv-loop s u k₀ k = Missed (λ v. sharesSide (triangleOf s) v) u k

@@ -1,8 +1,8 @@
 use Rattle.plane.specs.Triangle.{triangleOf, cornerAt}
 use Rattle.chart_spec.specs.Edits.{triangle}
 use borrow.Author.Needs.{needs}
-use Rattle.vertex_removal.proofs.merged.Statement.{statement}
-use Rattle.vertex_removal.proofs.merged.Tie as tie
+use Rattle.triangle_merge.proofs.merged.Statement.{statement}
+use Rattle.triangle_merge.proofs.merged.Tie as tie
 
 array-copy-out-t11 : tie.Need-array-copy-out-t11
 array-copy-out-t11 c = search needs

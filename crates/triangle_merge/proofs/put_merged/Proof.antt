@@ -1,9 +1,9 @@
 use native.Mathlib.Omega.{arith}
 use Rattle.plane.specs.Triangle.{triangleOf}
-use Rattle.vertex_removal.proofs.MergeRows.{merged-rows}
+use Rattle.triangle_merge.proofs.MergeRows.{merged-rows}
 use borrow.Author.Needs.{needs}
-use Rattle.vertex_removal.proofs.put_merged.Statement.{statement}
-use Rattle.vertex_removal.proofs.put_merged.Tie as tie
+use Rattle.triangle_merge.proofs.put_merged.Statement.{statement}
+use Rattle.triangle_merge.proofs.put_merged.Tie as tie
 
 append-rows-requires : tie.Need-append-rows-requires
 append-rows-requires c κs = search needs
