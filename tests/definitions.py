@@ -418,7 +418,7 @@ use Rattle.call_spec.specs.Calls.{Changed, Located, Soundness, Area, Overlaid, 
 use Rattle.log_spec.specs.Log.{logOf}
 use Rattle.call_spec.proofs.Evaluate.{evaluate}
 use Rattle.log_spec.proofs.Evaluate.{evaluate as logging}
-use Rattle.chart_spec.proofs.MarkedCases.{at, entryNumbers, foundNumbers, outcomeNumbers, overlaid}
+use Rattle.chart_spec.proofs.Written.{at, entryNumbers, foundNumbers, outcomeNumbers, overlaid}
 
 abbrev buffer : ℕ → ℕ → List ℕ → List ℕ
 buffer pad n used = used ++ replicate (n - length used) pad

@@ -52,7 +52,7 @@ LONGEST = 900  # seconds that a check of a crate above may take
 MEMORY = 6 << 20  # kilobytes of data for one check; some 2 GB of it are set aside, not used
 REFUSED = ("killed", "does not end")
 EXAMPLES = re.compile(r"/proofs/(\w*)(Examples|Cases)\.antt")
-COPIED = re.compile(r"/proofs/\w*(Examples|Cases|Evaluate)\.antt")  # the examples, and what they unfold together
+COPIED = re.compile(r"/proofs/\w*(Examples|Cases|Evaluate|Written)\.antt")  # the examples, what they unfold together and how they write results
 
 # ---- reading definitions
 

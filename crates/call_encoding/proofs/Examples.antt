@@ -4,7 +4,7 @@ use mathlib.Core.Path.{_≡_, refl}
 use mathlib.Core.List.{[], _∷_, map, flatMap}
 use Rattle.chart_spec.specs.Table.{pointAt}
 use Rattle.chart_spec.specs.Edits.{load, split, takeOut, flip}
-use Rattle.chart_spec.proofs.MarkedCases.{at}
+use Rattle.chart_spec.proofs.Written.{at}
 use Rattle.call_encoding.specs.Encoding.{callLength, wholeCall, callEvent, decodeUpTo, decode, callNumbers, encode}
 
 -- for the commands 0 to 7, where 9 comes next

@@ -6,7 +6,7 @@ use mathlib.Core.List.{List, [], _∷_, _++_}
 use Prim.Native.Nat.{ℕ}
 use lib.ListN.{take}
 use Rattle.chart_spec.specs.Edits.{load, split, takeOut, flip}
-use Rattle.chart_spec.proofs.MarkedCases.{at}
+use Rattle.chart_spec.proofs.Written.{at}
 use Rattle.call_spec.specs.Buffers.{Chart}
 use Rattle.call_spec.specs.Calls.{Changed, loadCall, splitCall, takeOutCall, flipCall}
 use Rattle.call_spec.specs.History.{chartAfter}

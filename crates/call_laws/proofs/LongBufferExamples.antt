@@ -8,7 +8,7 @@ use Prim.Native.Nat.{ℕ}
 use lib.ListN.{set, take, replicate}
 use Rattle.chart_spec.specs.Refusals.{Outcome}
 use Rattle.chart_spec.specs.Overlay.{OverlayAnswer, withinPairs}
-use Rattle.chart_spec.proofs.MarkedCases.{at}
+use Rattle.chart_spec.proofs.Written.{at}
 use Rattle.call_spec.specs.Buffers.{Chart}
 use Rattle.call_spec.specs.Calls.{loadCall, splitCall, takeOutCall, flipCall, locateCall, listingCall, soundCall, areaCall, overlaidBy, overlayCall}
 use Rattle.call_spec.proofs.Evaluate.{evaluate}

@@ -12,7 +12,7 @@ use Rattle.plane.specs.Triangle.{Triangle}
 use Rattle.chart_spec.specs.Table.{Table}
 use Rattle.chart_spec.specs.Refusals.{shortBuffer, brokenChain, staleEntries, Outcome, refused, done, tooManyPairs, andThen}
 use Rattle.chart_spec.specs.Edits.{Event, load, split, takeOut, flip, eventOn, splitTable, takeOutTable, flipTable, withinLimit}
-use Rattle.chart_spec.proofs.MarkedCases.{at}
+use Rattle.chart_spec.proofs.Written.{at}
 use Rattle.chart_spec.proofs.RefusalsExamples.{rows}
 use Rattle.chart_spec.proofs.EditExamples.{tri}
 use Rattle.call_spec.specs.Buffers.{Chart, chartOf, indexedChart}

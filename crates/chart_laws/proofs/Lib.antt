@@ -23,3 +23,4 @@ pub mod MeetingsOfTable
 pub mod SharedGround
 pub mod LocateOfChain
 pub mod LocateOfTable
+pub mod MarkedCases

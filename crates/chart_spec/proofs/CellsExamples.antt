@@ -10,7 +10,7 @@ use Rattle.squares.specs.declared.Square.{Square}
 use Rattle.chart_spec.specs.Table.{Table}
 use Rattle.chart_spec.specs.Cells.{sidesMeeting, isEnd, commonEnd, stopped, cellsIn, cells, trianglesMeeting, orMark, entryOf, cellEntries, entriesIn}
 use Rattle.chart_spec.proofs.Evaluate.{evaluate}
-use Rattle.chart_spec.proofs.MarkedCases.{at, entryNumbers, cellNumbers}
+use Rattle.chart_spec.proofs.Written.{at, entryNumbers, cellNumbers}
 use Rattle.chart_spec.proofs.EditExamples.{pa, pb, pc, pd, tri}
 
 -- the square with the corner x, y

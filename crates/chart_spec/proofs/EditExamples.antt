@@ -12,7 +12,7 @@ use Rattle.chart_spec.specs.Cells.{entriesOf}
 use Rattle.chart_spec.specs.Refusals.{Outcome, refused, done, faultyTriangle, notThreeAround, noFlip, andThen, doneOr}
 use Rattle.chart_spec.specs.Edits.{triangle, rotations, faulty, refuseFaulty, givenTable, loadTable, splitAt, hasCorner, endingIn, closesRound, mergeAround, mergeThree, takeOutThree, sharesSide, flipAs, flipWith, flipAmong, Event, load, split, takeOut, flip, sixteenBitEvent, proposed, limited, eventOn, afterEvents}
 use Rattle.chart_spec.proofs.Evaluate.{evaluate}
-use Rattle.chart_spec.proofs.MarkedCases.{at}
+use Rattle.chart_spec.proofs.Written.{at}
 
 -- points, no two with the same x or y
 abbrev pub pa : Point

@@ -9,7 +9,7 @@ use Rattle.chart_spec.specs.Table.{Table, tableNumbers}
 use Rattle.chart_spec.specs.Refusals.{refused, done, noSuchTriangle, notInside, notThreeAround, noFlip, tableFull, outcomeNumber}
 use Rattle.chart_spec.specs.Edits.{rotations, splitTable, takeOutTable, flipTable, load, split, takeOut, flip, proposed, plainTable}
 use Rattle.chart_spec.proofs.Evaluate.{evaluate}
-use Rattle.chart_spec.proofs.MarkedCases.{at}
+use Rattle.chart_spec.proofs.Written.{at}
 use Rattle.chart_spec.proofs.EditExamples.{pa, pb, pc, pd, pp, tri}
 
 -- triangles that have no corner pp, though one x and one y of it

@@ -14,7 +14,7 @@ use Rattle.chart_spec.specs.Edits.{givenTable, load, split, takeOut, fli
 use Rattle.chart_spec.specs.Overlay.{overlayOf, withinPairs}
 use Rattle.chart_spec.specs.Reading.{listing, sound, totalArea}
 use Rattle.chart_spec.proofs.Evaluate.{evaluate}
-use Rattle.chart_spec.proofs.MarkedCases.{at, entryNumbers, outcomeNumbers, overlayNumbers, locatedIn, overlaid}
+use Rattle.chart_spec.proofs.Written.{at, entryNumbers, outcomeNumbers, overlayNumbers, locatedIn, overlaid}
 
 -- Tables that the examples share
 

@@ -1,5 +1,5 @@
 pub mod Evaluate
-pub mod MarkedCases
+pub mod Written
 pub mod TableExamples
 pub mod RefusalsExamples
 pub mod EditExamples

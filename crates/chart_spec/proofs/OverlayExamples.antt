@@ -10,7 +10,7 @@ use Rattle.chart_spec.specs.Table.{Table}
 use Rattle.chart_spec.specs.Refusals.{refused, done, tooManyPairs}
 use Rattle.chart_spec.specs.Overlay.{pair, pairNumbers, pairListed, pairsListed, withinPairs, overlayOf}
 use Rattle.chart_spec.proofs.Evaluate.{evaluate}
-use Rattle.chart_spec.proofs.MarkedCases.{at, overlayNumbers}
+use Rattle.chart_spec.proofs.Written.{at, overlayNumbers}
 use Rattle.chart_spec.proofs.EditExamples.{tri}
 
 abbrev pub entry : ℕ → ℕ → ℕ → Entry

@@ -8,7 +8,7 @@ use Rattle.orthtree.specs.Entries.{Entry}
 use Rattle.chart_spec.specs.Table.{Table}
 use Rattle.chart_spec.specs.Reading.{cellOf, listing, located, sound, totalArea}
 use Rattle.chart_spec.proofs.Evaluate.{evaluate}
-use Rattle.chart_spec.proofs.MarkedCases.{at}
+use Rattle.chart_spec.proofs.Written.{at}
 use Rattle.chart_spec.proofs.EditExamples.{pa, pb, pc, pd, pp, tri}
 use Rattle.chart_spec.proofs.OverlayExamples.{entry}
 

@@ -10,7 +10,7 @@ use Rattle.squares.specs.declared.Square.{Square}
 use Rattle.chart_spec.specs.Table.{Table}
 use Rattle.chart_spec.specs.Overlay.{pair, Earlier, SharesGround, rangesOverlap, cellMeetings}
 use Rattle.chart_spec.proofs.Evaluate.{evaluate}
-use Rattle.chart_spec.proofs.MarkedCases.{at}
+use Rattle.chart_spec.proofs.Written.{at}
 
 -- i decides, then j
 earlier-i-example : Earlier (pair 1 9) (pair 2 3)

@@ -11,7 +11,7 @@ use Rattle.chart_spec.specs.Table.{IsTable, maxTriangles, numbersPerTria
 use Rattle.chart_spec.specs.Cells.{maxEntries}
 use Rattle.chart_spec.specs.Overlay.{maxPairs}
 use Rattle.chart_spec.proofs.Evaluate.{evaluate}
-use Rattle.chart_spec.proofs.MarkedCases.{at}
+use Rattle.chart_spec.proofs.Written.{at}
 
 -- 512 triangles, 6 numbers each, 3,072 numbers, 16,384 entries, 4,096 pairs
 limits-example : maxTriangles ∷ numbersPerTriangle ∷ tableLength ∷ maxEntries ∷ maxPairs ∷ [] ≡ 512 ∷ 6 ∷ 3072 ∷ 16384 ∷ 4096 ∷ []

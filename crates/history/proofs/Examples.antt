@@ -6,7 +6,7 @@ use lib.ListN.{length, replicate}
 use Rattle.chart_spec.specs.Table.{Table}
 use Rattle.chart_spec.specs.Cells.{cells}
 use Rattle.chart_spec.specs.Overlay.{pair, cellMeetings}
-use Rattle.chart_spec.proofs.MarkedCases.{at}
+use Rattle.chart_spec.proofs.Written.{at}
 use Rattle.call_spec.proofs.Evaluate.{evaluate}
 use Rattle.history.specs.Histories.{overlayAnswer}
 

@@ -9,7 +9,7 @@ use Rattle.plane.specs.Triangle.{Triangle}
 use Rattle.chart_spec.specs.Table.{Table}
 use Rattle.chart_spec.specs.Refusals.{refused, done, brokenChain, faultyTriangle, notThreeAround}
 use Rattle.chart_spec.specs.Edits.{load, split, takeOut, flip, eventOn}
-use Rattle.chart_spec.proofs.MarkedCases.{at}
+use Rattle.chart_spec.proofs.Written.{at}
 use Rattle.chart_spec.proofs.RefusalsExamples.{rows}
 use Rattle.chart_spec.proofs.EditExamples.{tri}
 use Rattle.log_spec.specs.Log.{State, startState, tableIn, withChart, withWaiting, refusalNumbers, eventNumbers, eventStep, waitStep, loadStep, foundNumber, locateStep, overlayLines, overlayStep, runCommand, stepOf, line, badLine, logFrom}

@@ -5,7 +5,7 @@ use mathlib.Core.Bool.{true, false}
 use mathlib.Core.List.{List, [], _∷_, map}
 use Prim.Native.Nat.{ℕ}
 use lib.ListN.{replicate}
-use Rattle.chart_spec.proofs.MarkedCases.{at}
+use Rattle.chart_spec.proofs.Written.{at}
 use Rattle.log_spec.specs.Log.{digits, decimal, spaced, line, heading, badLine, pointOperand, known, takesChart, wordCount, chartBytes, operandBytes, wordsOf, wellFormed, logOf}
 use Rattle.log_spec.proofs.Evaluate.{evaluate}
 

@@ -6,9 +6,9 @@
 
 ghost use mathlib.Core.Path.{_≡_};
 ghost use Prim.Native.Nat.{_+_, _*_, _≤_};
-ghost use lib.ListN.{length};
+ghost use lib.ListN.{length, getD};
 ghost use Rattle.plane.specs.Box.{Framed};
-ghost use Rattle.shapes.specs.Shape.{chosen, boxOf, reachAt, baseAt};
+ghost use Rattle.shapes.specs.Shape.{chosen, boxOf, weigh, reachAt, baseAt};
 
 // A box of the grid: left ≤ right ≤ 65536 and top ≤ bottom ≤ 65536.
 pub struct Frame {
@@ -33,13 +33,20 @@ pub fn times(a: u16, b: u64) -> u64
     numbers::wide(a) * b
 }
 
+// V at a point, for the side whose numbers start at k: mx and my are the mirrored x and y.
+fn weighed(shape: &[u16], k: usize, mx: u64, x: u64, my: u64, y: u64) -> u64
+    requires { ⌜ (k + 4 ≤ length (now shape)) × (((mx ≤ 65536) × (x ≤ 65536)) × ((my ≤ 65536) × (y ≤ 65536))) ⌝ }
+    ensures { λ r. ⌜ r ≡ weigh (getD (now (shape .entry)) k 0) (getD (now (shape .entry)) (k + 1) 0) (getD (now (shape .entry)) (k + 2) 0) (getD (now (shape .entry)) (k + 3) 0) mx x my y ⌝ }
+{
+    times(shape[k], choose(shape[k + 2], mx, x)) + times(shape[k + 1], choose(shape[k + 3], my, y))
+}
+
 // V at the corner of the frame where it is largest, for the side whose numbers start at k.
 pub fn reach(shape: &[u16], k: usize, f: Frame) -> u64
     requires { ⌜ (k + 4 ≤ length (now shape)) × Framed (boxOf f) ⌝ }
     ensures { λ r. ⌜ r ≡ reachAt (now (shape .entry)) k (boxOf f) ⌝ }
 {
-    times(shape[k], choose(shape[k + 2], 65536 - f.left, f.right))
-        + times(shape[k + 1], choose(shape[k + 3], 65536 - f.top, f.bottom))
+    weighed(shape, k, 65536 - f.left, f.right, 65536 - f.top, f.bottom)
 }
 
 // V at the corner where it is smallest.
@@ -47,6 +54,5 @@ pub fn base(shape: &[u16], k: usize, f: Frame) -> u64
     requires { ⌜ (k + 4 ≤ length (now shape)) × Framed (boxOf f) ⌝ }
     ensures { λ r. ⌜ r ≡ baseAt (now (shape .entry)) k (boxOf f) ⌝ }
 {
-    times(shape[k], choose(shape[k + 2], 65536 - f.right, f.left))
-        + times(shape[k + 1], choose(shape[k + 3], 65536 - f.bottom, f.top))
+    weighed(shape, k, 65536 - f.right, f.left, 65536 - f.bottom, f.top)
 }

@@ -1,4 +1,4 @@
-// What the test program of calls prints of each answer.
+// What the test programs print: text, numbers, and each answer of a call.
 
 use answers::Area;
 use answers::Changed;

@@ -1,13 +1,12 @@
 // Runs lists of calls on two charts and the overlay after them, by `replay`, whose contract is demand 3.
 //
 // Reads cases until the input ends: the length of list 0, list 0, the length of list 1, list 1, all as 16-bit numbers, low byte first;
-// crates/call_lists/specs/Encoding.antt says how calls are written. A list that is cut or has over 4,096 numbers ends the program.
+// crates/call_encoding/specs/Encoding.antt says how calls are written. A list that is cut or has over 4,096 numbers ends the program.
 // The buffers of each case are longer than asked and hold something other than 0, and the counts are those of no chart. A case
 // prints a line: `replay`, the overlay's number, its pairs and meetings, the triangles and entries of chart 0 and of chart 1, and a
 // checksum of all places of chart 0, of chart 1 and of the pairs.
 
 use libc::STDIN_FILENO;
-use libc::STDOUT_FILENO;
 use replay::ReplayAnswer;
 ghost use Prim.Native.Nat.{_≤_};
 ghost use lib.ListN.{length};
@@ -15,29 +14,19 @@ ghost use lib.ListN.{length};
 // The most numbers of a list.
 const LONGEST: usize = 4096;
 
-fn say(text: &[u8]) {
-    io::write_all(STDOUT_FILENO, text);
-}
-
-// A space and a number.
-fn print(n: u64) {
-    say(b" ");
-    io::print_decimal(STDOUT_FILENO, n);
-}
-
 fn print_answer(r: ReplayAnswer) {
     let overlaid = r.overlaid;
     let overlay = overlaid.overlay;
     let first = r.first;
     let second = r.second;
-    say(b"replay");
-    print(answers::overlay_number(overlay) as u64);
-    print(overlaid.pairs as u64);
-    print(overlaid.meetings as u64);
-    print(first.triangles as u64);
-    print(first.entries as u64);
-    print(second.triangles as u64);
-    print(second.entries as u64);
+    test_prints::say(b"replay");
+    test_prints::print(answers::overlay_number(overlay) as u64);
+    test_prints::print(overlaid.pairs as u64);
+    test_prints::print(overlaid.meetings as u64);
+    test_prints::print(first.triangles as u64);
+    test_prints::print(first.entries as u64);
+    test_prints::print(second.triangles as u64);
+    test_prints::print(second.entries as u64);
 }
 
 // Runs a case on buffers, and prints its line.
@@ -74,8 +63,8 @@ fn run_on(
     print_answer(r);
     let first = test_support::sum_chart(0, table0, keys0, levels0, items0, 0);
     let both = test_support::sum_chart(0, table1, keys1, levels1, items1, first);
-    print(test_support::sum_shorts(pairs, 0, pairs.len(), both));
-    say(b"\n");
+    test_prints::print(test_support::sum_shorts(pairs, 0, pairs.len(), both));
+    test_prints::say(b"\n");
 }
 
 // Runs a case on buffers of its own.

@@ -1,4 +1,4 @@
-// What the test program of the calls needs beside them: two charts in four buffers and how much of them is lent, puts, checksums.
+// What the test programs need beside the calls: two charts in four buffers and how much of them is lent, puts, checksums.
 //
 // Chart 0 has the first places of each buffer, chart 1 those from TABLE (the table) or LIST (the three lists) on.
 

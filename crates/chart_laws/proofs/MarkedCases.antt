@@ -2,61 +2,17 @@
 -- statement that covers the rows, by computation. Numbers, points, entries and triangles are written out as numbers.
 -- Assumes nothing.
 use mathlib.Core.Path.{_≡_, refl}
-use mathlib.Core.List.{List, [], _∷_, _++_, map, flatMap}
-use mathlib.Core.Option.{Option, none, some}
+use mathlib.Core.List.{List, [], _∷_, _++_, map}
 use Prim.Native.Nat.{ℕ, _+_, _*_}
 use lib.ListN.{length}
-use Rattle.orthtree.specs.Entries.{Entry}
-use Rattle.plane.specs.declared.Point.{Point}
 use Rattle.plane.specs.Triangle.{Triangle}
-use Rattle.squares.specs.declared.Square.{Square}
-use Rattle.squares.specs.Square.{zOrder, squareKey}
+use Rattle.squares.specs.Square.{zOrder}
 use Rattle.chart_spec.specs.Table.{Table, tableNumbers}
 use Rattle.chart_spec.specs.Cells.{cells, cellEntries, entriesOf}
-use Rattle.chart_spec.specs.Refusals.{Outcome, refused, done}
 use Rattle.chart_spec.specs.Edits.{load, split, takeOut, flip, eventOn, plainTable}
-use Rattle.chart_spec.specs.Overlay.{OverlayAnswer, pairNumbers, overlayOf}
-use Rattle.chart_spec.specs.Reading.{located, totalArea}
+use Rattle.chart_spec.specs.Reading.{totalArea}
 use Rattle.chart_spec.proofs.Evaluate.{evaluate}
-
--- Ways to write results as numbers
-
--- the point x, y
-abbrev pub at : ℕ → ℕ → Point
-at x y = record { x = x; y = y }
-
--- key, level and triangle of each entry
-abbrev pub entryNumbers : List Entry → List ℕ
-entryNumbers es = flatMap (λ e. e .key ∷ e .level ∷ e .item ∷ []) es
-
--- key and level of each cell
-abbrev pub cellNumbers : List Square → List ℕ
-cellNumbers ss = flatMap (λ s. squareKey s ∷ s .level ∷ []) ss
-
--- 1 and the triangle, or 0 for nowhere
-abbrev pub foundNumbers : Option ℕ → List ℕ
-foundNumbers none = 0 ∷ []
-foundNumbers (some i) = 1 ∷ i ∷ []
-
--- 0 and the table's numbers, or the refusal's number and value
-abbrev pub outcomeNumbers : Outcome Table → List ℕ
-outcomeNumbers (refused r) = r .number ∷ r .value ∷ []
-outcomeNumbers (done t) = 0 ∷ tableNumbers t
-
--- 0, pair count, meetings and pairs, or the refusal's number
-abbrev pub overlayNumbers : Outcome OverlayAnswer → List ℕ
-overlayNumbers (refused r) = r .number ∷ []
-overlayNumbers (done h) = 0 ∷ length (h .pairs) ∷ h .meets ∷ pairNumbers (h .pairs)
-
--- locate in a table, indexed
-abbrev pub locatedIn : Table → Point → List ℕ
-locatedIn t p = foundNumbers (located t (entriesOf t) p)
-
--- overlay of two tables, indexed
-abbrev pub overlaid : Table → Table → List ℕ
-overlaid s t = overlayNumbers (overlayOf s (entriesOf s) t (entriesOf t))
-
--- The rows
+use Rattle.chart_spec.proofs.Written.{at, entryNumbers, cellNumbers, outcomeNumbers, locatedIn, overlaid}
 
 -- what the definitions give, and what document 01 states
 pub record Row : Type 0 where
