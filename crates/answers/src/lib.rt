@@ -44,7 +44,7 @@ pub enum Located {
     BrokenChain,
 }
 
-// Whether no two triangles share ground.
+// Whether no two triangles have a common interior point.
 pub enum Soundness {
     Sound,
     Unsound,

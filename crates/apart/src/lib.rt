@@ -1,6 +1,6 @@
-// Whether no two triangles of a table share ground. Every pair is tested, so bounding boxes are worked out once for a table;
-// 16 boxes at a time are tested without a branch, and products are needed only where two boxes overlap. These are listed first,
-// so that few branches are mispredicted. For a few triangles the boxes do not pay, and each pair is tested at once.
+// Whether no two triangles of a table have a common interior point. Every pair is tested, so bounding boxes are worked out once for
+// a table, and products are needed only where two boxes overlap. These are listed first, so that few branches are mispredicted. For
+// a few triangles the boxes do not pay, and each pair is tested at once.
 
 ghost use mathlib.Core.Path.{_≡_};
 ghost use mathlib.Core.Bool.{true, not};
@@ -17,7 +17,7 @@ ghost use Rattle.near_boxes.specs.Near.{EachBelow};
 // Up to how many triangles boxes do not pay.
 const FEW: usize = 16;
 
-// Triangle i shares ground with none of the first c triangles of a list.
+// Triangle i has a common interior point with none of the first c triangles of a list.
 fn near_apart(table: &[u16], near: &[usize], i: usize, c: usize) -> bool
     requires { ⌜ (numbersPerTriangle * (i + 1) ≤ length (now table)) × ((c ≤ length (now near)) × EachBelow (now near) i c) ⌝ }
     ensures { λ o. ⌜ o ≡ all (λ k. not (interiorsMeet (triangleAt (now (table .entry)) i) (triangleAt (now (table .entry)) (getD (now (near .entry)) k 0)))) (upTo c) ⌝ }
@@ -33,7 +33,7 @@ fn near_apart(table: &[u16], near: &[usize], i: usize, c: usize) -> bool
     true
 }
 
-// Triangle i shares ground with none of those before it.
+// Triangle i has a common interior point with none of those before it.
 fn is_apart(
     table: &[u16],
     lefts: &[u16],
@@ -51,7 +51,7 @@ fn is_apart(
     near_apart(table, near, i, c)
 }
 
-// No two of the first n triangles share ground.
+// No two of the first n triangles have a common interior point.
 fn pairs_apart(
     table: &[u16],
     lefts: &[u16],
@@ -74,7 +74,7 @@ fn pairs_apart(
     true
 }
 
-// Triangle i shares ground with none of those before it, each tested at once.
+// Triangle i has a common interior point with none of those before it, each tested at once.
 fn each_apart(table: &[u16], i: usize) -> bool
     requires { ⌜ numbersPerTriangle * (i + 1) ≤ length (now table) ⌝ }
     ensures { λ o. ⌜ o ≡ all (λ k. not (interiorsMeet (triangleAt (now (table .entry)) i) (triangleAt (now (table .entry)) k))) (upTo i) ⌝ }
@@ -90,7 +90,7 @@ fn each_apart(table: &[u16], i: usize) -> bool
     true
 }
 
-// No two of the first n triangles share ground, each pair tested at once.
+// No two of the first n triangles have a common interior point, each pair tested at once.
 fn few_apart(table: &[u16], n: usize) -> bool
     requires { ⌜ numbersPerTriangle * n ≤ length (now table) ⌝ }
     ensures { λ o. ⌜ o ≡ sound (tableOf (now (table .entry)) n) ⌝ }
@@ -105,7 +105,7 @@ fn few_apart(table: &[u16], n: usize) -> bool
     true
 }
 
-// No two of the first n triangles, each with D > 0, share ground.
+// No two of the first n triangles, each with D > 0, have a common interior point.
 pub fn all_apart(table: &[u16], n: usize) -> bool
     requires { ⌜ ((n ≤ maxTriangles) × (numbersPerTriangle * n ≤ length (now table))) × (all (λ t. proper t) (tableOf (now table) n) ≡ true) ⌝ }
     ensures { λ o. ⌜ o ≡ sound (tableOf (now (table .entry)) n) ⌝ }

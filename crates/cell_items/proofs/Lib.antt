@@ -1,5 +1,4 @@
 pub mod BlockLaws
-pub mod MarkLaws
 pub mod ListingLaws
 pub mod PointLaws
 pub mod PlaceLaws

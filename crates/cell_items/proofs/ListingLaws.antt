@@ -19,7 +19,7 @@ use Rattle.call_spec.specs.Buffers.{zipEntries}
 use Rattle.call_laws.proofs.EntriesLaws.{first-count, first-at}
 use Rattle.search.specs.Passes.{Rises, Passes}
 use Rattle.cell_items.proofs.BlockLaws.{CellPart, chain-starts, keys-rise, cell-part}
-use Rattle.cell_items.proofs.MarkLaws.{all-items, all-marks, items-kept, mark-dropped}
+use Rattle.orthtree.proofs.MarkLaws.{all-items, all-marks, items-kept, mark-dropped}
 
 -- three lists have n entries, which satisfy the chain rule
 pub record ChainLists (arity depth count : ℕ) (ks ls is : List ℕ) (n : ℕ) : Type 0 where

@@ -1,5 +1,5 @@
--- What the pairs of an overlay are: exactly the pairs of triangles that share ground and are listed in overlapping cells, each once,
--- ascending.
+-- What the pairs of an overlay are: exactly the pairs of triangles that have a common interior point and are listed in
+-- overlapping cells, each once, ascending.
 -- The idea: the list is built from all pairs of numbers, in ascending order, by a test that decides the claim.
 -- Assumes nothing.
 use mathlib.Core.Path.{_≡_, refl}
@@ -96,7 +96,7 @@ module _ (s : Table) (es : List Entry) (t : Table) (fs : List Entry) where
   pairs-once = ordered-once (λ p h. earlier-asym p p h h) pairs-ascend
 
   module _ (good : Every (λ r. T (proper r)) s) (fine : Every (λ r. T (proper r)) t) where
-    -- the test on two triangle numbers decides that the two share ground and are listed in overlapping cells
+    -- the test on two triangle numbers decides that the two have a common interior point and are listed in overlapping cells
     pub pairListed-reflects : (i j : ℕ) → i < length s → j < length t
         → Reflects (pairListed s es t fs i j) (CommonInterior (numbered s i) (numbered t j) × ListedTogether arity depth es fs i j)
     unfolding pairListed
@@ -118,7 +118,7 @@ module _ (s : Table) (es : List Entry) (t : Table) (fs : List Entry) where
       λ h. pairs-from (h .first) (h .second) (pairListed-reflects i j (h .first) (h .second) .from (h .common, h .listed)),
     )
 
-    -- the pairs that share ground and their order determine the list
+    -- the pairs that have a common interior point and their order determine the list
     pub pairs-unique : (ps : List Pair) → Ordered (λ p q. Earlier p q) ps → ((i j : ℕ) → List·Memᴰ (pair i j) ps ↔ Shared s es t fs i j)
         → ps ≡ pairsListed s es t fs
     pairs-unique ps o e =

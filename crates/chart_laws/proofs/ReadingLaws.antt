@@ -20,7 +20,7 @@ abbrev pub Sound : Table → Type 0
 Sound table =
     (i j : ℕ) → i < length table → j < length table → (i ≡ j → ⊥) → CommonInterior (numbered table i) (numbered table j) → ⊥
 
--- different numbers, or no shared ground
+-- different numbers, or no common interior point
 abbrev Apart : Table → ℕ → ℕ → Type 0
 Apart table i j = (i ≡ j → ⊥) → T (interiorsMeet (numbered table i) (numbered table j)) → ⊥
 
@@ -37,7 +37,7 @@ every-apart table =
     all-reflects _ (λ i. all-reflects _ (λ j. apart-reflects i j (interiorsMeet (numbered table i) (numbered table j))) (upTo (length table))) (upTo (length table))
 
 module _ (table : Table) (good : Every (λ t. T (proper t)) table) where
-  -- soundness is yes exactly when no two different triangle numbers share ground
+  -- soundness is yes exactly when no two different triangle numbers have a common interior point
   pub sound-reflects : Reflects (sound table) (Sound table)
   sound-reflects =
       reflects-iff

@@ -1,4 +1,4 @@
--- Soundness by the pairs i and j with j < i: the test that two triangles share ground does not depend on their order.
+-- Soundness by the pairs i and j with j < i: the test that two triangles have a common interior point does not depend on their order.
 -- Assumes nothing.
 use mathlib.Core.Path.{_≡_, refl, _∙_, ap}
 use mathlib.Core.Bool.{Bool, not, _||_}

@@ -26,7 +26,7 @@ abbrev tableA : Table
 unfolding evaluate
 tableA = givenTable numbersA
 
--- one triangle that shares ground with both, and one with the second only
+-- one triangle that has a common interior point with both, and one with the second only
 abbrev tableC : Table
 unfolding evaluate
 tableC = givenTable (30000 ∷ 50000 ∷ 30000 ∷ 0 ∷ 65535 ∷ 30000 ∷ [])

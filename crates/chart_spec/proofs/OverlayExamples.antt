@@ -23,7 +23,7 @@ pairNumbers-example = refl
 
 -- Listed everywhere: the triangles decide
 
--- the second chart's triangles lie apart; the first chart's 0 shares ground with 1 and 2, its 1 and 3 with 0, its 2 with none
+-- the second chart's triangles lie apart; the first chart's 0 overlaps 1 and 2, its 1 and 3 overlap 0, its 2 none
 abbrev left : Table
 left = tri (at 100 0) (at 300 0) (at 100 90) ∷ tri (at 0 200) (at 90 200) (at 0 300) ∷ tri (at 500 600) (at 510 600) (at 500 620) ∷ tri (at 0 220) (at 0 200) (at 40 200) ∷ []
 

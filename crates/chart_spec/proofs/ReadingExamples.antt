@@ -57,7 +57,7 @@ located-listed-example :
 unfolding evaluate
 located-listed-example = refl
 
--- no triangle, one, two that share a side, the same twice, and two of three that share ground, first and last
+-- no triangle, one, two that share a side, the same twice, and two of three that have a common interior point, first and last
 sound-pairs-example :
     map (λ t. sound t)
     ([]

@@ -1,3 +1,3 @@
-pub mod TestLaws
+pub mod ItemLaws
 pub mod MaskLaws
 pub mod LinkLaws

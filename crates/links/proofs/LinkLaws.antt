@@ -10,7 +10,8 @@ use lib.Dec.{ltb, eqb}
 use Rattle.orthtree.specs.Entries.{emptyMark, isMark, sameCell, span, rangeEnd, follows}
 use Rattle.squares.specs.Square.{arity, depth}
 use Rattle.links.specs.Links.{entry, aligned, linked, endsTree}
-use Rattle.links.proofs.TestLaws.{and-then, and-skip, and-second, eqb-same, no-mark}
+use Rattle.lists.proofs.TestLaws.{and-then, and-skip, and-second, eqb-same}
+use Rattle.links.proofs.ItemLaws.{no-mark}
 use Rattle.links.proofs.MaskLaws.{and-span, or-span}
 use Rattle.numbers.proofs.BitLaws.{or-zero}
 

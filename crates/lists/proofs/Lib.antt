@@ -18,3 +18,4 @@ pub mod EditedLists
 pub mod FirstLaws
 pub mod FoldLaws
 pub mod StoredLaws
+pub mod TestLaws

@@ -124,7 +124,7 @@ lines-example :
 unfolding evaluate
 lines-example = refl
 
--- chart 0 has one triangle and chart 1 two, of which the second shares ground with it
+-- chart 0 has one triangle and chart 1 two, of which the second has a common interior point with it
 overlay-step-example : (ns : List ℕ)
     → overlayStep (state (low ∷ []) (wide ∷ low ∷ []) ns) .printed ∷ overlayStep (state (wide ∷ low ∷ []) (low ∷ []) ns) .printed ∷ []
     ≡ (line 7 (0 ∷ 1 ∷ 13 ∷ []) ++ line 0 (1 ∷ [])) ∷ (line 7 (0 ∷ 1 ∷ 13 ∷ []) ++ line 1 (0 ∷ [])) ∷ []

@@ -19,3 +19,4 @@ pub mod MortonRangeLaws
 pub mod MortonChildLaws
 pub mod Examples
 pub mod ChainPlaceLaws
+pub mod MarkLaws

@@ -1,4 +1,4 @@
-// Overlay: the pairs of triangles that share ground and are listed in overlapping cells, and the meetings.
+// Overlay: the pairs of triangles that have a common interior point and are listed in overlapping cells, and the meetings.
 
 use answers::Overlaid;
 use answers::Overlay;

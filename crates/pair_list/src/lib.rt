@@ -1,5 +1,5 @@
-// The pairs of an overlay, from two tables and a table of marks: the marked pairs that share ground, written in ascending order.
-// A row's candidates are listed first; products are needed for these alone.
+// The pairs of an overlay, from two tables and a table of marks: the marked pairs that have a common interior point, written in
+// ascending order. A row's candidates are listed first; products are needed for these alone.
 
 ghost use mathlib.Core.Path.{_≡_};
 ghost use mathlib.Core.Bool.{true};
@@ -62,7 +62,7 @@ fn put_boxed(
     )
 }
 
-// Writes the marked pairs whose triangles share ground, ascending: how many they are, or 4097 where they are more than 4096.
+// Writes the marked pairs whose triangles have a common interior point, ascending: how many they are, or 4097 where they are more.
 pub fn put_pairs(
     first: &[u16],
     n: usize,

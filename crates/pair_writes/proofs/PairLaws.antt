@@ -1,5 +1,5 @@
--- The pairs of a row from its candidates: those candidates with which the triangle shares ground.
--- The idea: boxes of triangles that share ground are not clear of each other, so that no pair is lost.
+-- The pairs of a row from its candidates: those candidates with which the triangle has a common interior point.
+-- The idea: boxes of triangles that have a common interior point are not clear of each other, so that no pair is lost.
 -- Assumes nothing.
 use mathlib.Core.Path.{_≡_, refl, sym, _∙_, ap, subst}
 use mathlib.Core.Bool.{Bool, true, false, not, _&&_}
@@ -86,7 +86,7 @@ module _ {first ls ts rs bs second ls′ ts′ rs′ bs′ rows near : List ℕ}
       let below : x < m = reflects-and (reflects-test (markedAt rows i x && not (clear (boxAt ls ts rs bs i) (boxAt ls′ ts′ rs′ bs′ x)))) (reflects-ltb x m) .to passes .1 in
       (omega arith, omega (arith, q .rows))
 
-  -- a candidate that shares ground is marked, and a marked triangle that shares ground is a candidate
+  -- among triangles that have a common interior point with it, the candidates are the marked ones
   same-test : (j : ℕ) → j < m → meetsAt first second i j && isNear ls ts rs bs ls′ ts′ rs′ bs′ rows m i j ≡ meetsAt first second i j && markedAt rows i j
   same-test j h =
       passes-same (clear (boxAt ls ts rs bs i) (boxAt ls′ ts′ rs′ bs′ j)) (meetsAt first second i j) (markedAt rows i j) (ltb j m)

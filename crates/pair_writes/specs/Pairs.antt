@@ -13,7 +13,7 @@ use Rattle.chart_spec.specs.Overlay.{Pair, pairNumbers, maxPairs}
 use Rattle.call_spec.specs.Buffers.{pairsLength}
 use Rattle.row_candidates.specs.RowCandidates.{markedAt}
 
--- triangle i of the first table shares ground with triangle j of the second
+-- triangle i of the first table has a common interior point with triangle j of the second
 abbrev pub meetsAt : List ℕ → List ℕ → ℕ → ℕ → Bool
 meetsAt first second i j = interiorsMeet (triangleAt first i) (triangleAt second j)
 
@@ -21,11 +21,11 @@ meetsAt first second i j = interiorsMeet (triangleAt first i) (triangleAt second
 abbrev pub pairIf : Bool → ℕ → ℕ → List Pair
 pairIf b i j = cond b (record { i = i; j = j } ∷ []) []
 
--- the pairs of triangle i with those of a list with which it shares ground
+-- the pairs of triangle i with those of a list with which it has a common interior point
 unfoldable pub nearPairs : List ℕ → List ℕ → ℕ → List ℕ → List Pair
 nearPairs first second i js = map (λ j. record { i = i; j = j }) (filter (λ j. meetsAt first second i j) js)
 
--- the marked pairs of triangle i that share ground, among the first m triangles of the second table
+-- the marked pairs of triangle i that have a common interior point, among the first m triangles of the second table
 unfoldable pub rowPairs : List ℕ → List ℕ → ℕ → List ℕ → ℕ → List Pair
 rowPairs first second m rows i =
     map (λ j. record { i = i; j = j }) (filter (λ j. meetsAt first second i j && markedAt rows i j) (upTo m))

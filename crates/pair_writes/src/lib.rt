@@ -26,7 +26,7 @@ fn put_pair(meet: bool, i: u16, j: u16, pairs: &mut [u16], c: usize) -> usize
     c + 1
 }
 
-// The pairs of triangle i with the first d triangles of a list, where they share ground, after the first `at` pairs.
+// The pairs of triangle i with the first d triangles of a list, where they have a common interior point, after the first `at` pairs.
 pub fn put_near(
     first: &[u16],
     i: usize,

@@ -15,7 +15,7 @@ use Rattle.bitsets.specs.Bits.{hasBit}
 abbrev pub markedAt : List ℕ → ℕ → ℕ → Bool
 markedAt rows i j = hasBit rows (maxTriangles * i + j)
 
--- triangle j of the second table may share ground with triangle i of the first: they are marked, and their boxes are not clear
+-- triangles i and j may have a common interior point: they are marked, and their boxes are not clear
 abbrev pub isNear : List ℕ → List ℕ → List ℕ → List ℕ → List ℕ → List ℕ → List ℕ → List ℕ → List ℕ → ℕ → ℕ → ℕ → Bool
 isNear ls ts rs bs ls′ ts′ rs′ bs′ rows m i j =
     markedAt rows i j && not (clear (boxAt ls ts rs bs i) (boxAt ls′ ts′ rs′ bs′ j)) && ltb j m

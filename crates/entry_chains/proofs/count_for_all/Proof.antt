@@ -7,7 +7,7 @@ use lib.ListN.{getD}
 use Rattle.lists.specs.Lists.{all, upTo}
 use Rattle.lists.proofs.IndexLaws.{all-below-none, all-below-step}
 use Rattle.links.specs.Links.{itemFits}
-use Rattle.links.proofs.TestLaws.{leb-max}
+use Rattle.lists.proofs.TestLaws.{leb-max}
 use Rattle.entry_chains.proofs.count_for_all.Statement.{statement}
 use Rattle.entry_chains.proofs.count_for_all.Tie as tie
 

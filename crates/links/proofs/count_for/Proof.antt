@@ -1,5 +1,5 @@
 use native.Mathlib.Omega.{arith}
-use Rattle.links.proofs.TestLaws.{item-count, mark-count}
+use Rattle.links.proofs.ItemLaws.{item-count, mark-count}
 use borrow.Author.Needs.{needs}
 use Rattle.links.proofs.count_for.Statement.{statement}
 use Rattle.links.proofs.count_for.Tie as tie

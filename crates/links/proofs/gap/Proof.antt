@@ -2,7 +2,7 @@ use mathlib.Core.Path.{_∙_, sym}
 use Prim.Native.Nat.{_+_, _-_}
 use native.Mathlib.Omega.{arith}
 use borrow.Author.Tests.{ne-eqb}
-use Rattle.links.proofs.TestLaws.{eqb-same}
+use Rattle.lists.proofs.TestLaws.{eqb-same}
 use Rattle.numbers.proofs.BitLaws.{xor-zero}
 use borrow.Author.Needs.{needs}
 use Rattle.links.proofs.gap.Statement.{statement}

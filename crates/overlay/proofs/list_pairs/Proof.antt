@@ -1,4 +1,4 @@
--- What the merge marks is what is listed together, so the marked pairs that share ground are the pairs listed.
+-- What the merge marks is what is listed together, so the marked pairs that have a common interior point are the pairs listed.
 use mathlib.Core.Path.{_∙_}
 use borrow.Author.Needs.{needs}
 use Rattle.bitsets.proofs.BitLaws.{zeros-empty}
