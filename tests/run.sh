@@ -34,7 +34,7 @@ test_model() {
     [[ $said =~ test\ result:\ ok\.\ 23\ passed\;\ 0\ failed\;\ 0\ ignored ]]
 }
 
-# more jobs than processors: rt starts crates and edits in groups and waits for the slowest of each
+# rt starts crates and edits in groups and waits for the slowest of each; groups of four leave a processor idle less often
 export RT_JOBS=${RT_JOBS:-4}
 
 echo "== rt ci: prove every crate, try the must-fail edits, run the programs"
