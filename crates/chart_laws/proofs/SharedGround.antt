@@ -8,11 +8,10 @@ use mathlib.Core.Logic.{_↔_}
 use Prim.Native.Nat.{ℕ, _/_, _<_}
 use native.Mathlib.Nat.{le-of-suc-le-suc, le-div-iff-mul-le, div-lt-iff-lt-mul}
 use native.Mathlib.Omega.{arith}
-use lib.Dec.{T, ltb}
+use lib.Dec.{T}
 use lib.ListN.{length}
 use Rattle.lists.specs.Lists.{upTo}
-use Rattle.lists.proofs.Reflects.{reflects-ltb, reflects-test}
-use Rattle.lists.proofs.ListsLaws.{Every, Some, every-uncons, all-reflects, getD-member, upTo-from}
+use Rattle.lists.proofs.ListsLaws.{Some, getD-member, upTo-from}
 use Rattle.lists.proofs.MemberLaws.{filter-from, flatMap-from}
 use Rattle.orthtree.specs.Entries.{rangeEnd}
 use Rattle.orthtree.proofs.EntriesLaws.{InRange}
@@ -33,36 +32,20 @@ use Rattle.squares.specs.Square.{arity, depth, zOrder, squareBox}
 use Rattle.plane.proofs.ExtremeLaws.{OnGrid, CornersOnGrid}
 use Rattle.squares.proofs.ZOrderLaws.{InSquare, point-in-square}
 use Rattle.squares.proofs.SquareLeavesLaws.{leaf-of-point}
-use Rattle.chart_spec.specs.Table.{Table, numbered, noTriangle, triangleNumbers, tableNumbers, sixteenBit, IsTable}
+use Rattle.chart_spec.specs.Table.{Table, numbered, noTriangle, IsTable}
 use Rattle.chart_spec.specs.Cells.{stopped, cellsIn, cells, trianglesMeeting, orMark, entryOf, cellEntries, entriesOf}
 use Rattle.chart_spec.specs.Overlay.{pairsListed, pair, SharesGround}
 use Rattle.chart_laws.proofs.TableLaws.{proper-at}
 use Rattle.chart_laws.proofs.EntriesOfTable.{meeting-filter}
 use Rattle.chart_laws.proofs.ChainOfTable.{cells-aligned}
+use Rattle.chart_laws.proofs.GridLaws.{table-proper, table-triangles}
 use Rattle.chart_laws.proofs.OverlayLaws.{pairs-listed-iff}
 
 -- the corners of a triangle are points of the grid where the table is one of document 01
-pub corners-at : (table : Table) → IsTable table → (i : ℕ) → i < length table → CornersOnGrid (numbered table i)
-unfolding numbered sixteenBit tableNumbers triangleNumbers
+corners-at : (table : Table) → IsTable table → (i : ℕ) → i < length table → CornersOnGrid (numbered table i)
+unfolding numbered
 corners-at table ok i h =
-    let small = all-reflects (λ n. ltb n 65536) (λ n. reflects-ltb n 65536) (tableNumbers table) .to (ok .words) in
-    let at : Every (λ n. n < 65536) (triangleNumbers (numbered table i)) =
-    λ n m. small n (flatMap-from (λ t. triangleNumbers t) table (getD-member table i noTriangle h) m)
-    in
-    let g = every-uncons at in
-    let k = every-uncons (g .1) in
-    let l = every-uncons (k .1) in
-    let m = every-uncons (l .1) in
-    let n = every-uncons (m .1) in
-    record {
-      a = record { x = le-of-suc-le-suc (g .0); y = le-of-suc-le-suc (k .0) };
-      b = record { x = le-of-suc-le-suc (l .0); y = le-of-suc-le-suc (m .0) };
-      c = record { x = le-of-suc-le-suc (n .0); y = le-of-suc-le-suc (every-uncons (n .1) .0) };
-    }
-
--- all triangles have D > 0
-pub proper-of : (table : Table) → IsTable table → Every (λ t. T (proper t)) table
-proper-of table ok = all-reflects (λ t. proper t) (λ t. reflects-test (proper t)) table .to (ok .oriented)
+    let t = table-triangles ok _ (getD-member table i noTriangle h) in record { a = t .a; b = t .b; c = t .c }
 
 -- the grid point above and left of a fractional point
 abbrev floorOf : Triple → Point
@@ -126,8 +109,8 @@ module _ (s t : Table) (sok : IsTable s) (tok : IsTable t) where
   pub ground-listed : {i j : ℕ} → SharesGround s t i j → ListedTogether arity depth (entriesOf s) (entriesOf t) i j
   ground-listed {i} {j} h =
       let p = h .common .point in
-      let good = proper-at s (proper-of s sok) i (h .first) in
-      let fine = proper-at t (proper-of t tok) j (h .second) in
+      let good = proper-at s (table-proper sok) i (h .first) in
+      let fine = proper-at t (table-proper tok) j (h .second) in
       let held = inside-held (numbered s i) p (h .common .first) in
       let v = weights (numbered s i) p good (h .common .above) held in
       let z = v .point in
@@ -148,7 +131,7 @@ module _ (s t : Table) (sok : IsTable s) (tok : IsTable t) where
   -- the overlay of two tables with their entries lists a pair exactly when it shares ground
   pub pairs-of-tables : (i j : ℕ) → List·Memᴰ (pair i j) (pairsListed s (entriesOf s) t (entriesOf t)) ↔ SharesGround s t i j
   pairs-of-tables i j =
-      let e = pairs-listed-iff s (entriesOf s) t (entriesOf t) (proper-of s sok) (proper-of t tok) i j in (
+      let e = pairs-listed-iff s (entriesOf s) t (entriesOf t) (table-proper sok) (table-proper tok) i j in (
         λ m. let h = e .0 m in record { first = h .first; second = h .second; common = h .common },
         λ h. e .1 (record { first = h .first; second = h .second; listed = ground-listed h; common = h .common }),
       )
