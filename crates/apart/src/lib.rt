@@ -47,7 +47,8 @@ fn is_apart(
     ensures { λ o. ⌜ o ≡ all (λ k. not (interiorsMeet (triangleAt (now (table .entry)) i) (triangleAt (now (table .entry)) k))) (upTo i) ⌝ }
     ensures { λ o. ⌜ length (now (near .exit)) ≡ length (now (near .entry)) ⌝ }
 {
-    let c = near_boxes::collect_before(lefts, tops, rights, bottoms, i, near);
+    let b = boxes::triangle_box(table, i);
+    let c = near_boxes::collect_before(b, lefts, tops, rights, bottoms, i, near);
     near_apart(table, near, i, c)
 }
 

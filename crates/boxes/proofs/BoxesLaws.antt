@@ -1,7 +1,7 @@
 -- Boxes of a table in four lists, and what they say of its triangles.
 -- Assumes nothing.
 use mathlib.Core.Path.{_≡_, refl, subst}
-use mathlib.Core.Bool.{false}
+use mathlib.Core.Bool.{true, false}
 use mathlib.Core.List.{List}
 use Prim.Native.Nat.{ℕ, _+_, _≤_, _<_}
 use native.Mathlib.Decide.{decLe}
@@ -10,6 +10,7 @@ use lib.Dec.{T}
 use lib.ListN.{length, set, length-set}
 use lib.Seq.{getD-set-same, getD-set-other}
 use Rattle.lists.proofs.Reflects.{Reflects, reflects-leb, reflects-or}
+use Rattle.plane.specs.Triangle.{Triangle, proper}
 use Rattle.plane.specs.Box.{Box, triangleBox}
 use Rattle.plane.specs.Interior.{interiorsMeet}
 use Rattle.separation.proofs.BoxLaws.{Clear, clear-apart}
@@ -43,15 +44,14 @@ boxed-fewer table ls ts rs bs m n h p = record {
   boxes = λ i l. p .boxes i (omega arith);
 }
 
--- triangles i and j of two tables share no ground where their boxes are clear of each other
-pub boxes-apart : {table ls ts rs bs : List ℕ} {n : ℕ} → BoxedTable table ls ts rs bs n
-    → {table′ ls′ ts′ rs′ bs′ : List ℕ} {m : ℕ} → BoxedTable table′ ls′ ts′ rs′ bs′ m → (i j : ℕ) → i < n → j < m
-    → T (clear (boxAt ls ts rs bs i) (boxAt ls′ ts′ rs′ bs′ j)) → interiorsMeet (triangleAt table i) (triangleAt table′ j) ≡ false
-boxes-apart {table} {ls} {ts} {rs} {bs} {n} p {table′} {ls′} {ts′} {rs′} {bs′} {m} q i j h k c =
-    clear-apart (triangleAt table i) (triangleAt table′ j)
-    (rw (proper-at table n i (p .oriented) h) tt) (rw (proper-at table′ m j (q .oriented) k) tt)
-    (subst (λ b. Clear b (triangleBox (triangleAt table′ j))) (p .boxes i h)
-    (subst (λ d. Clear (boxAt ls ts rs bs i) d) (q .boxes j k) (clear-reflects (boxAt ls ts rs bs i) (boxAt ls′ ts′ rs′ bs′ j) .to c)))
+-- a triangle has no common interior point with triangle j of a table where their boxes are clear of each other
+pub boxes-apart : (t : Triangle) → proper t ≡ true → {b : Box} → b ≡ triangleBox t
+    → {table ls ts rs bs : List ℕ} {m : ℕ} → BoxedTable table ls ts rs bs m → (j : ℕ) → j < m
+    → T (clear b (boxAt ls ts rs bs j)) → interiorsMeet t (triangleAt table j) ≡ false
+boxes-apart t o {b} e {table} {ls} {ts} {rs} {bs} {m} q j k c =
+    clear-apart t (triangleAt table j) (rw o tt) (rw (proper-at table m j (q .oriented) k) tt)
+    (subst (λ b. Clear b (triangleBox (triangleAt table j))) e
+    (subst (λ d. Clear b d) (q .boxes j k) (clear-reflects b (boxAt ls ts rs bs j) .to c)))
 
 -- ---- storing boxes
 

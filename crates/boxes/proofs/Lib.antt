@@ -1,2 +1,2 @@
 pub mod BoxesLaws
-pub mod CompactLaws
+pub mod KeepLaws

@@ -4,7 +4,7 @@ use mathlib.Core.Path.{_≡_, sym, ap}
 use mathlib.Core.Bool.{true, false}
 use mathlib.Core.List.{List, []}
 use mathlib.Core.Option.{none}
-use Prim.Native.Nat.{ℕ, _*_, _≤_, _<_}
+use Prim.Native.Nat.{ℕ, _+_, _*_, _≤_, _<_}
 use native.Mathlib.Omega.{arith}
 use lib.ListN.{length, getD}
 use Rattle.lists.specs.Lists.{first}
@@ -74,12 +74,12 @@ module _ (c : Chart) where
     module _ (p : Point) where
       -- the table has the listed triangles
       pub table-holds : {l : List ℕ} → l ≡ listing (chartEntries c) p
-          → (numbersPerTriangle * c .triangleCount ≤ length (c .table)) × ((k : ℕ) → k < length l → getD l k 0 < c .triangleCount)
-      table-holds {l} e =
+          → (k : ℕ) → k < length l → numbersPerTriangle * (getD l k 0 + 1) ≤ length (c .table)
+      table-holds {l} e k h =
           let long = long-enough c s in
           let rule = ruled c r in
           let below : Every (λ i. i < c .triangleCount) l = rw e (listed-below (c .triangleCount) (chartEntries c) (rule .chained) p) in
-          (omega arith, λ k h. below (getD l k 0) (getD-member l k 0 h))
+          omega (arith, below (getD l k 0) (getD-member l k 0 h))
 
       -- the triangles that locate tests are read from the table's numbers
       pub located-first : located (chartTable c) (chartEntries c) p ≡ first (λ i. holds (triangleAt (c .table) i) p) (listing (chartEntries c) p)

@@ -8,7 +8,7 @@ ghost use Prim.Native.Nat.{_*_, _≤_, _<_};
 ghost use lib.ListN.{length};
 ghost use Rattle.plane.specs.Triangle.{triangleOf};
 ghost use Rattle.chart_spec.specs.Table.{numbersPerTriangle, maxTriangles, tableLength, tableOf};
-ghost use Rattle.chart_spec.specs.Edits.{rotations, flipAs, flipTable};
+ghost use Rattle.chart_spec.specs.Edits.{flipAs, flipTable};
 ghost use Rattle.table_edits.specs.Edited.{editedOutcome, editedCount};
 
 // Flip of triangles i and j, of which s and u are the rotations that share a side.

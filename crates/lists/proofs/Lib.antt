@@ -19,3 +19,4 @@ pub mod FirstLaws
 pub mod FoldLaws
 pub mod StoredLaws
 pub mod TestLaws
+pub mod CompactLaws

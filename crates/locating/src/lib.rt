@@ -4,7 +4,7 @@ use answers::Judged;
 use answers::Located;
 use plane::Point;
 ghost use mathlib.Core.Path.{_≡_};
-ghost use Prim.Native.Nat.{ℕ, _*_, _≤_, _<_};
+ghost use Prim.Native.Nat.{ℕ, _+_, _*_, _≤_, _<_};
 ghost use lib.ListN.{length, getD};
 ghost use Rattle.lists.specs.Lists.{first};
 ghost use Rattle.plane.specs.Triangle.{holds};
@@ -18,8 +18,8 @@ ghost use Rattle.locating.specs.Holding.{foundOf};
 ghost use Rattle.locating.specs.Places.{placesCall};
 
 // The first of the listed triangles that holds p.
-fn first_holding(table: &[u16], n: usize, list: &[u16], p: Point) -> Located
-    requires { ⌜ (numbersPerTriangle * n ≤ length (now table)) × ((k : ℕ) → k < length (now list) → getD (now list) k 0 < n) ⌝ }
+fn first_holding(table: &[u16], list: &[u16], p: Point) -> Located
+    requires { ⌜ ((k : ℕ) → k < length (now list) → numbersPerTriangle * (getD (now list) k 0 + 1) ≤ length (now table)) ⌝ }
     ensures { λ r. ⌜ r ≡ foundOf (first (λ i. holds (triangleAt (now (table .entry)) i) p) (now (list .entry))) ⌝ }
 {
     let mut k = 0;
@@ -66,12 +66,7 @@ pub fn locate(
     ensures { λ r. ⌜ _≡_ {A = Calls·Located} (locatedOf r) (locateCall (chartOf (now (table .entry)) (now (keys .entry)) (now (levels .entry)) (now (items .entry)) triangles entries) p) ⌝ }
 {
     match chains::judge(table, keys, levels, items, triangles, entries) {
-        Judged::Fine => first_holding(
-            table,
-            triangles,
-            cell_items::listing(keys, items, entries, p),
-            p,
-        ),
+        Judged::Fine => first_holding(table, cell_items::listing(keys, items, entries, p), p),
         Judged::ShortBuffer => Located::ShortBuffer,
         Judged::BrokenChain => Located::BrokenChain,
         // Never found: `judge` judges 1 and 2.

@@ -1,62 +1,57 @@
--- The places before i whose boxes overlap box i, put on a list one after another.
+-- The places whose boxes overlap a triangle's, put on a list one after another.
 -- Assumes nothing.
-use mathlib.Core.Path.{_≡_, refl, sym, _∙_, ap, subst}
-use mathlib.Core.Bool.{Bool, true, false, not, cond}
+use mathlib.Core.Path.{_≡_, refl, ap}
+use mathlib.Core.Bool.{Bool, true, false, not, _||_, cond}
 use mathlib.Core.List.{List}
 use Prim.Native.Nat.{ℕ, _+_, _≤_, _<_}
 use native.Mathlib.Omega.{arith}
-use borrow.Author.Tests.{not-false}
-use lib.Dec.{T}
+use borrow.Author.Tests.{not-false, lt-leb}
+use lib.Dec.{T, leb}
 use lib.ListN.{length, getD, set}
 use Rattle.lists.specs.Lists.{all, upTo}
 use Rattle.lists.proofs.Reflects.{test-true}
 use Rattle.lists.proofs.IndexLaws.{all-below-at}
+use Rattle.lists.proofs.CompactLaws.{compact-below, compact-all}
+use Rattle.plane.specs.Box.{Box, triangleBox}
+use Rattle.chart_spec.specs.Table.{triangleAt}
+use Rattle.chart_laws.proofs.ProperLaws.{proper-at}
 use Rattle.chart_laws.proofs.SoundLaws.{apart}
-use Rattle.boxes.specs.Boxes.{clear, boxAt, BoxedTable}
+use Rattle.boxes.specs.Boxes.{clear, boxAt, boxesOverlap, BoxedTable}
 use Rattle.boxes.proofs.BoxesLaws.{boxes-apart}
-use Rattle.boxes.proofs.CompactLaws.{compact-step, compact-skip, compact-below, compact-all}
-use Rattle.near_boxes.specs.Near.{boxesOverlap, Near, EachBelow}
+use Rattle.boxes.proofs.KeepLaws.{kept-more, kept-skip}
+use Rattle.near_boxes.specs.Near.{Near, EachBelow}
 
-cond-few : (b : Bool) (c j : ℕ) → c ≤ j → cond b c (c + 1) ≤ j + 1
-cond-few true c j h = omega arith
-cond-few false c j h = omega arith
+or-not : (a b : Bool) → b ≡ false → not a ≡ not (a || b)
+or-not true b e = refl
+or-not false b e = rw e refl
 
-module _ (ls ts rs bs near : List ℕ) (i j c : ℕ) (n : Near ls ts rs bs near i j c) where
+module _ (b : Box) (box : ℕ → Box) {near : List ℕ} {j c : ℕ} (n : Near b box near j c) where
   -- one place more
-  pub near-more : (near′ : List ℕ) (r j′ : ℕ) → j′ ≡ j + 1 → c < length near → near′ ≡ set near c j
-      → r ≡ cond (clear (boxAt ls ts rs bs i) (boxAt ls ts rs bs j)) c (c + 1) → Near ls ts rs bs near′ i j′ r
-  near-more near′ r j′ d l e g =
-      let b = clear (boxAt ls ts rs bs i) (boxAt ls ts rs bs j) in
-      subst (λ j. Near ls ts rs bs near′ i j r) (sym d) (subst (λ r. Near ls ts rs bs near′ i (j + 1) r) (sym g) (record {
-        few = cond-few b c j (n .few);
-        listed = compact-step (λ n. boxesOverlap ls ts rs bs i n) near near′ c j b refl l e (n .listed);
-      }))
+  pub near-more : (m : ℕ) → j < m → (near′ : List ℕ) (r : ℕ) → c < length near → near′ ≡ set near c j
+      → r ≡ cond (clear b (box j) || leb m j) c (c + 1) → Near b box near′ (j + 1) r
+  near-more m h near′ r l e g =
+      kept-more (λ k. boxesOverlap b box k) n (clear b (box j) || leb m j) (or-not (clear b (box j)) (leb m j) (lt-leb m j h)) near′ r l e g
 
   -- a block of clear boxes
-  pub near-block : (m : ℕ) → all (λ k. clear (boxAt ls ts rs bs i) (boxAt ls ts rs bs (j + k))) (upTo m) ≡ true
-      → Near ls ts rs bs near i (j + m) c
-  near-block m e = record {
-    few = omega (arith, n .few);
-    listed = n .listed ∙ sym (compact-skip (λ n. boxesOverlap ls ts rs bs i n) j m apart);
-  }
+  pub near-block : (m : ℕ) → all (λ k. clear b (box (j + k))) (upTo m) ≡ true → Near b box near (j + m) c
+  near-block m e = kept-skip (λ k. boxesOverlap b box k) n m fails
     where
-      apart : (k : ℕ) → k < m → boxesOverlap ls ts rs bs i (j + k) ≡ false
-      apart k l =
-          let h : clear (boxAt ls ts rs bs i) (boxAt ls ts rs bs (j + k)) ≡ true =
-          test-true (all-below-at (λ k. clear (boxAt ls ts rs bs i) (boxAt ls ts rs bs (j + k))) e l) in
+      fails : (k : ℕ) → k < m → boxesOverlap b box (j + k) ≡ false
+      fails k l =
+          let h : clear b (box (j + k)) ≡ true = test-true (all-below-at (λ k. clear b (box (j + k))) e l) in
           ap not h
 
-module _ (ls ts rs bs near : List ℕ) (i c : ℕ) (n : Near ls ts rs bs near i i c) (room : c ≤ length near) where
+module _ (b : Box) (table ls ts rs bs near : List ℕ) (i c : ℕ) (n : Near b (boxAt ls ts rs bs) near i c) (room : c ≤ length near) where
   -- what is listed comes before i
   pub near-before : EachBelow near i c
-  near-before = compact-below (λ n. boxesOverlap ls ts rs bs i n) near i c room (n .listed)
+  near-before = compact-below (λ k. boxesOverlap b (boxAt ls ts rs bs) k) near i c room (n .listed)
 
   -- triangle i is apart from all before it where it is apart from those that are listed
-  pub near-sound : (table : List ℕ) → BoxedTable table ls ts rs bs (i + 1)
+  pub near-sound : BoxedTable table ls ts rs bs (i + 1) → b ≡ triangleBox (triangleAt table i)
       → all (λ k. apart table i (getD near k 0)) (upTo c) ≡ all (λ k. apart table i k) (upTo i)
-  near-sound table p = compact-all (λ n. boxesOverlap ls ts rs bs i n) near i c room (n .listed) (λ k. apart table i k) others
+  near-sound p e = compact-all (λ k. boxesOverlap b (boxAt ls ts rs bs) k) near i c room (n .listed) (λ k. apart table i k) others
     where
-      others : (k : ℕ) → k < i → boxesOverlap ls ts rs bs i k ≡ false → T (apart table i k)
-      others k l e =
-          let h = not-false (clear (boxAt ls ts rs bs i) (boxAt ls ts rs bs k)) e in
-          rw (boxes-apart p p i k (omega arith) (omega arith) (rw h tt)) tt
+      others : (k : ℕ) → k < i → boxesOverlap b (boxAt ls ts rs bs) k ≡ false → T (apart table i k)
+      others k l f =
+          let h = not-false (clear b (boxAt ls ts rs bs k)) f in
+          rw (boxes-apart (triangleAt table i) (proper-at table (i + 1) i (p .oriented) (omega arith)) e p k (omega arith) (rw h tt)) tt

@@ -3,20 +3,22 @@
 use mathlib.Core.Path.{_≡_, refl, sym, _∙_, ap, ap₂, subst}
 use mathlib.Core.Bool.{Bool, true, false, not, _&&_, _||_}
 use mathlib.Core.List.{List, map, flatMap}
-use Prim.Native.Nat.{ℕ, _-_, _≤_, _<_}
+use Prim.Native.Nat.{ℕ, _*_, _≤_, _<_}
 use native.Mathlib.Omega.{arith}
 use borrow.Author.Tests.{ltb-false}
 use lib.Dec.{T, ltb}
 use lib.ListN.{length, take}
-use Rattle.lists.specs.Lists.{filter, upTo}
+use Rattle.lists.specs.Lists.{all, filter, upTo}
 use Rattle.lists.proofs.Reflects.{or-neither}
 use Rattle.lists.proofs.FilterLaws.{filter-agree}
 use Rattle.lists.proofs.ListsLaws.{upTo-to}
 use Rattle.lists.proofs.EveryLaws.{flatMap-agree}
 use Rattle.orthtree.specs.Entries.{Entry, chain, meetings}
 use Rattle.squares.specs.Square.{arity, depth}
+use Rattle.plane.specs.Triangle.{proper}
 use Rattle.plane.specs.Interior.{interiorsMeet}
-use Rattle.chart_spec.specs.Table.{maxTriangles, tableOf}
+use Rattle.chart_spec.specs.Table.{maxTriangles, numbersPerTriangle, tableOf}
+use Rattle.chart_spec.specs.Cells.{maxEntries}
 use Rattle.chart_spec.specs.Refusals.{refuseIf, outcomeNumber}
 use Rattle.chart_spec.specs.Overlay.{Pair, pairListed, pairsListed, withinPairs, overlayOf}
 use Rattle.chart_laws.proofs.TableLaws.{tableOf-length, numbered-at}
@@ -29,7 +31,6 @@ use Rattle.answers.specs.Outcomes.{overlaidOf}
 use Rattle.merge.specs.Merge.{Overlapping}
 use Rattle.pair_writes.specs.Pairs.{meetsAt, rowPairs, markedPairs}
 use Rattle.row_candidates.specs.RowCandidates.{markedAt}
-use Rattle.overlay.specs.Judged.{Passed}
 
 -- both of two tests
 both : (a b : Bool) → a && b ≡ true → (a ≡ true) × (b ≡ true)
@@ -39,7 +40,15 @@ both false b e = absurd (subst (λ b. T b) (sym e) tt)
 -- ---- refusals 1 and 2
 
 -- what a chart has that neither refuses
-passed : (c : Chart) → tooShort c ≡ false → chainRule c ≡ true → Passed (c .table) (c .keys) (c .items) (c .triangleCount) (c .entryCount)
+pub record Passed (c : Chart) : Type 0 where
+  pub triangles : c .triangleCount ≤ maxTriangles
+  pub rows : numbersPerTriangle * c .triangleCount ≤ length (c .table)
+  pub oriented : all (λ t. proper t) (tableOf (c .table) (c .triangleCount)) ≡ true
+  pub entries : c .entryCount ≤ maxEntries
+  pub keyed : c .entryCount ≤ length (c .keys)
+  pub listed : c .entryCount ≤ length (c .items)
+
+passed : (c : Chart) → tooShort c ≡ false → chainRule c ≡ true → Passed c
 unfolding chartTable
 passed c s e =
     let held = rule-held c s e in
@@ -82,10 +91,10 @@ module _ (c d : Chart) (pairs : List ℕ) where
 
     -- where 2 does not refuse either
     module _ (rules : chainRule c && chainRule d ≡ true) where
-      pub first-passed : Passed (c .table) (c .keys) (c .items) (c .triangleCount) (c .entryCount)
+      pub first-passed : Passed c
       first-passed = passed c first-long (both (chainRule c) (chainRule d) rules .0)
 
-      pub second-passed : Passed (d .table) (d .keys) (d .items) (d .triangleCount) (d .entryCount)
+      pub second-passed : Passed d
       second-passed = passed d second-long (both (chainRule c) (chainRule d) rules .1)
 
       pub first-chain : (c .entryCount ≤ length (c .levels)) × (chain arity depth (c .triangleCount) (take (c .entryCount) (zipEntries (c .keys) (c .levels) (c .items))) ≡ true)

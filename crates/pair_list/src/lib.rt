@@ -9,58 +9,7 @@ ghost use Rattle.lists.specs.Lists.{all};
 ghost use Rattle.plane.specs.Triangle.{proper};
 ghost use Rattle.chart_spec.specs.Table.{maxTriangles, numbersPerTriangle, tableOf};
 ghost use Rattle.call_spec.specs.Buffers.{pairsLength};
-ghost use Rattle.boxes.specs.Boxes.{BoxedTable};
 ghost use Rattle.pair_writes.specs.Pairs.{markedPairs, Wrote};
-
-// The pairs, where the bounding boxes of the first table are in four lists.
-fn put_boxed(
-    first: &[u16],
-    n: usize,
-    second: &[u16],
-    m: usize,
-    lefts: &[u16],
-    tops: &[u16],
-    rights: &[u16],
-    bottoms: &[u16],
-    rows: &[u64],
-    pairs: &mut [u16],
-) -> usize
-    requires { ⌜ BoxedTable (now first) (now lefts) (now tops) (now rights) (now bottoms) n × (n ≤ maxTriangles) ⌝ }
-    requires { ⌜ ((m ≤ maxTriangles) × (numbersPerTriangle * m ≤ length (now second))) × (all (λ t. proper t) (tableOf (now second) m) ≡ true) ⌝ }
-    requires { ⌜ (4096 ≤ length (now rows)) × (pairsLength ≤ length (now pairs)) ⌝ }
-    ensures { λ r. ⌜ Wrote (markedPairs (now (first .entry)) n (now (second .entry)) m (now (rows .entry))) 0 r (now (pairs .entry)) (now (pairs .exit)) ⌝ }
-{
-    let mut other_lefts = [0u16; tables::MOST_TRIANGLES];
-    let mut other_tops = [0u16; tables::MOST_TRIANGLES];
-    let mut other_rights = [0u16; tables::MOST_TRIANGLES];
-    let mut other_bottoms = [0u16; tables::MOST_TRIANGLES];
-    boxes::put_boxes(
-        second,
-        m,
-        &mut other_lefts,
-        &mut other_tops,
-        &mut other_rights,
-        &mut other_bottoms,
-    );
-    let mut near = [0usize; tables::MOST_TRIANGLES];
-    pair_rows::put_rows(
-        first,
-        n,
-        second,
-        m,
-        lefts,
-        tops,
-        rights,
-        bottoms,
-        &other_lefts,
-        &other_tops,
-        &other_rights,
-        &other_bottoms,
-        rows,
-        &mut near,
-        pairs,
-    )
-}
 
 // Writes the marked pairs whose triangles have a common interior point, ascending: how many they are, or 4097 where they are more.
 pub fn put_pairs(
@@ -80,8 +29,9 @@ pub fn put_pairs(
     let mut tops = [0u16; tables::MOST_TRIANGLES];
     let mut rights = [0u16; tables::MOST_TRIANGLES];
     let mut bottoms = [0u16; tables::MOST_TRIANGLES];
-    boxes::put_boxes(first, n, &mut lefts, &mut tops, &mut rights, &mut bottoms);
-    put_boxed(
+    boxes::put_boxes(second, m, &mut lefts, &mut tops, &mut rights, &mut bottoms);
+    let mut near = [0usize; tables::MOST_TRIANGLES];
+    pair_rows::put_rows(
         first,
         n,
         second,
@@ -91,6 +41,7 @@ pub fn put_pairs(
         &rights,
         &bottoms,
         rows,
+        &mut near,
         pairs,
     )
 }

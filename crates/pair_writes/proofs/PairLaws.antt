@@ -18,11 +18,13 @@ use Rattle.lists.proofs.FilterLaws.{filter-pass, filter-fail, filter-append, fi
 use Rattle.lists.proofs.FlatMapLaws.{flatMap-append}
 use Rattle.lists.proofs.MemberLaws.{filter-to}
 use Rattle.lists.proofs.IndexLaws.{upTo-suc}
-use Rattle.chart_spec.specs.Table.{maxTriangles}
+use Rattle.lists.proofs.CompactLaws.{compact-skip}
+use Rattle.plane.specs.Triangle.{proper}
+use Rattle.plane.specs.Box.{Box, triangleBox}
+use Rattle.chart_spec.specs.Table.{maxTriangles, triangleAt}
 use Rattle.chart_spec.specs.Overlay.{maxPairs}
-use Rattle.boxes.specs.Boxes.{clear, boxAt, BoxedTable}
+use Rattle.boxes.specs.Boxes.{clear, boxAt, boxesOverlap, BoxedTable}
 use Rattle.boxes.proofs.BoxesLaws.{boxes-apart}
-use Rattle.boxes.proofs.CompactLaws.{compact-skip}
 use Rattle.pair_writes.specs.Pairs.{meetsAt, pairIf, nearPairs, rowPairs, markedPairs, Wrote, EachTriangle}
 use Rattle.row_candidates.specs.RowCandidates.{markedAt, isNear, NearInRow}
 use Rattle.pair_writes.proofs.WroteLaws.{wrote-none, wrote-join}
@@ -74,35 +76,37 @@ last-fails false b = refl
 
 -- ---- the pairs of a row
 
-module _ {first ls ts rs bs second ls′ ts′ rs′ bs′ rows near : List ℕ} {m i d : ℕ} (p : BoxedTable first ls ts rs bs (i + 1))
-    (q : BoxedTable second ls′ ts′ rs′ bs′ m) (few : m ≤ maxTriangles) (n : NearInRow ls ts rs bs ls′ ts′ rs′ bs′ rows m i near maxTriangles d) (room : d ≤ length near) where
+module _ (first rows : List ℕ) (i : ℕ) {second ls ts rs bs near : List ℕ} {m d : ℕ} {b : Box} (o : proper (triangleAt first i) ≡ true) (e : b ≡ triangleBox (triangleAt first i))
+    (q : BoxedTable second ls ts rs bs m) (few : m ≤ maxTriangles) (n : NearInRow b (boxAt ls ts rs bs) rows m i near maxTriangles d) (room : d ≤ length near) where
   -- each candidate is a triangle of the second table
   pub near-each : EachTriangle second near d
   near-each k h =
       let x = getD near k 0 in
-      let f : ℕ → Bool = λ j. isNear ls ts rs bs ls′ ts′ rs′ bs′ rows m i j in
+      let box = boxAt ls ts rs bs in
+      let f : ℕ → Bool = λ j. isNear b box rows m i j in
       let member = rw (getD-take d near k 0 h) at (getD-member (take d near) k 0 (rw (length-take-le d near room) h)) in
       let passes = filter-to f (upTo maxTriangles) (subst (λ l. List·Memᴰ x l) (n .listed) member) .1 in
-      let below : x < m = reflects-and (reflects-test (markedAt rows i x && not (clear (boxAt ls ts rs bs i) (boxAt ls′ ts′ rs′ bs′ x)))) (reflects-ltb x m) .to passes .1 in
+      let below : x < m = reflects-and (reflects-test (markedAt rows i x && boxesOverlap b box x)) (reflects-ltb x m) .to passes .1 in
       (omega arith, omega (arith, q .rows))
 
   -- among triangles that have a common interior point with it, the candidates are the marked ones
-  same-test : (j : ℕ) → j < m → meetsAt first second i j && isNear ls ts rs bs ls′ ts′ rs′ bs′ rows m i j ≡ meetsAt first second i j && markedAt rows i j
+  same-test : (j : ℕ) → j < m → meetsAt first second i j && isNear b (boxAt ls ts rs bs) rows m i j ≡ meetsAt first second i j && markedAt rows i j
   same-test j h =
-      passes-same (clear (boxAt ls ts rs bs i) (boxAt ls′ ts′ rs′ bs′ j)) (meetsAt first second i j) (markedAt rows i j) (ltb j m)
-      (λ c. boxes-apart p q i j (omega arith) h c) (lt-ltb j m h)
+      passes-same (clear b (boxAt ls ts rs bs j)) (meetsAt first second i j) (markedAt rows i j) (ltb j m)
+      (λ c. boxes-apart (triangleAt first i) o e q j h c) (lt-ltb j m h)
 
-  over : (k : ℕ) → k < maxTriangles - m → meetsAt first second i (m + k) && isNear ls ts rs bs ls′ ts′ rs′ bs′ rows m i (m + k) ≡ false
+  over : (k : ℕ) → k < maxTriangles - m → meetsAt first second i (m + k) && isNear b (boxAt ls ts rs bs) rows m i (m + k) ≡ false
   over k h =
-      ap (λ b. meetsAt first second i (m + k) && (markedAt rows i (m + k) && not (clear (boxAt ls ts rs bs i) (boxAt ls′ ts′ rs′ bs′ (m + k))) && b)) (le-ltb (m + k) m (omega arith))
-      ∙ last-fails (meetsAt first second i (m + k)) (markedAt rows i (m + k) && not (clear (boxAt ls ts rs bs i) (boxAt ls′ ts′ rs′ bs′ (m + k))))
+      let box = boxAt ls ts rs bs in
+      ap (λ l. meetsAt first second i (m + k) && (markedAt rows i (m + k) && boxesOverlap b box (m + k) && l)) (le-ltb (m + k) m (omega arith))
+      ∙ last-fails (meetsAt first second i (m + k)) (markedAt rows i (m + k) && boxesOverlap b box (m + k))
 
   -- so they give the pairs of the row
   row-pairs : nearPairs first second i (take d near) ≡ rowPairs first second m rows i
   unfolding nearPairs rowPairs
   row-pairs =
       let meets : ℕ → Bool = λ j. meetsAt first second i j in
-      let test : ℕ → Bool = λ j. isNear ls ts rs bs ls′ ts′ rs′ bs′ rows m i j in
+      let test : ℕ → Bool = λ j. isNear b (boxAt ls ts rs bs) rows m i j in
       ap (map (λ j. record { i = i; j = j }))
       (ap (filter meets) (n .listed)
       ∙ filter-both meets test (upTo maxTriangles)

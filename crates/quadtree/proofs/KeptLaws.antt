@@ -1,14 +1,14 @@
 -- The corners that are kept as one number each: their coordinates are those of the table.
 -- Assumes nothing.
-use mathlib.Core.Path.{_≡_, refl, sym, _∙_, ap, ap₂}
+use mathlib.Core.Path.{_≡_, refl, sym, _∙_, ap, ap₂, subst}
 use mathlib.Core.Bool.{true}
 use mathlib.Core.List.{List, [], _∷_, map, flatMap}
-use Prim.Native.Nat.{ℕ, _+_, _*_, _/_, _%_, _≤_, _<_}
+use Prim.Native.Nat.{ℕ, zero, suc, _+_, _*_, _-_, _/_, _%_, _≤_, _<_}
 use native.Mathlib.Omega.{arith}
 use lib.ListN.{length, getD, take}
-use lib.Seq.{sets, getD-take}
+use lib.Seq.{sets}
 use Rattle.lists.specs.Lists.{all, upTo}
-use Rattle.lists.proofs.ListsLaws.{Every, every-uncons, getD-stride, sets-length, upTo-to}
+use Rattle.lists.proofs.ListsLaws.{Every, every-uncons, getD-stride, upTo-to}
 use Rattle.plane.specs.declared.Point.{Point}
 use Rattle.plane.specs.Triangle.{proper}
 use Rattle.squares.specs.declared.Square.{Square}
@@ -20,9 +20,10 @@ use Rattle.shapes.proofs.ShapeLaws.{corners-length}
 use Rattle.lists.proofs.FlatMapLaws.{flatMap-length}
 use Rattle.side_masks.specs.Masks.{unpacked}
 use Rattle.candidates.specs.Stack.{Ready, Prepared}
+use Rattle.stopping.specs.Stopping.{triangleTotal}
 use Rattle.quadtree.specs.Build.{Candidates}
 use Rattle.lists.proofs.StoredLaws.{take-stored}
-use Rattle.quadtree.proofs.WholeWalk.{whole-start}
+use Rattle.quadtree.proofs.WholeWalk.{whole-start, whole-room}
 use Rattle.stopping.proofs.CoordinateLaws.{coordinates-length, coordinates-small, point-kept}
 
 -- ---- a table
@@ -38,13 +39,12 @@ map-agree : {A B : Type 0} (f g : A → B) (l : List A) → Every (λ a. f a ≡
 map-agree f g [] h = refl
 map-agree f g (a ∷ l) h = let e = every-uncons h in ap₂ _∷_ (e .0) (map-agree f g l (e .1))
 
-module _ (n : ℕ) (ns cs : List ℕ) (e : take (3 * n) cs ≡ flatMap (λ t. cornersOf t) (tableOf ns n)) (small : (k : ℕ) → getD ns k 0 < 65536) where
+module _ (n : ℕ) (ns cs : List ℕ) (e : cs ≡ flatMap (λ t. cornersOf t) (tableOf ns n)) (small : (k : ℕ) → getD ns k 0 < 65536) where
   -- corner m of triangle i
   corner : (i m : ℕ) → i < n → m < 3 → getD cs (3 * i + m) 0 ≡ getD (cornersOf (triangleAt ns i)) m 0
   unfolding numbered
   corner i m l lt =
-      sym (getD-take (3 * n) cs (3 * i + m) 0 (omega arith))
-      ∙ ap (λ r. getD r (3 * i + m) 0) e
+      ap (λ r. getD r (3 * i + m) 0) e
       ∙ getD-stride (λ t. cornersOf t) 3 corners-length (tableOf ns n) i m noTriangle (rw (tableOf-length ns n) l) lt
       ∙ ap (λ t. getD (cornersOf t) m 0) (numbered-at ns n i l)
 
@@ -66,23 +66,54 @@ module _ (n : ℕ) (ns cs : List ℕ) (e : take (3 * n) cs ≡ flatMap (λ t. co
   unfolding tableOf
   table-kept = map-agree (λ i. triangleAt (coordinates cs) i) (λ i. triangleAt ns i) (upTo n) (λ i m. triangle-kept i (upTo-to m))
 
+take-small : (b : ℕ) → 0 < b → (m : ℕ) (l : List ℕ) → ((k : ℕ) → getD l k 0 < b) → (k : ℕ) → getD (take m l) k 0 < b
+take-small b p zero l h k = p
+take-small b p (suc m) [] h k = p
+take-small b p (suc m) (x ∷ l) h zero = h 0
+take-small b p (suc m) (x ∷ l) h (suc k) = take-small b p m l (λ j. h (suc j)) k
+
+-- the corners are stored, and the list ends with them
 module _ (n : ℕ) (ns cs cs₁ : List ℕ) (ec : cs₁ ≡ sets cs 0 (flatMap (λ t. cornersOf t) (tableOf ns n))) (hc : 3 * n ≤ length cs)
     (small : (k : ℕ) → getD ns k 0 < 65536) where
-  -- once the corners are stored
-  pub stored-kept : tableOf (coordinates cs₁) n ≡ tableOf ns n
-  stored-kept =
-      let s = flatMap-length (λ t. cornersOf t) 3 corners-length (tableOf ns n) ∙ ap (λ m. 3 * m) (tableOf-length ns n) in
-      table-kept n ns cs₁ (ap (take (3 * n)) ec ∙ take-stored cs (flatMap (λ t. cornersOf t) (tableOf ns n)) (3 * n) s hc) small
+  abbrev kept : List ℕ
+  kept = take (3 * n - 0) cs₁
+
+  stored-length : length (flatMap (λ t. cornersOf t) (tableOf ns n)) ≡ 3 * n
+  stored-length = flatMap-length (λ t. cornersOf t) 3 corners-length (tableOf ns n) ∙ ap (λ m. 3 * m) (tableOf-length ns n)
+
+  kept-corners : kept ≡ flatMap (λ t. cornersOf t) (tableOf ns n)
+  kept-corners =
+      let z : 3 * n - 0 ≡ 3 * n = omega arith in
+      ap (λ m. take m cs₁) z ∙ ap (take (3 * n)) ec ∙ take-stored cs (flatMap (λ t. cornersOf t) (tableOf ns n)) (3 * n) stored-length hc
+
+  kept-length : length kept ≡ 3 * n
+  kept-length = ap length kept-corners ∙ stored-length
+
+  kept-total : triangleTotal kept ≡ n
+  kept-total = omega (arith, kept-length)
+
+  same-table : tableOf (coordinates kept) n ≡ tableOf ns n
+  same-table = table-kept n ns kept kept-corners small
+
+  -- the table of the list
+  pub stored-kept : tableOf (coordinates kept) (triangleTotal kept) ≡ tableOf ns n
+  stored-kept = ap (tableOf (coordinates kept)) kept-total ∙ same-table
 
   -- all that the recursion asks at the whole square
   pub kept-start : (sh sh₁ o o₁ l l₁ : List ℕ) (s : Square)
       → sh₁ ≡ sets sh 0 (flatMap (λ t. shapeOf t) (tableOf ns n)) → o₁ ≡ sets o 0 (flatMap (λ t. offsetsOf t) (tableOf ns n)) → l₁ ≡ sets l 0 (upTo n)
       → s ≡ wholeSquare → 28 * n ≤ length sh → 3 * n ≤ length o → 18 * n ≤ length l
       → ((k : ℕ) → getD cs₁ k 0 < 4294967296) → all (λ t. proper t) (tableOf ns n) ≡ true
-      → Ready n 0 n (coordinates cs₁) sh₁ o₁ l₁ × (Prepared n (coordinates cs₁) sh₁ o₁ × (Candidates n 0 n (coordinates cs₁) l₁ s × Aligned s))
+      → Ready (triangleTotal kept) 0 n (coordinates kept) sh₁ o₁ l₁
+      × (Prepared (triangleTotal kept) (coordinates kept) sh₁ o₁ × (Candidates (triangleTotal kept) 0 n (coordinates kept) l₁ s × Aligned s))
   kept-start sh sh₁ o o₁ l l₁ s es eo el e hs ho hl wide good =
-      let k = sym stored-kept in
-      whole-start n (coordinates cs₁) sh sh₁ o o₁ l l₁ s
+      let k = sym same-table in
+      let cs₂ = kept in
+      subst (λ m. Ready m 0 n (coordinates cs₂) sh₁ o₁ l₁ × (Prepared m (coordinates cs₂) sh₁ o₁ × (Candidates m 0 n (coordinates cs₂) l₁ s × Aligned s))) (sym kept-total)
+      (whole-start n (coordinates cs₂) sh sh₁ o o₁ l l₁ s
       (es ∙ ap (λ t. sets sh 0 (flatMap (λ x. shapeOf x) t)) k) (eo ∙ ap (λ t. sets o 0 (flatMap (λ x. offsetsOf x) t)) k) el e
-      (omega (arith, coordinates-length cs₁, sets-length cs 0 (flatMap (λ t. cornersOf t) (tableOf ns n)) ec)) hs ho hl
-      (coordinates-small cs₁ wide) (ap (all (λ t. proper t)) stored-kept ∙ good)
+      (omega (arith, coordinates-length cs₂, kept-length)) hs ho hl
+      (coordinates-small cs₂ (take-small 4294967296 (omega arith) (3 * n - 0) cs₁ wide)) (ap (all (λ t. proper t)) same-table ∙ good))
+
+  pub kept-room : (l l₁ : List ℕ) (s : Square) → l₁ ≡ sets l 0 (upTo n) → s ≡ wholeSquare → 18 * n ≤ length l → n + (17 - s .level) * triangleTotal kept ≤ length l₁
+  kept-room l l₁ s el e hl = subst (λ m. n + (17 - s .level) * m ≤ length l₁) (sym kept-total) (whole-room n ns l l₁ s el e hl)

@@ -16,12 +16,11 @@ use Rattle.lists.specs.Lists.{filter}
 use Rattle.lists.proofs.ListsLaws.{Every, getD-member, sets-length}
 use Rattle.lists.proofs.FlatMapLaws.{flatMap-append}
 use Rattle.lists.proofs.PartLaws.{part-length, part-every}
-use Rattle.orthtree.specs.Entries.{Entry, span}
+use Rattle.orthtree.specs.Entries.{Entry}
 use Rattle.plane.specs.Box.{Box, triangleMeets}
 use Rattle.squares.specs.declared.Square.{Square}
 use Rattle.squares.specs.Square.{quarters, topLeft, topRight, bottomLeft, bottomRight, squareKey, squareBox, Aligned}
-use Rattle.squares.proofs.SquareLaws.{quarters-aligned, quarters-level, quarter-key}
-use Rattle.squares.proofs.ZOrderLaws.{zOrder-bound}
+use Rattle.squares.proofs.SquareLaws.{quarters-aligned, quarters-level}
 use Rattle.chart_spec.specs.Table.{tableOf, numbered}
 use Rattle.chart_spec.specs.Cells.{commonEnd, sidesMeeting, stopped, trianglesMeeting, orMark, entryOf, cellEntries, entriesIn}
 use Rattle.chart_laws.proofs.EntriesOfTable.{entriesIn-stopped, entriesIn-split, meeting-narrow, quarter-within}
@@ -56,10 +55,6 @@ module _ (n : ℕ) (ns sh o : List ℕ) (h : Prepared n ns sh o) (s : Square) (p
       (rw (tableOf-length ns n) (part-every l f t (r .order) (r .within) (λ k. k < n) 0 (r .held) i m))
       (corners-small ns n (h .small)) (squareBox s) (framed s p))
       ∙ c .among
-
-  pub key-small : squareKey s < 4294967296
-  unfolding squareKey
-  key-small = zOrder-bound (record { x = s .x; y = s .y })
 
   -- the packed entries of the square as a cell
   pub packed-cell : (head : ℕ) → head ≡ squareKey s * 4294967296 + s .level * 65536
@@ -121,9 +116,6 @@ module _ (n : ℕ) (ns sh o : List ℕ) (h : Prepared n ns sh o) (s : Square) (p
 
     pub quarter-level : (k : ℕ) → k < 4 → q k .level ≡ suc (s .level)
     quarter-level k lt = quarters-level s (q k) (in-quarters k lt)
-
-    pub quarter-first : (k : ℕ) → k < 4 → squareKey (q k) ≡ squareKey s + k * span 4 16 (suc (s .level))
-    quarter-first k lt = quarter-key s p lev k lt
 
     pub quarter-candidates : (f t : ℕ) (l : List ℕ) (k : ℕ) → k < 4 → t - f ≤ n → part f t l ≡ trianglesMeeting (tableOf ns n) s → Candidates n f t ns l (q k)
     quarter-candidates f t l k lt few e = record {

@@ -1,6 +1,7 @@
 // Building the quadtree of a table: one recursion on quarters writes the entries of its cells, packed into numbers, and stops as soon as there
 // are too many. A square looks only at the triangles that met its parent; a stack keeps the lists of the squares above.
 
+use quarters::KeyedSquare;
 use squares::Square;
 ghost use mathlib.Core.Path.{_≡_};
 ghost use mathlib.Core.Bool.{true};
@@ -14,6 +15,7 @@ ghost use Rattle.squares.specs.Square.{squareKey, quarters, Aligned};
 ghost use Rattle.chart_spec.specs.Table.{maxTriangles, numbersPerTriangle, tableOf};
 ghost use Rattle.chart_spec.specs.Cells.{entriesIn, entriesOf, maxEntries};
 ghost use Rattle.shapes.specs.Shape.{coordinates};
+ghost use Rattle.stopping.specs.Stopping.{triangleTotal};
 ghost use Rattle.leaves.specs.Packed.{packed};
 ghost use Rattle.candidates.specs.Stack.{Ready, Prepared};
 ghost use Rattle.quadtree.specs.Build.{Candidates, Built};
@@ -22,49 +24,34 @@ ghost use Rattle.quadtree.specs.Build.{Candidates, Built};
 // candidates from `from` up to `to` of the stack.
 fn build_square(
     corners: &[u32],
-    n: usize,
     shape: &[u16],
     offsets: &[u64],
     stack: &mut [u16],
     from: usize,
     to: usize,
-    s: Square,
-    key: u64,
+    s: KeyedSquare,
     out: &mut [u64],
     at: usize,
     most: usize,
 ) -> usize
-    requires { ⌜ Ready n from to (coordinates (now corners)) (now shape) (now offsets) (now stack) × (Prepared n (coordinates (now corners)) (now shape) (now offsets) × (Candidates n from to (coordinates (now corners)) (now stack) s × Aligned s)) ⌝ }
-    requires { ⌜ (key ≡ squareKey s) × ((to + (17 - s .level) * n ≤ length (now stack)) × ((most ≤ length (now out)) × ((most ≤ maxEntries) × (at ≤ most + 1)))) ⌝ }
-    ensures { λ r. ⌜ Built (entriesIn (tableOf (coordinates (now (corners .entry))) n) s) most at r to (now (out .entry)) (now (out .exit)) (now (stack .entry)) (now (stack .exit)) ⌝ }
+    requires { ⌜ Ready (triangleTotal (now corners)) from to (coordinates (now corners)) (now shape) (now offsets) (now stack) × (Prepared (triangleTotal (now corners)) (coordinates (now corners)) (now shape) (now offsets) × (Candidates (triangleTotal (now corners)) from to (coordinates (now corners)) (now stack) (s .square) × Aligned (s .square))) ⌝ }
+    requires { ⌜ (s .key ≡ squareKey (s .square)) × ((to + (17 - s .square .level) * triangleTotal (now corners) ≤ length (now stack)) × ((most ≤ length (now out)) × ((most ≤ maxEntries) × (at ≤ most + 1)))) ⌝ }
+    ensures { λ r. ⌜ Built (entriesIn (tableOf (coordinates (now (corners .entry))) (triangleTotal (now (corners .entry)))) (s .square)) most at r to (now (out .entry)) (now (out .exit)) (now (stack .entry)) (now (stack .exit)) ⌝ }
 {
     if most < at {
         return most + 1;
     }
-    let f = quarters::frame_of(s);
+    let square = s.square;
+    let f = quarters::frame_of(square);
     let top = candidates::narrow(shape, offsets, stack, from, to, f);
-    if stopping::is_stopped(corners, n, shape, offsets, stack, to, top, s, f) {
-        return leaves::put_leaf(stack, to, top, leaves::head_of(key, s.level), out, at, most);
+    if stopping::is_stopped(corners, shape, offsets, stack, to, top, square, f) {
+        let head = leaves::head_of(s.key, square.level);
+        return leaves::put_leaf(stack, to, top, head, out, at, most);
     }
-    let step = quarters::key_step(s.level);
-    let mut first = key;
     let mut next = at;
     for k in 0..4u32 {
-        next = build_square(
-            corners,
-            n,
-            shape,
-            offsets,
-            stack,
-            to,
-            top,
-            quarters::quarter(s, k),
-            first,
-            out,
-            next,
-            most,
-        );
-        first += step;
+        let q = quarters::keyed_quarter(s, k);
+        next = build_square(corners, shape, offsets, stack, to, top, q, out, next, most);
     }
     next
 }
@@ -87,16 +74,18 @@ pub fn build(
 {
     shape_tables::prepare(table, n, shape, offsets, corners);
     candidates::put_numbers(stack, n);
+    let whole = KeyedSquare {
+        square: Square::whole(),
+        key: 0,
+    };
     build_square(
-        corners,
-        n,
+        &corners[0..3 * n],
         shape,
         offsets,
         stack,
         0,
         n,
-        Square::whole(),
-        0,
+        whole,
         out,
         0,
         most,

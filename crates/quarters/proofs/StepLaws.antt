@@ -1,4 +1,4 @@
--- The key step from a quarter to the next one.
+-- Keys of squares, and the step from a quarter's key to the next one's.
 -- Assumes nothing.
 use mathlib.Core.Path.{_≡_, refl}
 use Prim.Native.Nat.{ℕ, zero, suc, _*_, _-_, _/_, _^_, _≤_, _<_}
@@ -6,8 +6,10 @@ use native.Mathlib.Nat.{pow-succ', mul-le-mul}
 use native.Mathlib.Omega.{arith}
 use lib.Pow.{pow-mono}
 use Rattle.orthtree.specs.Entries.{span}
-use Rattle.squares.specs.Square.{sideAt}
+use Rattle.squares.specs.declared.Square.{Square}
+use Rattle.squares.specs.Square.{sideAt, squareKey}
 use Rattle.squares.proofs.SideLaws.{shift-half}
+use Rattle.squares.proofs.ZOrderLaws.{zOrder-bound}
 
 squared : (m : ℕ) → 2 ^ m * 2 ^ m ≡ 4 ^ m
 squared zero = refl
@@ -19,3 +21,7 @@ key-step-is level h =
     let e = shift-half level h in
     let b : 2 ^ (16 - suc level) ≤ 2 ^ 15 = pow-mono {i = 16 - suc level} {j = 15} (omega arith) in
     (rw e (squared (16 - suc level)), rw e (mul-le-mul {n₂ = 32768} {m₂ = 32768} b b))
+
+pub key-small : (s : Square) → squareKey s < 4294967296
+unfolding squareKey
+key-small s = zOrder-bound (record { x = s .x; y = s .y })

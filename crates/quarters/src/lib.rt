@@ -1,14 +1,20 @@
-// The square of a cell as a frame, its quarters in their order, and how many keys a quarter covers.
+// The square of a cell as a frame, and its quarters in their order, each with its key.
 
 use shapes::Frame;
 use squares::Square;
 ghost use mathlib.Core.Path.{_≡_};
-ghost use Prim.Native.Nat.{suc, _+_, _*_, _-_, _≤_, _<_};
+ghost use Prim.Native.Nat.{suc, _+_, _*_, _≤_, _<_};
 ghost use lib.ListN.{getD};
 ghost use Rattle.plane.specs.Box.{Framed};
 ghost use Rattle.orthtree.specs.Entries.{span};
-ghost use Rattle.squares.specs.Square.{squareBox, quarters, Aligned};
+ghost use Rattle.squares.specs.Square.{squareKey, squareBox, quarters, Aligned};
 ghost use Rattle.shapes.specs.Shape.{boxOf};
+
+// A square with its key.
+pub struct KeyedSquare {
+    pub square: Square,
+    pub key: u64,
+}
 
 // The square with its whole border.
 pub fn frame_of(s: Square) -> Frame
@@ -27,7 +33,7 @@ pub fn frame_of(s: Square) -> Frame
 }
 
 // Quarter k of a square, in their order.
-pub fn quarter(s: Square, k: u32) -> Square
+fn quarter(s: Square, k: u32) -> Square
     requires { ⌜ (k < 4) × ((s .level < 16) × ((s .x ≤ 65536) × (s .y ≤ 65536))) ⌝ }
     ensures { λ q. ⌜ q ≡ getD (quarters s) k s ⌝ }
 {
@@ -44,10 +50,23 @@ pub fn quarter(s: Square, k: u32) -> Square
 }
 
 // How many keys a quarter of a square of this level covers: 4^(15 - level).
-pub fn key_step(level: u32) -> u64
+fn key_step(level: u32) -> u64
     requires { ⌜ level < 16 ⌝ }
     ensures { λ r. ⌜ (r ≡ span 4 16 (suc level)) × (r ≤ 1073741824) ⌝ }
 {
     let side = 32768u64 >> level;
     side * side
+}
+
+// Quarter k of a square with its key.
+pub fn keyed_quarter(s: KeyedSquare, k: u32) -> KeyedSquare
+    requires { ⌜ (Aligned (s .square) × (s .key ≡ squareKey (s .square))) × ((s .square .level < 16) × (k < 4)) ⌝ }
+    ensures { λ q. ⌜ (q .square ≡ getD (quarters (s .square)) k (s .square)) × (q .key ≡ squareKey (q .square)) ⌝ }
+{
+    let square = s.square;
+    let step = key_step(square.level);
+    KeyedSquare {
+        square: quarter(square, k),
+        key: s.key + (k as u64) * step,
+    }
 }

@@ -2,6 +2,7 @@
 
 use answers::Overlaid;
 use call_lists::Counts;
+ghost use mathlib.Core.Path.{_≡_};
 ghost use Rattle.call_spec.specs.Buffers.{chartOf};
 ghost use Rattle.answers.specs.Outcomes.{overlaidOf};
 ghost use Rattle.replay.specs.Replay.{Replayed};
@@ -11,6 +12,16 @@ pub struct ReplayAnswer {
     pub first: Counts,
     pub second: Counts,
     pub overlaid: Overlaid,
+}
+
+fn answer_of(first: Counts, second: Counts, overlaid: Overlaid) -> ReplayAnswer
+    ensures { λ r. ⌜ r ≡ record { first = first; second = second; overlaid = overlaid } ⌝ }
+{
+    ReplayAnswer {
+        first,
+        second,
+        overlaid,
+    }
 }
 
 // Begins both charts with a load of the empty table, makes the calls of the two lists on them, and lays the one over the other.
@@ -50,9 +61,5 @@ pub fn replay(
         second.entries,
         pairs,
     );
-    ReplayAnswer {
-        first,
-        second,
-        overlaid,
-    }
+    answer_of(first, second, overlaid)
 }

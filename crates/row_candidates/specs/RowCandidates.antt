@@ -1,26 +1,22 @@
 -- The marked places of a row whose boxes overlap.
 -- Assumes nothing.
-use mathlib.Core.Path.{_≡_}
-use mathlib.Core.Bool.{Bool, not, _&&_}
+use mathlib.Core.Bool.{Bool, _&&_}
 use mathlib.Core.List.{List}
-use Prim.Native.Nat.{ℕ, _+_, _*_, _≤_}
+use Prim.Native.Nat.{ℕ, _+_, _*_}
 use lib.Dec.{ltb}
-use lib.ListN.{take}
-use Rattle.lists.specs.Lists.{filter, upTo}
+use Rattle.plane.specs.Box.{Box}
 use Rattle.chart_spec.specs.Table.{maxTriangles}
-use Rattle.boxes.specs.Boxes.{clear, boxAt}
+use Rattle.boxes.specs.Boxes.{boxesOverlap, Compacted}
 use Rattle.bitsets.specs.Bits.{hasBit}
 
 -- triangles i and j are marked
 abbrev pub markedAt : List ℕ → ℕ → ℕ → Bool
 markedAt rows i j = hasBit rows (maxTriangles * i + j)
 
--- triangles i and j may have a common interior point: they are marked, and their boxes are not clear
-abbrev pub isNear : List ℕ → List ℕ → List ℕ → List ℕ → List ℕ → List ℕ → List ℕ → List ℕ → List ℕ → ℕ → ℕ → ℕ → Bool
-isNear ls ts rs bs ls′ ts′ rs′ bs′ rows m i j =
-    markedAt rows i j && not (clear (boxAt ls ts rs bs i) (boxAt ls′ ts′ rs′ bs′ j)) && ltb j m
+-- triangle j may have a common interior point with triangle i, whose box is b: it is marked, and its box overlaps b
+abbrev pub isNear : Box → (ℕ → Box) → List ℕ → ℕ → ℕ → ℕ → Bool
+isNear b box rows m i j = markedAt rows i j && boxesOverlap b box j && ltb j m
 
 -- the first c numbers of a list are those below j, of row i
-pub record NearInRow (ls ts rs bs ls′ ts′ rs′ bs′ rows : List ℕ) (m i : ℕ) (near : List ℕ) (j c : ℕ) : Type 0 where
-  pub few : c ≤ j
-  pub listed : take c near ≡ filter (λ k. isNear ls ts rs bs ls′ ts′ rs′ bs′ rows m i k) (upTo j)
+abbrev pub NearInRow : Box → (ℕ → Box) → List ℕ → ℕ → ℕ → List ℕ → ℕ → ℕ → Type 0
+NearInRow b box rows m i near j c = Compacted (λ k. isNear b box rows m i k) near j c

@@ -3,8 +3,9 @@
 use mathlib.Core.Path.{_≡_}
 use mathlib.Core.Bool.{Bool, _||_}
 use mathlib.Core.List.{List, [], flatMap}
-use Prim.Native.Nat.{ℕ, _≤_}
+use Prim.Native.Nat.{ℕ, _/_, _≤_}
 use lib.Dec.{eqb}
+use lib.ListN.{length}
 use Rattle.lists.specs.Lists.{all}
 use Rattle.plane.specs.declared.Point.{Point}
 use Rattle.plane.specs.Triangle.{Side, sides}
@@ -13,6 +14,10 @@ use Rattle.chart_spec.specs.Table.{triangleAt}
 use Rattle.chart_spec.specs.Cells.{isEnd}
 use Rattle.candidates.specs.Stack.{part}
 use Rattle.side_masks.specs.Masks.{maskOf, masked, sidesMet}
+
+-- how many triangles have their corners in a list, three for each
+abbrev pub triangleTotal : List ℕ → ℕ
+triangleTotal corners = length corners / 3
 
 -- the sides of triangle i that meet the box, where the triangle does
 unfoldable pub sidesAt : List ℕ → List ℕ → List ℕ → Box → ℕ → List Side

@@ -4,8 +4,8 @@ use shapes::Frame;
 use squares::Square;
 ghost use mathlib.Core.Path.{_≡_};
 ghost use mathlib.Core.Bool.{true};
-ghost use mathlib.Core.List.{flatMap};
-ghost use Prim.Native.Nat.{_+_, _*_, _-_, _<_};
+ghost use mathlib.Core.List.{List, flatMap};
+ghost use Prim.Native.Nat.{ℕ, _+_, _*_, _<_};
 ghost use lib.ListN.{getD};
 ghost use Rattle.plane.specs.Box.{Framed};
 ghost use Rattle.squares.specs.Square.{squareBox, Aligned};
@@ -14,7 +14,7 @@ ghost use Rattle.chart_spec.specs.Cells.{commonEnd, stopped, trianglesMeeting};
 ghost use Rattle.shapes.specs.Shape.{coordinates, boxOf};
 ghost use Rattle.candidates.specs.Stack.{part, Rows, Fits, Ready, Prepared};
 ghost use Rattle.side_masks.specs.Masks.{maskOf, unpacked, sidesMet};
-ghost use Rattle.stopping.specs.Stopping.{sidesAt, eitherEnd, Skipped, Tested};
+ghost use Rattle.stopping.specs.Stopping.{sidesAt, triangleTotal, eitherEnd, Skipped, Tested};
 
 // A candidate: its place on the stack, and the mask of its sides that meet the frame.
 pub struct Met {
@@ -23,17 +23,9 @@ pub struct Met {
 }
 
 // The first candidate, from `from` up to `to`, of which some side meets the frame: its place, or `to`, and its mask.
-fn first_met(
-    corners: &[u32],
-    shape: &[u16],
-    offsets: &[u64],
-    stack: &[u16],
-    from: usize,
-    to: usize,
-    f: Frame,
-) -> Met
+fn first_met(shape: &[u16], offsets: &[u64], stack: &[u16], from: usize, to: usize, f: Frame) -> Met
     requires { ⌜ Fits from to (now shape) (now offsets) (now stack) × Framed (boxOf f) ⌝ }
-    ensures { λ r. ⌜ Skipped (λ i. sidesAt (coordinates (now (corners .entry))) (now (shape .entry)) (now (offsets .entry)) (boxOf f) i) (now (stack .entry)) from to (r .at) ⌝ }
+    ensures { λ r. ⌜ ((table : List ℕ) → Skipped (λ i. sidesAt table (now (shape .entry)) (now (offsets .entry)) (boxOf f) i) (now (stack .entry)) from to (r .at)) ⌝ }
     ensures { λ r. ⌜ (r .at < to → (r .mask ≡ maskOf (sidesMet (now (shape .entry)) (now (offsets .entry)) (boxOf f) (getD (now (stack .entry)) (r .at) 0))) × ((0 < r .mask) × (r .mask < 8))) ⌝ }
 {
     let mut k = from;
@@ -98,7 +90,7 @@ fn common_end(
     requires { ⌜ Fits from to (now shape) (now offsets) (now stack) × (Framed (boxOf f) × Rows 3 from to (now corners) (now stack)) ⌝ }
     ensures { λ o. ⌜ o ≡ commonEnd (flatMap (λ i. sidesAt (coordinates (now (corners .entry))) (now (shape .entry)) (now (offsets .entry)) (boxOf f) i) (part from to (now (stack .entry)))) ⌝ }
 {
-    let met = first_met(corners, shape, offsets, stack, from, to, f);
+    let met = first_met(shape, offsets, stack, from, to, f);
     let k = met.at;
     if k < to {
         let i = numbers::index(stack[k]);
@@ -118,7 +110,6 @@ fn common_end(
 // Level 16, or some point is an end of every side that meets the square, whose triangles stand from `from` up to `to`.
 pub fn is_stopped(
     corners: &[u32],
-    n: usize,
     shape: &[u16],
     offsets: &[u64],
     stack: &[u16],
@@ -127,9 +118,9 @@ pub fn is_stopped(
     s: Square,
     f: Frame,
 ) -> bool
-    requires { ⌜ Ready n from to (coordinates (now corners)) (now shape) (now offsets) (now stack) × (Prepared n (coordinates (now corners)) (now shape) (now offsets) × (Aligned s × ((boxOf f ≡ squareBox s) × Framed (boxOf f)))) ⌝ }
-    requires { ⌜ part from to (now stack) ≡ trianglesMeeting (tableOf (coordinates (now corners)) n) s ⌝ }
-    ensures { λ o. ⌜ o ≡ stopped (tableOf (coordinates (now (corners .entry))) n) s ⌝ }
+    requires { ⌜ Ready (triangleTotal (now corners)) from to (coordinates (now corners)) (now shape) (now offsets) (now stack) × (Prepared (triangleTotal (now corners)) (coordinates (now corners)) (now shape) (now offsets) × (Aligned s × ((boxOf f ≡ squareBox s) × Framed (boxOf f)))) ⌝ }
+    requires { ⌜ part from to (now stack) ≡ trianglesMeeting (tableOf (coordinates (now corners)) (triangleTotal (now corners))) s ⌝ }
+    ensures { λ o. ⌜ o ≡ stopped (tableOf (coordinates (now (corners .entry))) (triangleTotal (now (corners .entry)))) s ⌝ }
 {
     if s.level == 16 {
         return true;

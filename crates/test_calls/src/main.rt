@@ -55,30 +55,20 @@ fn step_chart(
         let none = [0u16; 1];
         return test_changes::say_change(l, chart, what, &none, b, c, table, keys, levels, items);
     }
-    if what == 6 {
-        test_support::put(chart, buffer, a, b, table, keys, levels, items);
-        return l;
-    }
     if what == 7 {
         return test_support::lend(l, buffer, a);
     }
     if what == 8 {
         return test_support::with_counts(l, b as usize, c as usize);
     }
-    if what == 9 {
+    if what == 6 {
+        test_support::put(chart, buffer, a, b, table, keys, levels, items);
+    } else if what == 9 {
         test_support::fill(chart, buffer, b, table, keys, levels, items);
-        return l;
+    } else {
+        let p = test_changes::point(b, c);
+        test_readers::say_answer(l, chart, what, p, table, keys, levels, items);
     }
-    test_readers::say_answer(
-        l,
-        chart,
-        what,
-        test_changes::point(b, c),
-        table,
-        keys,
-        levels,
-        items,
-    );
     l
 }
 

@@ -26,30 +26,6 @@ mul-result-4 c = search needs
 shared-slice-read-result-4 : tie.Need-shared-slice-read-result-4
 shared-slice-read-result-4 c = search needs
 
-mul-result-5 : tie.Need-mul-result-5
-mul-result-5 c = search needs
-
-shared-slice-read-result-5 : tie.Need-shared-slice-read-result-5
-shared-slice-read-result-5 c = search needs
-
-mul-result-6 : tie.Need-mul-result-6
-mul-result-6 c = search needs
-
-shared-slice-read-result-6 : tie.Need-shared-slice-read-result-6
-shared-slice-read-result-6 c = search needs
-
-mul-result-7 : tie.Need-mul-result-7
-mul-result-7 c = search needs
-
-shared-slice-read-result-7 : tie.Need-shared-slice-read-result-7
-shared-slice-read-result-7 c = search needs
-
-mul-result-8 : tie.Need-mul-result-8
-mul-result-8 c = search needs
-
-shared-slice-read-result-8 : tie.Need-shared-slice-read-result-8
-shared-slice-read-result-8 c = search needs
-
 returns : tie.Need-returns
 returns c = search needs
 
@@ -65,12 +41,4 @@ is-clear-spec =
     shared-slice-read-result-3
     mul-result-4
     shared-slice-read-result-4
-    mul-result-5
-    shared-slice-read-result-5
-    mul-result-6
-    shared-slice-read-result-6
-    mul-result-7
-    shared-slice-read-result-7
-    mul-result-8
-    shared-slice-read-result-8
     returns)

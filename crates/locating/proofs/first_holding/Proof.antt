@@ -12,11 +12,11 @@ use Rattle.locating.proofs.first_holding.Statement.{statement}
 use Rattle.locating.proofs.first_holding.Tie as tie
 
 abbrev Inv-loop : tie.InvT-loop
-Inv-loop table n list p k₀ k =
+Inv-loop table list p k₀ k =
     (k ≤ length list) × (first (λ i. holds (triangleAt table i) p) list ≡ first (λ i. holds (triangleAt table i) p) (drop k list))
 
 abbrev μ-loop : tie.MeasureT-loop
-μ-loop table n list p k₀ k = length list - k
+μ-loop table list p k₀ k = length list - k
 
 loop-holds : tie.Need-loop-holds Inv-loop μ-loop
 loop-holds c = (omega arith, refl)
@@ -33,7 +33,7 @@ index-requires c κs = search needs
 triangle-at-requires : tie.Need-triangle-at-requires Inv-loop μ-loop
 triangle-at-requires c κs =
     let top = c .before .before .before .before .before .before in
-    omega (arith, top .pre .1 (c .before .before .before .loop .k) (c .before .before .loop-test .taken))
+    omega (arith, top .pre (c .before .before .before .loop .k) (c .before .before .loop-test .taken))
 
 holds-requires : tie.Need-holds-requires Inv-loop μ-loop
 holds-requires c κs = search needs

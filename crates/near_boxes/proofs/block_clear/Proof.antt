@@ -4,25 +4,25 @@ use native.Mathlib.Omega.{arith}
 use borrow.Author.Needs.{needs}
 use Rattle.lists.specs.Lists.{all, upTo}
 use Rattle.lists.proofs.IndexLaws.{all-below-none, all-below-step}
-use Rattle.boxes.specs.Boxes.{clear, boxAt}
+use Rattle.boxes.specs.Boxes.{clear, boundsBox, boxAt}
 use Rattle.near_boxes.specs.Near.{blockSize}
 use Rattle.boxes.proofs.BoxesLaws.{places-fewer}
 use Rattle.near_boxes.proofs.block_clear.Statement.{statement}
 use Rattle.near_boxes.proofs.block_clear.Tie as tie
 
 abbrev Inv-loop : tie.InvT-loop
-Inv-loop lefts tops rights bottoms i j o₀ k₀ o k =
+Inv-loop b lefts tops rights bottoms j o₀ k₀ o k =
     (k ≤ blockSize)
-    × (o ≡ all (λ n. clear (boxAt lefts tops rights bottoms i) (boxAt lefts tops rights bottoms (j + n))) (upTo k))
+    × (o ≡ all (λ n. clear (boundsBox b) (boxAt lefts tops rights bottoms (j + n))) (upTo k))
 
 abbrev μ-loop : tie.MeasureT-loop
-μ-loop lefts tops rights bottoms i j o₀ k₀ o k = blockSize - k
+μ-loop b lefts tops rights bottoms j o₀ k₀ o k = blockSize - k
 
 loop-holds : tie.Need-loop-holds Inv-loop μ-loop
 loop-holds c =
     let a = c .before .before .before .before .args in
     let box = boxAt (a .lefts .now) (a .tops .now) (a .rights .now) (a .bottoms .now) in
-    (omega arith, sym (all-below-none (λ n. clear (box (a .i)) (box (a .j + n)))))
+    (omega arith, sym (all-below-none (λ n. clear (boundsBox (a .b)) (box (a .j + n)))))
 
 add-is-clear : tie.Need-add-is-clear Inv-loop μ-loop
 add-is-clear c = search needs
@@ -30,10 +30,8 @@ add-is-clear c = search needs
 is-clear-requires : tie.Need-is-clear-requires Inv-loop μ-loop
 is-clear-requires c κs =
     let top = c .before .before .before .before .before .before in
-    let a = top .args in (
-      top .pre .0,
-      places-fewer (a .lefts .now) (a .tops .now) (a .rights .now) (a .bottoms .now) (a .j + c .before .loop .k + 1) (a .j + blockSize) (omega arith) (top .pre .1),
-    )
+    let a = top .args in
+    places-fewer (a .lefts .now) (a .tops .now) (a .rights .now) (a .bottoms .now) (a .j + c .before .loop .k + 1) (a .j + blockSize) (omega arith) (top .pre)
 
 add-k : tie.Need-add-k Inv-loop μ-loop
 add-k c = search needs
@@ -46,13 +44,13 @@ loop-again c =
     let a = c .before .before .before .before .before .before .before .args in
     let l = c .before .before .loop in
     let box = boxAt (a .lefts .now) (a .tops .now) (a .rights .now) (a .bottoms .now) in
-    (omega arith, all-below-step (λ n. clear (box (a .i)) (box (a .j + n))) (l .k) (l .inv .1) (c .is-clear .ensures))
+    (omega arith, all-below-step (λ n. clear (boundsBox (a .b)) (box (a .j + n))) (l .k) (l .inv .1) (c .is-clear .ensures))
 
 returns : tie.Need-returns Inv-loop μ-loop
 returns c =
     let a = c .before .before .before .before .before .before .args in
     let box = boxAt (a .lefts .now) (a .tops .now) (a .rights .now) (a .bottoms .now) in
-    c .before .loop .inv .1 ∙ ap (λ k. all (λ n. clear (box (a .i)) (box (a .j + n))) (upTo k)) (omega arith)
+    c .before .loop .inv .1 ∙ ap (λ k. all (λ n. clear (boundsBox (a .b)) (box (a .j + n))) (upTo k)) (omega arith)
 
 pub block-clear-spec : {M : Type 1} → statement M
 block-clear-spec =

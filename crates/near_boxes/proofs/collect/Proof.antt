@@ -3,38 +3,31 @@ use Prim.Native.Nat.{_+_, _≤_, _-_}
 use native.Mathlib.Omega.{arith}
 use borrow.Author.Needs.{needs}
 use lib.ListN.{length}
-use Rattle.near_boxes.specs.Near.{Near}
+use Rattle.boxes.specs.Boxes.{boundsBox, boxAt}
 use Rattle.boxes.proofs.BoxesLaws.{places-fewer, set-length}
+use Rattle.near_boxes.specs.Near.{Near}
 use Rattle.near_boxes.proofs.NearLaws.{near-more}
 use Rattle.near_boxes.proofs.collect.Statement.{statement}
 use Rattle.near_boxes.proofs.collect.Tie as tie
 
 abbrev Inv-loop : tie.InvT-loop
-Inv-loop lefts tops rights bottoms i j m near₀ c n₀ k₀ near n k =
-    ((k ≤ m) × (length near ≡ length near₀)) × Near lefts tops rights bottoms near i (j + k) n
+Inv-loop b lefts tops rights bottoms j m near₀ c n₀ k₀ near n k =
+    ((k ≤ m) × (length near ≡ length near₀)) × Near (boundsBox b) (boxAt lefts tops rights bottoms) near k n
 
 abbrev μ-loop : tie.MeasureT-loop
-μ-loop lefts tops rights bottoms i j m near₀ c n₀ k₀ near n k = m - k
+μ-loop b lefts tops rights bottoms j m near₀ c n₀ k₀ near n k = m - k
 
 loop-holds : tie.Need-loop-holds Inv-loop μ-loop
 loop-holds c =
     let top = c .before .before .before .before .before in
-    let a = top .args in
-    let e : a .j ≡ a .j + 0 = omega arith in
-    ((omega arith, refl), subst (λ x. Near (a .lefts .now) (a .tops .now) (a .rights .now) (a .bottoms .now) (a .near .now) (a .i) x (a .c)) e (top .pre .1))
-
-add-keep : tie.Need-add-keep Inv-loop μ-loop
-add-keep c = search needs
+    ((top .pre .0 .1 .0, refl), top .pre .1)
 
 keep-requires : tie.Need-keep-requires Inv-loop μ-loop
 keep-requires c κs =
     let top = c .before .before .before .before .before .before .before .before in
     let a = top .args in
     let l = c .before .before .loop in (
-      (
-        top .pre .0 .0,
-        places-fewer (a .lefts .now) (a .tops .now) (a .rights .now) (a .bottoms .now) (a .j + l .k + 1) (a .i + 1) (omega arith) (top .pre .0 .0),
-      ),
+      places-fewer (a .lefts .now) (a .tops .now) (a .rights .now) (a .bottoms .now) (l .k + 1) (a .m) (omega arith) (top .pre .0 .0),
       omega (arith, l .inv .1 .few),
     )
 
@@ -49,9 +42,9 @@ loop-again c =
     let a = c .before .before .before .before .before .before .before .before .before .before .before .args in
     let l = c .before .before .before .before .before .loop in
     let call = c .before .before .keep in (
-      (omega arith, set-length (l .near) _ (l .n) (a .j + l .k) _ (call .ensures .0) (l .inv .0 .1)),
-      near-more (a .lefts .now) (a .tops .now) (a .rights .now) (a .bottoms .now) (l .near) (a .i) (a .j + l .k) (l .n) (l .inv .1) _
-          (call .result) (a .j + (l .k + 1)) (omega arith) (omega (arith, l .inv .1 .few)) (call .ensures .0) (call .ensures .1),
+      (omega arith, set-length (l .near) _ (l .n) (l .k) _ (call .ensures .0) (l .inv .0 .1)),
+      near-more (boundsBox (a .b)) (boxAt (a .lefts .now) (a .tops .now) (a .rights .now) (a .bottoms .now)) (l .inv .1) (a .m) (omega arith) _
+          (call .result) (omega (arith, l .inv .1 .few)) (call .ensures .0) (call .ensures .1),
     )
 
 same-length : tie.Need-same-length Inv-loop μ-loop
@@ -62,7 +55,7 @@ returns c =
     let a = c .before .before .before .before .before .before .before .args in
     let l = c .before .loop in
     let e : l .k ≡ a .m = omega arith in
-    (subst (λ x. Near (a .lefts .now) (a .tops .now) (a .rights .now) (a .bottoms .now) (l .near) (a .i) (a .j + x) (l .n)) e (l .inv .1), l .inv .0 .1)
+    (subst (λ x. Near (boundsBox (a .b)) (boxAt (a .lefts .now) (a .tops .now) (a .rights .now) (a .bottoms .now)) (l .near) x (l .n)) e (l .inv .1), l .inv .0 .1)
 
 pub collect-spec : {M : Type 1} → statement M
 collect-spec =
@@ -71,7 +64,6 @@ collect-spec =
     Inv-loop
     μ-loop
     loop-holds
-    add-keep
     keep-requires
     add-k
     loop-less

@@ -3,33 +3,34 @@ use Prim.Native.Nat.{_+_, _≤_, _-_}
 use native.Mathlib.Omega.{arith}
 use borrow.Author.Needs.{needs}
 use lib.ListN.{length}
-use Rattle.near_boxes.specs.Near.{boxesOverlap, Near}
-use Rattle.boxes.proofs.CompactLaws.{compact-none}
+use Rattle.boxes.specs.Boxes.{boundsBox, boxAt, boxesOverlap}
+use Rattle.boxes.proofs.BoxesLaws.{places-fewer}
+use Rattle.boxes.proofs.KeepLaws.{kept-none}
+use Rattle.near_boxes.specs.Near.{blockSize, Near}
 use Rattle.near_boxes.proofs.collect_before.Statement.{statement}
 use Rattle.near_boxes.proofs.collect_before.Tie as tie
 
 abbrev Inv-loop : tie.InvT-loop
-Inv-loop lefts tops rights bottoms i near₀ c₀ j₀ near c j =
-    ((j ≤ i) × (length near ≡ length near₀)) × Near lefts tops rights bottoms near i j c
+Inv-loop b lefts tops rights bottoms i near₀ c₀ j₀ near c j =
+    ((j ≤ i) × (length near ≡ length near₀)) × Near (boundsBox b) (boxAt lefts tops rights bottoms) near j c
 
 abbrev μ-loop : tie.MeasureT-loop
-μ-loop lefts tops rights bottoms i near₀ c₀ j₀ near c j = i - j
+μ-loop b lefts tops rights bottoms i near₀ c₀ j₀ near c j = i - j
 
 loop-holds : tie.Need-loop-holds Inv-loop μ-loop
 loop-holds c =
-    let a = c .before .before .before .before .before .args in (
-      (omega arith, refl),
-      record {
-        few = omega arith;
-        listed = compact-none (λ n. boxesOverlap (a .lefts .now) (a .tops .now) (a .rights .now) (a .bottoms .now) (a .i) n) (a .near .now);
-      },
-    )
+    let a = c .before .before .before .before .before .args in
+    ((omega arith, refl), kept-none (λ k. boxesOverlap (boundsBox (a .b)) (boxAt (a .lefts .now) (a .tops .now) (a .rights .now) (a .bottoms .now)) k) (a .near .now))
 
 sub-loop : tie.Need-sub-loop Inv-loop μ-loop
 sub-loop c = search needs
 
 collect-block-requires : tie.Need-collect-block-requires Inv-loop μ-loop
-collect-block-requires c κs = let l = c .before .before .loop in ((c .before .before .before .before .before .before .before .before .pre .0, (omega arith, omega arith)), l .inv .1)
+collect-block-requires c κs =
+    let top = c .before .before .before .before .before .before .before .before in
+    let a = top .args in
+    let l = c .before .before .loop in
+    ((places-fewer (a .lefts .now) (a .tops .now) (a .rights .now) (a .bottoms .now) (l .j + blockSize) (a .i) (omega arith) (top .pre .0), omega arith), l .inv .1)
 
 add-j : tie.Need-add-j Inv-loop μ-loop
 add-j c = search needs
@@ -42,22 +43,18 @@ loop-again c =
     let call = c .before .before .collect-block .ensures in
     ((omega arith, call .1 ∙ c .before .before .before .before .before .loop .inv .0 .1), call .0)
 
-sub-collect : tie.Need-sub-collect Inv-loop μ-loop
-sub-collect c = search needs
-
 collect-requires : tie.Need-collect-requires Inv-loop μ-loop
-collect-requires c κs = let l = c .before .before .loop in ((c .before .before .before .before .before .before .before .before .pre .0, (omega arith, omega arith)), l .inv .1)
+collect-requires c κs =
+    let l = c .before .before .loop in
+    ((c .before .before .before .before .before .before .before .before .pre .0, (omega arith, omega arith)), l .inv .1)
 
 same-length : tie.Need-same-length Inv-loop μ-loop
 same-length c = c .before .before .collect .ensures .1 ∙ c .before .before .before .before .before .loop .inv .0 .1
 
 returns : tie.Need-returns Inv-loop μ-loop
 returns c =
-    let a = c .before .before .before .before .before .before .before .before .before .before .before .args in
-    let l = c .before .before .before .before .before .loop in
     let call = c .before .before .collect .ensures in
-    let e : l .j + (a .i - l .j) ≡ a .i = omega arith in
-    (rw e at (call .0), call .1 ∙ l .inv .0 .1)
+    (call .0, call .1 ∙ c .before .before .before .before .before .loop .inv .0 .1)
 
 pub collect-before-spec : {M : Type 1} → statement M
 collect-before-spec =
@@ -71,7 +68,6 @@ collect-before-spec =
     add-j
     loop-less
     loop-again
-    sub-collect
     collect-requires
     same-length
     returns)

@@ -1,5 +1,6 @@
 use mathlib.Core.Path.{refl, sym, _∙_}
 use borrow.Author.Needs.{needs}
+use Rattle.boxes.specs.Boxes.{boundsBox, boxAt}
 use Rattle.near_boxes.specs.Near.{blockSize}
 use Rattle.near_boxes.proofs.NearLaws.{near-block}
 use Rattle.near_boxes.proofs.collect_block.Statement.{statement}
@@ -12,10 +13,13 @@ returns : tie.Need-returns
 returns c =
     let top = c .before .before .before .before .before .before .before in
     let a = top .args in (
-      near-block (a .lefts .now) (a .tops .now) (a .rights .now) (a .bottoms .now) (a .near .now) (a .i) (a .j) (a .c) (top .pre .1) blockSize
+      near-block (boundsBox (a .b)) (boxAt (a .lefts .now) (a .tops .now) (a .rights .now) (a .bottoms .now)) (top .pre .1) blockSize
           (sym (c .before .block-clear .ensures) ∙ c .if1 .taken),
       refl,
     )
+
+add-collect : tie.Need-add-collect
+add-collect c = search needs
 
 collect-requires : tie.Need-collect-requires
 collect-requires c κs = search needs
@@ -28,4 +32,4 @@ returns-2 c = search needs
 
 pub collect-block-spec : {M : Type 1} → statement M
 collect-block-spec =
-    tie.close (tie.spec block-clear-requires returns collect-requires same-length returns-2)
+    tie.close (tie.spec block-clear-requires returns add-collect collect-requires same-length returns-2)

@@ -17,24 +17,30 @@ slice-aggregate-put-boxes-4 c = search needs
 put-boxes-requires : tie.Need-put-boxes-requires
 put-boxes-requires c κs = search needs
 
-slice-aggregate-put-boxed : tie.Need-slice-aggregate-put-boxed
-slice-aggregate-put-boxed c = search needs
+slice-aggregate-put-rows : tie.Need-slice-aggregate-put-rows
+slice-aggregate-put-rows c = search needs
 
-slice-aggregate-put-boxed-2 : tie.Need-slice-aggregate-put-boxed-2
-slice-aggregate-put-boxed-2 c = search needs
+slice-aggregate-put-rows-2 : tie.Need-slice-aggregate-put-rows-2
+slice-aggregate-put-rows-2 c = search needs
 
-slice-aggregate-put-boxed-3 : tie.Need-slice-aggregate-put-boxed-3
-slice-aggregate-put-boxed-3 c = search needs
+slice-aggregate-put-rows-3 : tie.Need-slice-aggregate-put-rows-3
+slice-aggregate-put-rows-3 c = search needs
 
-slice-aggregate-put-boxed-4 : tie.Need-slice-aggregate-put-boxed-4
-slice-aggregate-put-boxed-4 c = search needs
+slice-aggregate-put-rows-4 : tie.Need-slice-aggregate-put-rows-4
+slice-aggregate-put-rows-4 c = search needs
 
-put-boxed-requires : tie.Need-put-boxed-requires
-put-boxed-requires c κs =
-    let top = c .before .before .before .before .before .before .before .before .before .before .before .before .before .before .before .before .before .before in
-    let first = top .pre .0 in (
-      (record { rows = first .0 .1; places = search needs; oriented = first .1; boxes = c .before .before .before .before .before .before .before .before .before .put-boxes .ensures }, first .0 .0),
-      top .pre .1,
+slice-aggregate-put-rows-5 : tie.Need-slice-aggregate-put-rows-5
+slice-aggregate-put-rows-5 c = search needs
+
+put-rows-requires : tie.Need-put-rows-requires
+put-rows-requires c κs =
+    let top = c .before .before .before .before .before .before .before .before .before .before .before .before .before .before .before .before .before .before .before in
+    let second = top .pre .1 .0 in (
+      top .pre .0,
+      (
+        (record { rows = second .0 .1; places = search needs; oriented = second .1; boxes = c .before .before .before .before .before .before .before .before .before .before .put-boxes .ensures }, search needs),
+        (second .0 .0, search needs),
+      ),
     )
 
 same-length : tie.Need-same-length
@@ -52,10 +58,11 @@ put-pairs-spec =
     slice-aggregate-put-boxes-3
     slice-aggregate-put-boxes-4
     put-boxes-requires
-    slice-aggregate-put-boxed
-    slice-aggregate-put-boxed-2
-    slice-aggregate-put-boxed-3
-    slice-aggregate-put-boxed-4
-    put-boxed-requires
+    slice-aggregate-put-rows
+    slice-aggregate-put-rows-2
+    slice-aggregate-put-rows-3
+    slice-aggregate-put-rows-4
+    slice-aggregate-put-rows-5
+    put-rows-requires
     same-length
     returns)

@@ -1,10 +1,10 @@
 -- Row after row: the pairs of the rows before row i are written, or more than 4,096 were found and what is written no longer counts.
 use mathlib.Core.Path.{_≡_, refl, _∙_, subst}
-use Prim.Native.Nat.{_+_, _-_, _≤_}
+use Prim.Native.Nat.{_-_, _≤_}
 use native.Mathlib.Omega.{arith}
 use borrow.Author.Needs.{needs}
 use lib.ListN.{length}
-use Rattle.boxes.proofs.BoxesLaws.{boxed-fewer}
+use Rattle.chart_laws.proofs.ProperLaws.{proper-at}
 use Rattle.pair_writes.specs.Pairs.{markedPairs, Wrote}
 use Rattle.pair_writes.proofs.WroteLaws.{wrote-within}
 use Rattle.pair_writes.proofs.PairLaws.{rows-none, rows-more}
@@ -12,32 +12,29 @@ use Rattle.pair_rows.proofs.put_rows.Statement.{statement}
 use Rattle.pair_rows.proofs.put_rows.Tie as tie
 
 abbrev Inv-loop : tie.InvT-loop
-Inv-loop first n second m lefts tops rights bottoms other-lefts other-tops other-rights other-bottoms rows near₀ pairs₀ c₀ i₀ near pairs c i =
+Inv-loop first n second m lefts tops rights bottoms rows near₀ pairs₀ c₀ i₀ near pairs c i =
     ((i ≤ n) × (length near ≡ length near₀)) × Wrote (markedPairs first i second m rows) 0 c pairs₀ pairs
 
 abbrev μ-loop : tie.MeasureT-loop
-μ-loop first n second m lefts tops rights bottoms other-lefts other-tops other-rights other-bottoms rows near₀ pairs₀ c₀ i₀ near pairs c i = n - i
+μ-loop first n second m lefts tops rights bottoms rows near₀ pairs₀ c₀ i₀ near pairs c i = n - i
 
 loop-holds : tie.Need-loop-holds Inv-loop μ-loop
 loop-holds c =
-    let a = c .before .before .before .before .before .before .before .before .before .before .before .before .before .args in
+    let a = c .before .before .before .before .before .before .before .before .before .args in
     ((omega arith, refl), rows-none (a .first .now) (a .second .now) (a .m) (a .rows .now) (a .pairs .now))
 
 put-row-requires : tie.Need-put-row-requires Inv-loop μ-loop
 put-row-requires c κs =
-    let top = c .before .before .before .before .before .before .before .before .before .before .before .before .before .before .before .before .before in
+    let top = c .before .before .before .before .before .before .before .before .before .before .before .before .before in
     let a = top .args in
     let l = c .before .before .before .loop in
     let w = l .inv .1 in (
+      (omega arith, proper-at (a .first .now) (a .n) (l .i) (top .pre .0 .1) (omega arith)),
       (
-        boxed-fewer (a .first .now) (a .lefts .now) (a .tops .now) (a .rights .now) (a .bottoms .now) (l .i + 1) (a .n) (omega arith) (top .pre .0 .0),
-        top .pre .0 .1,
-      ),
-      (
-        (top .pre .1 .0 .0, (omega (arith, top .pre .1 .0 .1 .0), top .pre .1 .0 .1 .1)),
+        top .pre .1 .0,
         (
-          (top .pre .1 .1 .0, omega (arith, l .inv .0 .1, top .pre .1 .1 .1 .0)),
-          (wrote-within w, omega (arith, w .kept, top .pre .1 .1 .1 .1)),
+          ((omega (arith, top .pre .0 .0 .0), top .pre .1 .1 .0), (top .pre .1 .1 .1 .0, omega (arith, l .inv .0 .1, top .pre .1 .1 .1 .1 .0))),
+          (wrote-within w, omega (arith, w .kept, top .pre .1 .1 .1 .1 .1)),
         ),
       ),
     )
@@ -50,7 +47,7 @@ loop-less c = search needs
 
 loop-again : tie.Need-loop-again Inv-loop μ-loop
 loop-again c =
-    let a = c .before .before .before .before .before .before .before .before .before .before .before .before .before .before .before .before .before .before .before .before .before .before .args in
+    let a = c .before .before .before .before .before .before .before .before .before .before .before .before .before .before .before .before .before .before .args in
     let l = c .before .before .before .before .before .before .before .before .loop in
     let call = c .before .before .before .before .put-row .ensures in
     ((omega arith, call .1 ∙ l .inv .0 .1), rows-more (a .first .now) (a .second .now) (a .m) (a .rows .now) (l .i) (l .inv .1) (call .0))
@@ -63,7 +60,7 @@ same-length-2 c = c .before .loop .inv .1 .kept
 
 returns : tie.Need-returns Inv-loop μ-loop
 returns c =
-    let a = c .before .before .before .before .before .before .before .before .before .before .before .before .before .before .before .args in
+    let a = c .before .before .before .before .before .before .before .before .before .before .before .args in
     let l = c .before .loop in
     let e : l .i ≡ a .n = omega arith in
     subst (λ i. Wrote (markedPairs (a .first .now) i (a .second .now) (a .m) (a .rows .now)) 0 (l .c) (a .pairs .now) (l .pairs)) e (l .inv .1)

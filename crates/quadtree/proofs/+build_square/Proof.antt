@@ -3,22 +3,21 @@
 -- the loop keeps that the entries of the first k quarters are built, and those of all four are the square's.
 use mathlib.Core.Path.{_≡_, refl, sym, _∙_, ap}
 use mathlib.Core.List.{flatMap}
-use Prim.Native.Nat.{ℕ, suc, _+_, _*_, _-_, _≤_, _<_}
-use native.Mathlib.Nat.{mul-le-mul, suc-mul}
-use native.Mathlib.Numerals.{add-one}
+use Prim.Native.Nat.{ℕ, _+_, _*_, _-_, _≤_, _<_}
 use native.Mathlib.Omega.{arith}
 use lib.ListN.{take}
 use borrow.Author.Needs.{needs}
-use Rattle.orthtree.specs.Entries.{span}
-use Rattle.squares.specs.Square.{quarters, squareKey}
+use Rattle.squares.specs.Square.{quarters}
 use Rattle.chart_spec.specs.Table.{tableOf}
 use Rattle.chart_spec.specs.Cells.{entriesIn}
 use Rattle.shapes.specs.Shape.{coordinates}
+use Rattle.quarters.proofs.StepLaws.{key-small}
+use Rattle.stopping.specs.Stopping.{triangleTotal}
 use Rattle.quadtree.specs.Build.{Built}
 use Rattle.quadtree.proofs.WalkLaws.{built-none, built-join}
 use Rattle.lists.proofs.StoredLaws.{part-kept, take-less}
 use Rattle.candidates.proofs.ReadyLaws.{ready-fits, ready-kept}
-use Rattle.quadtree.proofs.SquareWalk.{after-narrow, narrow-room, level-below, key-small, built-leaf, quarter-tree, quarter-level, quarter-first, quarter-candidates, quarters-more, quarters-all}
+use Rattle.quadtree.proofs.SquareWalk.{after-narrow, narrow-room, level-below, built-leaf, quarter-tree, quarter-level, quarter-candidates, quarters-more, quarters-all}
 use borrow.Fn.Kinds.{In}
 use borrow.Fn.PlainCycle.{Measures, is, falls, and}
 use Rattle.quadtree.proofs.build_square.Reads as build-square
@@ -27,15 +26,14 @@ use Rattle.quadtree.proofs.+build_square.Lts-build_square as build-squa
 use Rattle.quarters.proofs.frame_of.Reads as frame-of-reads
 use Rattle.leaves.proofs.head_of.Reads as head-of-reads
 use Rattle.stopping.proofs.is_stopped.Reads as is-stopped-reads
-use Rattle.quarters.proofs.key_step.Reads as key-step-reads
 use Rattle.candidates.proofs.narrow.Reads as narrow-reads
 use Rattle.leaves.proofs.put_leaf.Reads as put-leaf-reads
-use Rattle.quarters.proofs.quarter.Reads as quarter-reads
+use Rattle.quarters.proofs.keyed_quarter.Reads as keyed-quarter-reads
 use Rattle.quadtree.proofs.+build_square.{statement}
 use Rattle.quadtree.proofs.+build_square.Tie.{close}
 
 abbrev μ-build-square : Measures 5 build-square-kinds.ps ℕ
-μ-build-square κs a = 16 - a .1 .1 .1 .1 .1 .1 .1 .0 .level
+μ-build-square κs a = 16 - a .1 .1 .1 .1 .1 .1 .0 .square .level
 
 abbrev build-square-at : ℕ → In 5 build-square-kinds.ps
 build-square-at t =
@@ -58,21 +56,19 @@ calls t = (
   head-of-reads.Learnt,
   put-leaf-reads.Asked,
   put-leaf-reads.Learnt,
-  key-step-reads.Asked,
-  key-step-reads.Learnt,
-  quarter-reads.Asked,
-  quarter-reads.Learnt,
+  keyed-quarter-reads.Asked,
+  keyed-quarter-reads.Learnt,
   build-square-below t,
   build-square.Post,
 )
 
 abbrev build-square-Inv-loop : build-square-lts.InvT-loop
-build-square-Inv-loop corners n shape offsets stack₀ from to s key out₀ at most top step first₀ next₀ k₀ stack out first next k =
-    (k ≤ 4) × ((first ≡ squareKey s + k * span 4 16 (suc (s .level)))
-    × Built (flatMap (λ x. entriesIn (tableOf (coordinates corners) n) x) (take k (quarters s))) most at next top out₀ out stack₀ stack)
+build-square-Inv-loop corners shape offsets stack₀ from to s out₀ at most top next₀ k₀ stack out next k =
+    (k ≤ 4)
+    × Built (flatMap (λ x. entriesIn (tableOf (coordinates corners) (triangleTotal corners)) x) (take k (quarters (s .square)))) most at next top out₀ out stack₀ stack
 
 abbrev build-square-μ-loop : build-square-lts.MeasureT-loop
-build-square-μ-loop corners n shape offsets stack₀ from to s key out₀ at most top step first₀ next₀ k₀ stack out first next k =
+build-square-μ-loop corners shape offsets stack₀ from to s out₀ at most top next₀ k₀ stack out next k =
     4 - k
 
 build-square-add-result : (t : ℕ) → build-square-lts.Need-add-result (calls t) (build-square-at t) build-square.Post build-square-Inv-loop build-square-μ-loop
@@ -81,10 +77,6 @@ build-square-add-result t c =
 
 build-square-returns : (t : ℕ) → build-square-lts.Need-returns (calls t) (build-square-at t) build-square.Post build-square-Inv-loop build-square-μ-loop
 build-square-returns t c =
-    let a = c .before .before .before .before .before .before .args in
-    let pre = c .before .before .before .before .before .before .pre .1 in
-    let h = pre .0 .1 .0 in
-    let tr = pre .0 .1 .1 .1 in
     record {
       fits = λ g. absurd (omega (arith, c .if1 .taken));
       over = λ g. refl;
@@ -96,41 +88,41 @@ build-square-returns t c =
 
 build-square-frame-of-requires : (t : ℕ) → build-square-lts.Need-frame-of-requires (calls t) (build-square-at t) build-square.Post build-square-Inv-loop build-square-μ-loop
 build-square-frame-of-requires t c κs =
-    c .before .before .before .before .before .before .pre .1 .0 .1 .1 .1
+    c .before .before .before .before .before .before .before .pre .1 .0 .1 .1 .1
 
 build-square-narrow-requires : (t : ℕ) → build-square-lts.Need-narrow-requires (calls t) (build-square-at t) build-square.Post build-square-Inv-loop build-square-μ-loop
 build-square-narrow-requires t c κs =
-    let a = c .before .before .before .before .before .before .before .before .args in
-    let pre = c .before .before .before .before .before .before .before .before .pre .1 in
+    let a = c .before .before .before .before .before .before .before .before .before .args in
+    let pre = c .before .before .before .before .before .before .before .before .before .pre .1 in
     let h = pre .0 .1 .0 in
+    let s = a .s .square in
     let tr = pre .0 .1 .1 .1 in
-    (ready-fits (pre .0 .0), (narrow-room (a .n) (coordinates (a .corners .now)) (a .shape .now) (a .offsets .now) h (a .s) tr (a .from) (a .to) (a .stack .now) (pre .0 .1 .1 .0) (pre .1 .1 .0), c .before .frame-of .ensures .1))
+    (ready-fits (pre .0 .0), (narrow-room (triangleTotal (a .corners .now)) (coordinates (a .corners .now)) (a .shape .now) (a .offsets .now) h s tr (a .from) (a .to) (a .stack .now) (pre .0 .1 .1 .0) (pre .1 .1 .0), c .before .frame-of .ensures .1))
 
 build-square-is-stopped-requires : (t : ℕ) → build-square-lts.Need-is-stopped-requires (calls t) (build-square-at t) build-square.Post build-square-Inv-loop build-square-μ-loop
 build-square-is-stopped-requires t c κs =
-    let a = c .before .before .before .before .before .before .before .before .before .before .before .before .args in
-    let pre = c .before .before .before .before .before .before .before .before .before .before .before .before .pre .1 in
+    let a = c .before .before .before .before .before .before .before .before .before .before .before .before .before .args in
+    let pre = c .before .before .before .before .before .before .before .before .before .before .before .before .before .pre .1 in
     let h = pre .0 .1 .0 in
+    let s = a .s .square in
     let tr = pre .0 .1 .1 .1 in
-    let w = after-narrow (a .n) (coordinates (a .corners .now)) (a .shape .now) (a .offsets .now) h (a .s) tr (a .from) (a .to) _ (a .stack .now) _ _ (pre .0 .0) (pre .0 .1 .1 .0) (c .before .before .before .before .before .frame-of .ensures .0) (pre .1 .1 .0) (c .before .before .before .narrow .ensures .0) (c .before .before .before .narrow .ensures .1) in
-    ((w .ready, (h, (tr, (c .before .before .before .before .before .frame-of .ensures .0, c .before .before .before .before .before .frame-of .ensures .1)))), w .triangles)
+    let w = after-narrow (triangleTotal (a .corners .now)) (coordinates (a .corners .now)) (a .shape .now) (a .offsets .now) h s tr (a .from) (a .to) _ (a .stack .now) _ _ (pre .0 .0) (pre .0 .1 .1 .0) (c .before .before .before .before .before .frame-of .ensures .0) (pre .1 .1 .0) (c .before .before .before .narrow .ensures .0) (c .before .before .before .narrow .ensures .1) in
+    ((w .ready, (h, (tr, c .before .before .before .before .before .frame-of .ensures))), w .triangles)
 
 build-square-head-of-requires : (t : ℕ) → build-square-lts.Need-head-of-requires (calls t) (build-square-at t) build-square.Post build-square-Inv-loop build-square-μ-loop
 build-square-head-of-requires t c κs =
-    let a = c .before .before .before .before .before .before .before .before .before .before .before .before .before .before .before .args in
     let pre = c .before .before .before .before .before .before .before .before .before .before .before .before .before .before .before .pre .1 in
-    let h = pre .0 .1 .0 in
-    let tr = pre .0 .1 .1 .1 in
-    (rw (pre .1 .0) (key-small (a .n) (coordinates (a .corners .now)) (a .shape .now) (a .offsets .now) h (a .s) tr), tr .deep)
+    (rw (pre .1 .0) (key-small (c .before .before .before .before .before .before .before .before .before .before .before .before .before .before .before .args .s .square)), pre .0 .1 .1 .1 .deep)
 
 build-square-put-leaf-requires : (t : ℕ) → build-square-lts.Need-put-leaf-requires (calls t) (build-square-at t) build-square.Post build-square-Inv-loop build-square-μ-loop
 build-square-put-leaf-requires t c κs =
-    let a = c .before .before .before .before .before .before .before .before .before .before .before .before .before .before .before .before .before .args in
-    let pre = c .before .before .before .before .before .before .before .before .before .before .before .before .before .before .before .before .before .pre .1 in
+    let a = c .before .before .before .before .before .before .before .before .before .before .before .before .before .before .before .before .before .before .args in
+    let pre = c .before .before .before .before .before .before .before .before .before .before .before .before .before .before .before .before .before .before .pre .1 in
     let h = pre .0 .1 .0 in
+    let s = a .s .square in
     let tr = pre .0 .1 .1 .1 in
-    let w = after-narrow (a .n) (coordinates (a .corners .now)) (a .shape .now) (a .offsets .now) h (a .s) tr (a .from) (a .to) _ (a .stack .now) _ _ (pre .0 .0) (pre .0 .1 .1 .0) (c .before .before .before .before .before .before .before .before .before .before .frame-of .ensures .0) (pre .1 .1 .0) (c .before .before .before .before .before .before .before .before .narrow .ensures .0) (c .before .before .before .before .before .before .before .before .narrow .ensures .1) in
-    ((w .ready .order, w .ready .within), (pre .1 .1 .1 .0, (c .before .before .before .before .before .before .before .before .before .before .before .if1 .left, (c .before .head-of .ensures .1, pre .1 .1 .1 .1 .0))))
+    let w = after-narrow (triangleTotal (a .corners .now)) (coordinates (a .corners .now)) (a .shape .now) (a .offsets .now) h s tr (a .from) (a .to) _ (a .stack .now) _ _ (pre .0 .0) (pre .0 .1 .1 .0) (c .before .before .before .before .before .before .before .before .before .before .frame-of .ensures .0) (pre .1 .1 .0) (c .before .before .before .before .before .before .before .before .narrow .ensures .0) (c .before .before .before .before .before .before .before .before .narrow .ensures .1) in
+    ((w .ready .order, w .ready .within), (pre .1 .1 .1 .0, (c .before .before .before .before .before .before .before .before .before .before .before .before .if1 .left, (c .before .before .head-of .ensures .1, pre .1 .1 .1 .1 .0))))
 
 build-square-same-length : (t : ℕ) → build-square-lts.Need-same-length (calls t) (build-square-at t) build-square.Post build-square-Inv-loop build-square-μ-loop
 build-square-same-length t c =
@@ -142,60 +134,50 @@ build-square-same-length-2 t c =
 
 build-square-returns-2 : (t : ℕ) → build-square-lts.Need-returns-2 (calls t) (build-square-at t) build-square.Post build-square-Inv-loop build-square-μ-loop
 build-square-returns-2 t c =
-    let a = c .before .before .before .before .before .before .before .before .before .before .before .before .before .before .before .before .before .before .before .before .args in
-    let pre = c .before .before .before .before .before .before .before .before .before .before .before .before .before .before .before .before .before .before .before .before .pre .1 in
+    let a = c .before .before .before .before .before .before .before .before .before .before .before .before .before .before .before .before .before .before .before .before .before .args in
+    let pre = c .before .before .before .before .before .before .before .before .before .before .before .before .before .before .before .before .before .before .before .before .before .pre .1 in
     let h = pre .0 .1 .0 in
+    let s = a .s .square in
     let tr = pre .0 .1 .1 .1 in
-    let w = after-narrow (a .n) (coordinates (a .corners .now)) (a .shape .now) (a .offsets .now) h (a .s) tr (a .from) (a .to) _ (a .stack .now) _ _ (pre .0 .0) (pre .0 .1 .1 .0) (c .before .before .before .before .before .before .before .before .before .before .before .before .before .frame-of .ensures .0) (pre .1 .1 .0) (c .before .before .before .before .before .before .before .before .before .before .before .narrow .ensures .0) (c .before .before .before .before .before .before .before .before .before .before .before .narrow .ensures .1) in
+    let w = after-narrow (triangleTotal (a .corners .now)) (coordinates (a .corners .now)) (a .shape .now) (a .offsets .now) h s tr (a .from) (a .to) _ (a .stack .now) _ _ (pre .0 .0) (pre .0 .1 .1 .0) (c .before .before .before .before .before .before .before .before .before .before .before .before .before .frame-of .ensures .0) (pre .1 .1 .0) (c .before .before .before .before .before .before .before .before .before .before .before .narrow .ensures .0) (c .before .before .before .before .before .before .before .before .before .before .before .narrow .ensures .1) in
     let st = sym (c .before .before .before .before .before .before .before .is-stopped .ensures) ∙ c .before .before .before .before .before .before .if2 .taken in
-    built-leaf (a .n) (coordinates (a .corners .now)) (a .shape .now) (a .offsets .now) h (a .s) tr (a .most) (a .at) _ (a .to) (a .out .now) _ (a .stack .now) _ _ _ st (w .triangles)
-    (c .before .before .before .before .head-of .ensures .0 ∙ ap (λ x. x * 4294967296 + a .s .level * 65536) (pre .1 .0))
+    built-leaf (triangleTotal (a .corners .now)) (coordinates (a .corners .now)) (a .shape .now) (a .offsets .now) h s tr (a .most) (a .at) _ (a .to) (a .out .now) _ (a .stack .now) _ _ _ st (w .triangles)
+    (c .before .before .before .before .before .head-of .ensures .0 ∙ ap (λ x. x * 4294967296 + s .level * 65536) (pre .1 .0))
     (c .before .before .put-leaf .ensures .0) (c .before .before .put-leaf .ensures .1) (w .kept) (search needs) (w .same)
-
-build-square-key-step-requires : (t : ℕ) → build-square-lts.Need-key-step-requires (calls t) (build-square-at t) build-square.Post build-square-Inv-loop build-square-μ-loop
-build-square-key-step-requires t c κs =
-    let a = c .before .before .before .before .before .before .before .before .before .before .before .before .before .before .args in
-    let pre = c .before .before .before .before .before .before .before .before .before .before .before .before .before .before .pre .1 in
-    let h = pre .0 .1 .0 in
-    let tr = pre .0 .1 .1 .1 in
-    let st = sym (c .before .is-stopped .ensures) ∙ c .if2 .left in
-    let lev = level-below (a .n) (coordinates (a .corners .now)) (a .shape .now) (a .offsets .now) h (a .s) tr st in
-    lev
 
 build-square-loop-holds : (t : ℕ) → build-square-lts.Need-loop-holds (calls t) (build-square-at t) build-square.Post build-square-Inv-loop build-square-μ-loop
 unfolding flatMap
 build-square-loop-holds t c =
     let a = c .before .before .before .before .before .before .before .before .before .before .before .before .before .before .before .args in
-    let pre = c .before .before .before .before .before .before .before .before .before .before .before .before .before .before .before .pre .1 in
-    let h = pre .0 .1 .0 in
-    let tr = pre .0 .1 .1 .1 in
-    (omega arith, (omega (arith, pre .1 .0), built-none (a .at) (a .out .now) _ (c .before .before .before .before .before .before .before .before .before .if1 .left)))
+    (omega arith, built-none (a .at) (a .out .now) _ (c .before .before .before .before .before .before .before .before .before .if1 .left))
 
-build-square-quarter-requires : (t : ℕ) → build-square-lts.Need-quarter-requires (calls t) (build-square-at t) build-square.Post build-square-Inv-loop build-square-μ-loop
-build-square-quarter-requires t c κs =
-    let a = c .before .before .before .before .before .before .before .before .before .before .before .before .before .before .before .before .before .before .args in
-    let pre = c .before .before .before .before .before .before .before .before .before .before .before .before .before .before .before .before .before .before .pre .1 in
+build-square-keyed-quarter-requires : (t : ℕ) → build-square-lts.Need-keyed-quarter-requires (calls t) (build-square-at t) build-square.Post build-square-Inv-loop build-square-μ-loop
+build-square-keyed-quarter-requires t c κs =
+    let a = c .before .before .before .before .before .before .before .before .before .before .before .before .before .before .before .before .before .args in
+    let pre = c .before .before .before .before .before .before .before .before .before .before .before .before .before .before .before .before .before .pre .1 in
     let h = pre .0 .1 .0 in
+    let s = a .s .square in
     let tr = pre .0 .1 .1 .1 in
-    let st = sym (c .before .before .before .before .before .is-stopped .ensures) ∙ c .before .before .before .before .if2 .left in
-    let lev = level-below (a .n) (coordinates (a .corners .now)) (a .shape .now) (a .offsets .now) h (a .s) tr st in
-    (c .before .loop-test .taken, (lev, (omega (arith, tr .right), omega (arith, tr .bottom))))
+    let st = sym (c .before .before .before .is-stopped .ensures) ∙ c .before .before .if2 .left in
+    let lev = level-below (triangleTotal (a .corners .now)) (coordinates (a .corners .now)) (a .shape .now) (a .offsets .now) h s tr st in
+    ((tr, pre .1 .0), (lev, c .loop-test .taken))
 
 build-square-build-square-requires : (t : ℕ) → build-square-lts.Need-build-square-requires (calls t) (build-square-at t) build-square.Post build-square-Inv-loop build-square-μ-loop
 build-square-build-square-requires t c κs =
     let a = c .before .before .before .before .before .before .before .before .before .before .before .before .before .before .before .before .before .before .before .before .args in
     let pre = c .before .before .before .before .before .before .before .before .before .before .before .before .before .before .before .before .before .before .before .before .pre .1 in
     let h = pre .0 .1 .0 in
+    let s = a .s .square in
     let tr = pre .0 .1 .1 .1 in
-    let w = after-narrow (a .n) (coordinates (a .corners .now)) (a .shape .now) (a .offsets .now) h (a .s) tr (a .from) (a .to) _ (a .stack .now) _ _ (pre .0 .0) (pre .0 .1 .1 .0) (c .before .before .before .before .before .before .before .before .before .before .before .before .before .frame-of .ensures .0) (pre .1 .1 .0) (c .before .before .before .before .before .before .before .before .before .before .before .narrow .ensures .0) (c .before .before .before .before .before .before .before .before .before .before .before .narrow .ensures .1) in
-    let st = sym (c .before .before .before .before .before .before .before .is-stopped .ensures) ∙ c .before .before .before .before .before .before .if2 .left in
-    let lev = level-below (a .n) (coordinates (a .corners .now)) (a .shape .now) (a .offsets .now) h (a .s) tr st in
+    let w = after-narrow (triangleTotal (a .corners .now)) (coordinates (a .corners .now)) (a .shape .now) (a .offsets .now) h s tr (a .from) (a .to) _ (a .stack .now) _ _ (pre .0 .0) (pre .0 .1 .1 .0) (c .before .before .before .before .before .before .before .before .before .before .before .before .frame-of .ensures .0) (pre .1 .1 .0) (c .before .before .before .before .before .before .before .before .before .before .narrow .ensures .0) (c .before .before .before .before .before .before .before .before .before .before .narrow .ensures .1) in
+    let st = sym (c .before .before .before .before .before .before .is-stopped .ensures) ∙ c .before .before .before .before .before .if2 .left in
+    let lev = level-below (triangleTotal (a .corners .now)) (coordinates (a .corners .now)) (a .shape .now) (a .offsets .now) h s tr st in
     let k = c .before .before .before .before .loop .k in
     let lt = c .before .before .before .loop-test .taken in
-    let inv = c .before .before .before .before .loop .inv .1 .1 in
-    let q = c .before .quarter .ensures in
-    let ql = ap (λ x. x .level) q ∙ quarter-level (a .n) (coordinates (a .corners .now)) (a .shape .now) (a .offsets .now) h (a .s) tr lev k lt in
-    let m : 17 - c .before .quarter .result .level ≡ 16 - a .s .level = omega (arith, ql) in (
+    let inv = c .before .before .before .before .loop .inv .1 in
+    let q = c .before .before .keyed-quarter .ensures in
+    let ql = ap (λ x. x .level) (q .0) ∙ quarter-level (triangleTotal (a .corners .now)) (coordinates (a .corners .now)) (a .shape .now) (a .offsets .now) h s tr lev k lt in
+    let m : 17 - c .before .before .keyed-quarter .result .square .level ≡ 16 - s .level = omega (arith, ql) in (
       omega (arith, ql, lev, c .before .before .before .before .before .before .before .before .before .before .before .before .before .before .before .before .before .before .before .before .pre .0),
       (
         (
@@ -203,35 +185,14 @@ build-square-build-square-requires t c κs =
           (
             h,
             (
-              rw q (quarter-candidates (a .n) (coordinates (a .corners .now)) (a .shape .now) (a .offsets .now) h (a .s) tr lev (a .to) _ _ k lt (w .few) (part-kept (a .to) _ _ _ (w .ready .order) (inv .kept) ∙ w .triangles)),
-              rw q (quarter-tree (a .n) (coordinates (a .corners .now)) (a .shape .now) (a .offsets .now) h (a .s) tr lev k lt),
+              rw (q .0) (quarter-candidates (triangleTotal (a .corners .now)) (coordinates (a .corners .now)) (a .shape .now) (a .offsets .now) h s tr lev (a .to) _ _ k lt (w .few) (part-kept (a .to) _ _ _ (w .ready .order) (inv .kept) ∙ w .triangles)),
+              rw (q .0) (quarter-tree (triangleTotal (a .corners .now)) (coordinates (a .corners .now)) (a .shape .now) (a .offsets .now) h s tr lev k lt),
             ),
           ),
         ),
-        (
-          c .before .before .before .before .loop .inv .1 .0 ∙ sym (ap squareKey q ∙ quarter-first (a .n) (coordinates (a .corners .now)) (a .shape .now) (a .offsets .now) h (a .s) tr lev k lt),
-          (
-            rw (m, inv .stacks) (w .room),
-            (
-              rw (inv .outs) (pre .1 .1 .1 .0),
-              (pre .1 .1 .1 .1 .0, inv .end),
-            ),
-          ),
-        ),
+        (q .1, (rw (m, inv .stacks) (w .room), (rw (inv .outs) (pre .1 .1 .1 .0), (pre .1 .1 .1 .1 .0, inv .end)))),
       ),
     )
-
-build-square-add-first : (t : ℕ) → build-square-lts.Need-add-first (calls t) (build-square-at t) build-square.Post build-square-Inv-loop build-square-μ-loop
-build-square-add-first t c =
-    let a = c .before .before .before .before .before .before .before .before .before .before .before .before .before .before .before .before .before .before .before .before .before .before .before .before .before .args in
-    let pre = c .before .before .before .before .before .before .before .before .before .before .before .before .before .before .before .before .before .before .before .before .before .before .before .before .before .pre .1 in
-    let h = pre .0 .1 .0 in
-    let tr = pre .0 .1 .1 .1 in
-    let k = c .before .before .before .before .before .before .before .before .before .loop .k in
-    let lt = c .before .before .before .before .before .before .before .before .loop-test .taken in
-    let st = c .before .before .before .before .before .before .before .before .before .before .key-step .ensures in
-    let m : k * span 4 16 (suc (a .s .level)) ≤ 4 * 1073741824 = mul-le-mul {n₂ = 4} {m₂ = 1073741824} (omega (arith, lt)) (rw (st .0) at (st .1)) in
-    omega (arith, m, st .1, key-small (a .n) (coordinates (a .corners .now)) (a .shape .now) (a .offsets .now) h (a .s) tr, c .before .before .before .before .before .before .before .before .before .loop .inv .1 .0)
 
 build-square-add-k : (t : ℕ) → build-square-lts.Need-add-k (calls t) (build-square-at t) build-square.Post build-square-Inv-loop build-square-μ-loop
 build-square-add-k t c =
@@ -246,21 +207,14 @@ build-square-loop-again t c =
     let a = c .before .before .before .before .before .before .before .before .before .before .before .before .before .before .before .before .before .before .before .before .before .before .before .before .before .args in
     let pre = c .before .before .before .before .before .before .before .before .before .before .before .before .before .before .before .before .before .before .before .before .before .before .before .before .before .pre .1 in
     let h = pre .0 .1 .0 in
+    let s = a .s .square in
     let tr = pre .0 .1 .1 .1 in
-    let w = after-narrow (a .n) (coordinates (a .corners .now)) (a .shape .now) (a .offsets .now) h (a .s) tr (a .from) (a .to) _ (a .stack .now) _ _ (pre .0 .0) (pre .0 .1 .1 .0) (c .before .before .before .before .before .before .before .before .before .before .before .before .before .before .before .before .before .before .frame-of .ensures .0) (pre .1 .1 .0) (c .before .before .before .before .before .before .before .before .before .before .before .before .before .before .before .before .narrow .ensures .0) (c .before .before .before .before .before .before .before .before .before .before .before .before .before .before .before .before .narrow .ensures .1) in
-    let st = sym (c .before .before .before .before .before .before .before .before .before .before .before .before .is-stopped .ensures) ∙ c .before .before .before .before .before .before .before .before .before .before .before .if2 .left in
-    let lev = level-below (a .n) (coordinates (a .corners .now)) (a .shape .now) (a .offsets .now) h (a .s) tr st in
-    let k = c .before .before .before .before .before .before .before .before .before .loop .k in
+    let st = sym (c .before .before .before .before .before .before .before .before .before .before .before .is-stopped .ensures) ∙ c .before .before .before .before .before .before .before .before .before .before .if2 .left in
+    let lev = level-below (triangleTotal (a .corners .now)) (coordinates (a .corners .now)) (a .shape .now) (a .offsets .now) h s tr st in
+    let l = c .before .before .before .before .before .before .before .before .before .loop in
     let lt = c .before .before .before .before .before .before .before .before .loop-test .taken in
-    let st = c .before .before .before .before .before .before .before .before .before .before .key-step .ensures in
-    let inv = c .before .before .before .before .before .before .before .before .before .loop .inv in
-    let q = c .before .before .before .before .before .before .quarter .ensures in (
-      omega (arith, lt),
-      (
-        omega (arith, inv .1 .0, st .0, suc-mul k (span 4 16 (suc (a .s .level))), add-one k),
-        rw (quarters-more (a .n) (coordinates (a .corners .now)) (a .shape .now) (a .offsets .now) h (a .s) tr lev k lt) (built-join (inv .1 .1) (rw q at (c .before .before .before .before .build-square .ensures))),
-      ),
-    )
+    let q = c .before .before .before .before .before .before .before .keyed-quarter .ensures .0 in
+    (omega (arith, lt), rw (quarters-more (triangleTotal (a .corners .now)) (coordinates (a .corners .now)) (a .shape .now) (a .offsets .now) h s tr lev (l .k) lt) (built-join (l .inv .1) (rw q at (c .before .before .before .before .build-square .ensures))))
 
 build-square-same-length-3 : (t : ℕ) → build-square-lts.Need-same-length-3 (calls t) (build-square-at t) build-square.Post build-square-Inv-loop build-square-μ-loop
 build-square-same-length-3 t c =
@@ -275,13 +229,14 @@ build-square-returns-3 t c =
     let a = c .before .before .before .before .before .before .before .before .before .before .before .before .before .before .before .before .before .args in
     let pre = c .before .before .before .before .before .before .before .before .before .before .before .before .before .before .before .before .before .pre .1 in
     let h = pre .0 .1 .0 in
+    let s = a .s .square in
     let tr = pre .0 .1 .1 .1 in
-    let w = after-narrow (a .n) (coordinates (a .corners .now)) (a .shape .now) (a .offsets .now) h (a .s) tr (a .from) (a .to) _ (a .stack .now) _ _ (pre .0 .0) (pre .0 .1 .1 .0) (c .before .before .before .before .before .before .before .before .before .before .frame-of .ensures .0) (pre .1 .1 .0) (c .before .before .before .before .before .before .before .before .narrow .ensures .0) (c .before .before .before .before .before .before .before .before .narrow .ensures .1) in
-    let st = sym (c .before .before .before .before .is-stopped .ensures) ∙ c .before .before .before .if2 .left in
-    let lev = level-below (a .n) (coordinates (a .corners .now)) (a .shape .now) (a .offsets .now) h (a .s) tr st in
+    let w = after-narrow (triangleTotal (a .corners .now)) (coordinates (a .corners .now)) (a .shape .now) (a .offsets .now) h s tr (a .from) (a .to) _ (a .stack .now) _ _ (pre .0 .0) (pre .0 .1 .1 .0) (c .before .before .before .before .before .before .before .before .before .frame-of .ensures .0) (pre .1 .1 .0) (c .before .before .before .before .before .before .before .narrow .ensures .0) (c .before .before .before .before .before .before .before .narrow .ensures .1) in
+    let st = sym (c .before .before .before .is-stopped .ensures) ∙ c .before .before .if2 .left in
+    let lev = level-below (triangleTotal (a .corners .now)) (coordinates (a .corners .now)) (a .shape .now) (a .offsets .now) h s tr st in
     let inv = c .before .loop .inv in
     let e : c .before .loop .k ≡ 4 = omega (arith, inv .0, c .loop-test .left) in
-    let f = rw (e, quarters-all (a .n) (coordinates (a .corners .now)) (a .shape .now) (a .offsets .now) h (a .s) tr lev st) at (inv .1 .1) in
+    let f = rw (e, quarters-all (triangleTotal (a .corners .now)) (coordinates (a .corners .now)) (a .shape .now) (a .offsets .now) h s tr lev st) at (inv .1) in
     record {
       fits = f .fits;
       over = f .over;
@@ -307,11 +262,9 @@ pub +build-square-spec : {M : Type 1} → statement M
     (build-square-same-length t)
     (build-square-same-length-2 t)
     (build-square-returns-2 t)
-    (build-square-key-step-requires t)
     (build-square-loop-holds t)
-    (build-square-quarter-requires t)
+    (build-square-keyed-quarter-requires t)
     (build-square-build-square-requires t)
-    (build-square-add-first t)
     (build-square-add-k t)
     (build-square-loop-less t)
     (build-square-loop-again t)

@@ -1,13 +1,14 @@
 use mathlib.Core.Path.{sym, _∙_, ap}
+use Prim.Native.Nat.{ℕ, _<_}
 use native.Mathlib.Nat.{zero-add}
 use native.Mathlib.Omega.{arith}
-use lib.ListN.{length}
+use lib.ListN.{length, getD}
 use Rattle.squares.specs.Square.{squareKey}
 use Rattle.chart_spec.specs.Table.{tableOf}
 use Rattle.chart_spec.specs.Cells.{entriesOf}
 use Rattle.chart_laws.proofs.EntriesOfTable.{entriesIn-whole}
-use Rattle.quadtree.proofs.WholeWalk.{whole-key, whole-room}
-use Rattle.quadtree.proofs.KeptLaws.{stored-kept, kept-start}
+use Rattle.quadtree.proofs.WholeWalk.{whole-key}
+use Rattle.quadtree.proofs.KeptLaws.{stored-kept, kept-start, kept-room}
 use borrow.Author.Needs.{needs}
 use Rattle.quadtree.proofs.build.Statement.{statement}
 use Rattle.quadtree.proofs.build.Tie as tie
@@ -21,19 +22,35 @@ put-numbers-requires c κs = search needs
 whole-requires : tie.Need-whole-requires
 whole-requires c κs = search needs
 
+mul-build-square : tie.Need-mul-build-square
+mul-build-square c = search needs
+
+sub-build-square : tie.Need-sub-build-square
+sub-build-square c = search needs
+
+part-build-square-start : tie.Need-part-build-square-start
+part-build-square-start c = search needs
+
+part-build-square-end : tie.Need-part-build-square-end
+part-build-square-end c = search needs
+
 build-square-requires : tie.Need-build-square-requires
 build-square-requires c κs =
-    let a = c .before .before .before .before .before .before .before .before .before .before .before .before .before .before .before .before .before .before .before .before .before .before .before .before .before .before .args in
-    let p = c .before .before .before .before .before .before .before .before .before .before .before .before .before .before .before .before .before .before .before .before .before .before .before .before .before .before .pre in
-    let w = c .before .whole .ensures in
-    let r = c .before .before .before .before .before .before .before .before .before .before .before .before .before .before .before .before .prepare .ensures in
-    let u = c .before .before .before .before .before .before .before .before .put-numbers .ensures in (
-      kept-start (a .n) (a .table .now) (a .corners .now) _ (r .1 .1) (p .1 .0 .1 .1) (λ k. omega (arith, c .before .before .before .before .before .before .before .before .before .before .before .before .before .before .before .before .before .before .before .before .before .before .before .before .before .shared-slice-known .given k))
-          (a .shape .now) _ (a .offsets .now) _ (a .stack .now) _ _ (r .0) (r .1 .0) u w
-          (p .1 .0 .0) (p .1 .0 .1 .0) (p .1 .1 .0) (λ k. omega (arith, c .before .before .before .before .before .before .before .before .before .before .slice-known8 .given k)) (p .0 .1),
+    let top = c .before .before .before .before .before .before .before .before .before .before .before .before .before .before .before .before .before .before .before .before .before .before .before .before .before .before .before in
+    let a = top .args in
+    let p = top .pre in
+    let w = c .before .before .before .before .before .before .whole .ensures in
+    let r = c .before .before .before .before .before .before .before .before .before .before .before .before .before .before .before .before .before .prepare .ensures in
+    let u = c .before .before .before .before .before .before .before .before .before .put-numbers .ensures in
+    let small : (k : ℕ) → getD (a .table .now) k 0 < 65536 = λ k. omega (arith, c .before .before .before .before .before .before .before .before .before .before .before .before .before .before .before .before .before .before .before .before .before .before .before .before .before .before .shared-slice-known .given k) in (
+      kept-start (a .n) (a .table .now) (a .corners .now) _ (r .1 .1) (p .1 .0 .1 .1) small (a .shape .now) _ (a .offsets .now) _ (a .stack .now) _ _ (r .0) (r .1 .0) u w
+          (p .1 .0 .0) (p .1 .0 .1 .0) (p .1 .1 .0) (λ k. omega (arith, c .before .before .before .before .before .before .before .before .before .before .before .slice-known8 .given k)) (p .0 .1),
       (
         whole-key ∙ sym (ap squareKey w),
-        (whole-room (a .n) (a .table .now) (a .stack .now) _ _ u w (p .1 .1 .0), (p .1 .1 .1 .0, (p .1 .1 .1 .1, omega arith))),
+        (
+          kept-room (a .n) (a .table .now) (a .corners .now) _ (r .1 .1) (p .1 .0 .1 .1) small (a .stack .now) _ _ u w (p .1 .1 .0),
+          (p .1 .1 .1 .0, (p .1 .1 .1 .1, omega arith)),
+        ),
       ),
     )
 
@@ -54,12 +71,13 @@ same-length-5 c = search needs
 
 returns : tie.Need-returns
 returns c =
-    let a = c .before .before .before .before .before .before .before .before .before .before .before .before .before .before .before .before .before .before .before .before .before .before .before .before .before .before .before .before .before .before .before .args in
+    let top = c .before .before .before .before .before .before .before .before .before .before .before .before .before .before .before .before .before .before .before .before .before .before .before .before .before .before .before .before .before .before .before .before in
+    let a = top .args in
     let k =
-    stored-kept (a .n) (a .table .now) (a .corners .now) _ (c .before .before .before .before .before .before .before .before .before .before .before .before .before .before .before .before .before .before .before .before .before .prepare .ensures .1 .1) (c .before .before .before .before .before .before .before .before .before .before .before .before .before .before .before .before .before .before .before .before .before .before .before .before .before .before .before .before .before .before .before .pre .1 .0 .1 .1)
-    (λ k. omega (arith, c .before .before .before .before .before .before .before .before .before .before .before .before .before .before .before .before .before .before .before .before .before .before .before .before .before .before .before .before .before .before .shared-slice-known .given k))
+    stored-kept (a .n) (a .table .now) (a .corners .now) _ (c .before .before .before .before .before .before .before .before .before .before .before .before .before .before .before .before .before .before .before .before .before .before .prepare .ensures .1 .1) (top .pre .1 .0 .1 .1)
+    (λ k. omega (arith, c .before .before .before .before .before .before .before .before .before .before .before .before .before .before .before .before .before .before .before .before .before .before .before .before .before .before .before .before .before .before .before .shared-slice-known .given k))
     in
-    let f = rw (c .before .before .before .before .before .before .whole .ensures, entriesIn-whole, k) at (c .before .before .before .before .build-square .ensures) in
+    let f = rw (c .before .before .before .before .before .before .before .before .before .before .before .whole .ensures, entriesIn-whole, k) at (c .before .before .before .before .build-square .ensures) in
     let z = zero-add (length (entriesOf (tableOf (a .table .now) (a .n)))) in
     (rw z at (f .fits), rw z at (f .over))
 
@@ -70,6 +88,10 @@ build-spec =
     prepare-requires
     put-numbers-requires
     whole-requires
+    mul-build-square
+    sub-build-square
+    part-build-square-start
+    part-build-square-end
     build-square-requires
     same-length
     same-length-2

@@ -4,27 +4,28 @@ use native.Mathlib.Omega.{arith}
 use borrow.Author.Needs.{needs}
 use lib.ListN.{length}
 use Rattle.chart_spec.specs.Table.{maxTriangles}
+use Rattle.boxes.specs.Boxes.{boundsBox, boxAt}
 use Rattle.row_candidates.specs.RowCandidates.{NearInRow}
 use Rattle.row_candidates.proofs.NearLaws.{near-none}
 use Rattle.row_candidates.proofs.collect_row.Statement.{statement}
 use Rattle.row_candidates.proofs.collect_row.Tie as tie
 
 abbrev Inv-loop : tie.InvT-loop
-Inv-loop lefts tops rights bottoms other-lefts other-tops other-rights other-bottoms rows m i near₀ c₀ q₀ near c q =
+Inv-loop b lefts tops rights bottoms rows m i near₀ c₀ q₀ near c q =
     ((q ≤ 8) × (length near ≡ length near₀))
-    × NearInRow lefts tops rights bottoms other-lefts other-tops other-rights other-bottoms rows m i near (64 * q) c
+    × NearInRow (boundsBox b) (boxAt lefts tops rights bottoms) rows m i near (64 * q) c
 
 abbrev μ-loop : tie.MeasureT-loop
-μ-loop lefts tops rights bottoms other-lefts other-tops other-rights other-bottoms rows m i near₀ c₀ q₀ near c q = 8 - q
+μ-loop b lefts tops rights bottoms rows m i near₀ c₀ q₀ near c q = 8 - q
 
 loop-holds : tie.Need-loop-holds Inv-loop μ-loop
 loop-holds c =
-    let a = c .before .before .before .before .before .before .before .before .before .before .args in
-    ((omega arith, refl), near-none (a .lefts .now) (a .tops .now) (a .rights .now) (a .bottoms .now) (a .other-lefts .now) (a .other-tops .now) (a .other-rights .now) (a .other-bottoms .now) (a .rows .now) (a .m) (a .i) (a .near .now))
+    let a = c .before .before .before .before .before .before .args in
+    ((omega arith, refl), near-none (boundsBox (a .b)) (boxAt (a .lefts .now) (a .tops .now) (a .rights .now) (a .bottoms .now)) (a .rows .now) (a .m) (a .i) (a .near .now))
 
 collect-word-requires : tie.Need-collect-word-requires Inv-loop μ-loop
 collect-word-requires c κs =
-    let top = c .before .before .before .before .before .before .before .before .before .before .before .before .before in
+    let top = c .before .before .before .before .before .before .before .before .before in
     let l = c .before .before .loop in
     ((top .pre .0 .0, (top .pre .0 .1, omega arith)), ((top .pre .1 .0, omega (arith, l .inv .0 .1, top .pre .1 .1)), l .inv .1))
 
@@ -44,10 +45,10 @@ same-length c = c .before .loop .inv .0 .1
 
 returns : tie.Need-returns Inv-loop μ-loop
 returns c =
-    let a = c .before .before .before .before .before .before .before .before .before .before .before .before .args in
+    let a = c .before .before .before .before .before .before .before .before .args in
     let l = c .before .loop in
     let e : 64 * l .q ≡ maxTriangles = omega arith in
-    (subst (λ j. NearInRow (a .lefts .now) (a .tops .now) (a .rights .now) (a .bottoms .now) (a .other-lefts .now) (a .other-tops .now) (a .other-rights .now) (a .other-bottoms .now) (a .rows .now) (a .m) (a .i) (l .near) j (l .c)) e (l .inv .1), l .inv .0 .1)
+    (subst (λ j. NearInRow (boundsBox (a .b)) (boxAt (a .lefts .now) (a .tops .now) (a .rights .now) (a .bottoms .now)) (a .rows .now) (a .m) (a .i) (l .near) j (l .c)) e (l .inv .1), l .inv .0 .1)
 
 pub collect-row-spec : {M : Type 1} → statement M
 collect-row-spec =

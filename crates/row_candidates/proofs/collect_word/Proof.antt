@@ -1,43 +1,58 @@
 -- Mark after mark: the lowest bit that is left is the next place, and a word without a bit adds nothing.
-use mathlib.Core.Path.{_≡_, refl}
-use Prim.Native.Nat.{_+_, _*_, _-_, _/_, _^_, _≤_, _<_}
+use mathlib.Core.Path.{_≡_, refl, subst}
+use Prim.Native.Nat.{ℕ, _+_, _*_, _-_, _/_, _^_, _≤_, _<_}
 use native.Mathlib.Omega.{arith}
 use borrow.Author.Needs.{needs}
 use lib.Count.{trailingZeros, trailing-le}
 use lib.ListN.{length, getD}
+use Rattle.plane.specs.Box.{Box}
 use Rattle.chart_spec.specs.Table.{maxTriangles}
 use Rattle.boxes.proofs.BoxesLaws.{places-fewer, set-length}
+use Rattle.boxes.specs.Boxes.{boundsBox, boxAt}
 use Rattle.row_candidates.specs.RowCandidates.{NearInRow}
 use Rattle.row_candidates.proofs.WordLaws.{Lowest}
-use Rattle.row_candidates.proofs.NearLaws.{word-start, near-more, word-ended, next-mark, mark-within, mark-next, mark-there, mark-past}
+use Rattle.row_candidates.proofs.NearLaws.{near-more, near-skip, word-start, word-ended, next-mark, mark-within, mark-next, mark-there, mark-past}
 use Rattle.row_candidates.proofs.collect_word.Statement.{statement}
 use Rattle.row_candidates.proofs.collect_word.Tie as tie
 
 abbrev Inv-loop : tie.InvT-loop
-Inv-loop lefts tops rights bottoms other-lefts other-tops other-rights other-bottoms rows m i q near₀ c w₀ j₀ n₀ near w j n =
+Inv-loop b lefts tops rights bottoms rows m i q near₀ c w₀ j₀ n₀ near w j n =
     ((64 * q ≤ j) × (j ≤ 64 * (q + 1)))
     × ((w ≡ getD rows (8 * i + q) 0 / 2 ^ (j - 64 * q))
     × ((length near ≡ length near₀)
-    × NearInRow lefts tops rights bottoms other-lefts other-tops other-rights other-bottoms rows m i near j n))
+    × NearInRow (boundsBox b) (boxAt lefts tops rights bottoms) rows m i near j n))
 
 abbrev μ-loop : tie.MeasureT-loop
-μ-loop lefts tops rights bottoms other-lefts other-tops other-rights other-bottoms rows m i q near₀ c w₀ j₀ n₀ near w j n =
+μ-loop b lefts tops rights bottoms rows m i q near₀ c w₀ j₀ n₀ near w j n =
     64 * (q + 1) - j
 
--- the word fits
-fits : (c : tie.In-loop Inv-loop μ-loop) → getD (c .before .before .before .before .before .before .before .before .before .before .before .before .before .args .rows .now) (8 * c .before .before .before .before .before .before .before .before .before .before .before .before .before .args .i + c .before .before .before .before .before .before .before .before .before .before .before .before .before .args .q) 0 < 2 ^ 64
-fits c = omega (arith, c .before .before .shared-slice-known10 .given (8 * c .before .before .before .before .before .before .before .before .before .before .before .before .before .args .i + c .before .before .before .before .before .before .before .before .before .before .before .before .before .args .q))
+-- what the function was given
+abbrev start : tie.In-loop Inv-loop μ-loop → tie.Start Inv-loop μ-loop
+start c = c .before .before .before .before .before .before .before .before .before
+
+-- the boxes of the lists
+abbrev boxes : tie.Start Inv-loop μ-loop → ℕ → Box
+boxes c = boxAt (c .args .lefts .now) (c .args .tops .now) (c .args .rights .now) (c .args .bottoms .now)
+
+-- the word
+abbrev word : tie.Start Inv-loop μ-loop → ℕ
+word c = getD (c .args .rows .now) (8 * c .args .i + c .args .q) 0
+
+fits : (c : tie.In-loop Inv-loop μ-loop) → word (start c) < 2 ^ 64
+fits c = omega (arith, c .before .before .shared-slice-known6 .given (8 * start c .args .i + start c .args .q))
 
 -- its next mark
 mark : (c : tie.In-loop Inv-loop μ-loop) → Lowest (c .before .loop .w) (trailingZeros 64 (c .before .loop .w))
 mark c =
+    let a = start c .args in
     let l = c .before .loop in
-    next-mark (l .inv .1 .1 .1) (c .before .before .before .before .before .before .before .before .before .before .before .before .before .args .q) (l .w) (fits c) (l .inv .0 .0) (l .inv .1 .0) (omega arith)
+    next-mark (a .rows .now) (a .i) (l .j) (a .q) (l .w) (fits c) (l .inv .0 .0) (l .inv .1 .0) (omega arith)
 
-within : (c : tie.In-loop Inv-loop μ-loop) → c .before .loop .j + trailingZeros 64 (c .before .loop .w) < 64 * (c .before .before .before .before .before .before .before .before .before .before .before .before .before .args .q + 1)
+within : (c : tie.In-loop Inv-loop μ-loop) → c .before .loop .j + trailingZeros 64 (c .before .loop .w) < 64 * (start c .args .q + 1)
 within c =
+    let a = start c .args in
     let l = c .before .loop in
-    mark-within (l .inv .1 .1 .1) (c .before .before .before .before .before .before .before .before .before .before .before .before .before .args .q) (l .w) (fits c) (l .inv .0 .0) (l .inv .1 .0) _ (mark c)
+    mark-within (a .rows .now) (a .i) (l .j) (a .q) (l .w) (fits c) (l .inv .0 .0) (l .inv .1 .0) _ (mark c)
 
 mul-w : tie.Need-mul-w Inv-loop μ-loop
 mul-w c = search needs
@@ -56,8 +71,8 @@ mul-j c = search needs
 
 loop-holds : tie.Need-loop-holds Inv-loop μ-loop
 loop-holds c =
-    let a = c .before .before .before .before .before .before .before .before .before .before .before .args in
-    ((omega arith, omega arith), (word-start (getD (a .rows .now) (8 * a .i + a .q) 0) (64 * a .q), (refl, c .before .before .before .before .before .before .before .before .before .before .before .pre .1 .1)))
+    let top = c .before .before .before .before .before .before .before in
+    ((omega arith, omega arith), (word-start (word top) (64 * top .args .q), (refl, top .pre .1 .1)))
 
 cast-j : tie.Need-cast-j Inv-loop μ-loop
 cast-j c = omega (arith, trailing-le 64 (c .before .loop .w))
@@ -67,14 +82,10 @@ add-j c = omega (arith, trailing-le 64 (c .before .loop .w))
 
 keep-requires : tie.Need-keep-requires Inv-loop μ-loop
 keep-requires c κs =
-    let top = c .before .before .before .before .before .before .before .before .before .before .before .before .before .before in
+    let top = start (c .before) in
     let a = top .args in
     let l = c .before .before .loop in (
-      (
-        top .pre .0 .0 .0,
-        places-fewer (a .other-lefts .now) (a .other-tops .now) (a .other-rights .now) (a .other-bottoms .now) _ maxTriangles
-            (omega (arith, within (c .before))) (top .pre .0 .0 .1),
-      ),
+      places-fewer (a .lefts .now) (a .tops .now) (a .rights .now) (a .bottoms .now) _ maxTriangles (omega (arith, within (c .before))) (top .pre .0 .0),
       omega (arith, within (c .before), l .inv .1 .1 .1 .few, l .inv .1 .1 .0),
     )
 
@@ -92,18 +103,22 @@ loop-less c = omega (arith, within (c .before .before .before .before))
 
 loop-again : tie.Need-loop-again Inv-loop μ-loop
 loop-again c =
-    let a = c .before .before .before .before .before .before .before .before .before .before .before .before .before .before .before .before .before .args in
-    let l = c .before .before .before .before .before .loop in
+    let d = c .before .before .before .before in
+    let top = start d in
+    let a = top .args in
+    let l = d .before .loop in
     let i = l .inv in
     let call = c .before .before .keep in
-    let n = mark-next (i .1 .1 .1) (a .q) (l .w) (fits (c .before .before .before .before)) (i .0 .0) (i .1 .0) _ (mark (c .before .before .before .before)) in (
-      (omega arith, omega (arith, within (c .before .before .before .before))),
+    let bounds = boundsBox (a .b) in
+    let skipped = near-skip bounds (boxes top) (a .rows .now) (a .m) (a .i) (i .1 .1 .1) _ (mark-next (a .rows .now) (a .i) (l .j) (a .q) (l .w) (fits d) (i .0 .0) (i .1 .0) _ (mark d)) in
+    let there = mark-there (a .rows .now) (a .i) (l .j) (a .q) (l .w) (fits d) (i .0 .0) (i .1 .0) _ (mark d) in (
+      (omega arith, omega (arith, within d)),
       (
-        mark-past (i .1 .1 .1) (a .q) (l .w) (fits (c .before .before .before .before)) (i .0 .0) (i .1 .0) _ (mark (c .before .before .before .before)),
+        mark-past (a .rows .now) (a .i) (l .j) (a .q) (l .w) (fits d) (i .0 .0) (i .1 .0) _ (mark d),
         (
           set-length (l .near) _ (l .n) _ _ (call .ensures .0) (i .1 .1 .0),
-          near-more n (mark-there (i .1 .1 .1) (a .q) (l .w) (fits (c .before .before .before .before)) (i .0 .0) (i .1 .0) _ (mark (c .before .before .before .before))) _ (call .result)
-              (omega (arith, within (c .before .before .before .before), i .1 .1 .1 .few, i .1 .1 .0, c .before .before .before .before .before .before .before .before .before .before .before .before .before .before .before .before .before .pre .0 .1 .1, c .before .before .before .before .before .before .before .before .before .before .before .before .before .before .before .before .before .pre .1 .0 .1)) (call .ensures .0) (call .ensures .1),
+          near-more bounds (boxes top) (a .rows .now) (a .m) (a .i) skipped there _ (call .result)
+              (omega (arith, within d, i .1 .1 .1 .few, i .1 .1 .0, top .pre .0 .1 .1, top .pre .1 .0 .1)) (call .ensures .0) (call .ensures .1),
         ),
       ),
     )
@@ -113,9 +128,15 @@ same-length c = c .before .loop .inv .1 .1 .0
 
 returns : tie.Need-returns Inv-loop μ-loop
 returns c =
+    let top = c .before .before .before .before .before .before .before .before .before in
+    let a = top .args in
     let l = c .before .loop in
     let i = l .inv in
-    (word-ended (i .1 .1 .1) (c .before .before .before .before .before .before .before .before .before .before .before .before .before .args .q) (l .w) (omega (arith, c .before .before .shared-slice-known10 .given (8 * c .before .before .before .before .before .before .before .before .before .before .before .before .before .args .i + c .before .before .before .before .before .before .before .before .before .before .before .before .before .args .q))) (i .0 .0) (i .1 .0) (omega arith) (i .0 .1), i .1 .1 .0)
+    let small : word top < 2 ^ 64 = omega (arith, c .before .before .shared-slice-known6 .given (8 * a .i + a .q)) in
+    let none = word-ended (a .rows .now) (a .i) (l .j) (a .q) (l .w) small (i .0 .0) (i .1 .0) (omega arith) in
+    let e : l .j + (64 * (a .q + 1) - l .j) ≡ 64 * (a .q + 1) = omega (arith, i .0 .1) in
+    let bounds = boundsBox (a .b) in
+    (subst (λ k. NearInRow bounds (boxes top) (a .rows .now) (a .m) (a .i) (l .near) k (l .n)) e (near-skip bounds (boxes top) (a .rows .now) (a .m) (a .i) (i .1 .1 .1) _ none), i .1 .1 .0)
 
 pub collect-word-spec : {M : Type 1} → statement M
 collect-word-spec =

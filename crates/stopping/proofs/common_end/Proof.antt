@@ -1,5 +1,6 @@
 -- A point that is an end of every side is an end of the first side that meets: its two ends are the only points to try.
 use mathlib.Core.Path.{_≡_, sym, _∙_, ap}
+use mathlib.Core.List.{[]}
 use Prim.Native.Nat.{_+_, _*_}
 use native.Mathlib.Omega.{arith}
 use lib.ListN.{getD}
@@ -34,7 +35,7 @@ mul-a-2 c = search needs
 
 shared-slice-read-a : tie.Need-shared-slice-read-a
 shared-slice-read-a c =
-    let r = c .before .before .before .before .before .before .before .before .before .pre .1 .1 (c .before .before .before .before .first-met .result .at) (c .before .before .before .before .first-met .ensures .0 .low) (c .before .before .before .if1 .taken) in
+    let r = c .before .before .before .before .before .before .before .before .before .pre .1 .1 (c .before .before .before .before .first-met .result .at) (c .before .before .before .before .first-met .ensures .0 [] .low) (c .before .before .before .if1 .taken) in
     let w = c .before .index .ensures .0 in
     omega arith
 
@@ -49,7 +50,7 @@ mul-b-2 c = search needs
 
 shared-slice-read-b : tie.Need-shared-slice-read-b
 shared-slice-read-b c =
-    let r = c .before .before .before .before .before .before .before .before .before .before .pre .1 .1 (c .before .before .before .before .before .first-met .result .at) (c .before .before .before .before .before .first-met .ensures .0 .low) (c .before .before .before .before .if1 .taken) in
+    let r = c .before .before .before .before .before .before .before .before .before .before .pre .1 .1 (c .before .before .before .before .before .first-met .result .at) (c .before .before .before .before .before .first-met .ensures .0 [] .low) (c .before .before .before .before .if1 .taken) in
     let w = c .before .before .index .ensures .0 in
     omega arith
 
@@ -64,7 +65,7 @@ mul-c-2 c = search needs
 
 shared-slice-read-c : tie.Need-shared-slice-read-c
 shared-slice-read-c c =
-    let r = c .before .before .before .before .before .before .before .before .before .before .before .pre .1 .1 (c .before .before .before .before .before .before .first-met .result .at) (c .before .before .before .before .before .before .first-met .ensures .0 .low) (c .before .before .before .before .before .if1 .taken) in
+    let r = c .before .before .before .before .before .before .before .before .before .before .before .pre .1 .1 (c .before .before .before .before .before .before .first-met .result .at) (c .before .before .before .before .before .before .first-met .ensures .0 [] .low) (c .before .before .before .before .before .if1 .taken) in
     let w = c .before .before .before .index .ensures .0 in
     omega arith
 
@@ -90,12 +91,12 @@ either-end-requires c κs =
     let h = c .before .before .before .before .before .before .before .before .before .if1 .taken in (
       (
         record {
-          order = r .0 .high;
+          order = r .0 [] .high;
           within = g .within;
-          shapes = λ k lo hi. g .shapes k (omega (arith, r .0 .low)) hi;
-          offs = λ k lo hi. g .offs k (omega (arith, r .0 .low)) hi;
+          shapes = λ k lo hi. g .shapes k (omega (arith, r .0 [] .low)) hi;
+          offs = λ k lo hi. g .offs k (omega (arith, r .0 [] .low)) hi;
         },
-        (rest .0, λ k lo hi. rest .1 k (omega (arith, r .0 .low)) hi),
+        (rest .0, λ k lo hi. rest .1 k (omega (arith, r .0 [] .low)) hi),
       ),
       tested-read (coordinates (a .corners .now)) (a .shape .now) (a .offsets .now) (boxOf (a .f)) (a .stack .now) (c .before .before .before .start-of .result) (c .before .before .start-of2 .result) (c .before .before .before .before .before .before .before .before .before .before .first-met .result .at) (a .to)
           (c .before .before .before .before .before .before .before .index .result) (c .before .before .before .before .before .before .before .before .before .before .first-met .result .mask) (getD (a .corners .now) (3 * i) 0) (getD (a .corners .now) (3 * i + 1) 0) (getD (a .corners .now) (3 * i + 2) 0) (c .before .missed .result) (c .missed2 .result)
@@ -119,7 +120,7 @@ returns c =
     c .either-end .ensures
     ∙ common-read (coordinates (a .corners .now)) (a .shape .now) (a .offsets .now) (boxOf (a .f)) (a .stack .now) (a .from) (c .before .before .before .before .before .before .before .before .before .before .before .first-met .result .at) (a .to)
     (c .before .before .before .before .before .before .before .before .index .result) (c .before .before .before .before .before .before .before .before .before .before .before .first-met .result .mask) (getD (a .corners .now) (3 * i) 0) (getD (a .corners .now) (3 * i + 1) 0) (getD (a .corners .now) (3 * i + 2) 0) (c .before .before .before .before .start-of .result) (c .before .before .before .start-of2 .result)
-    (r .0) h (c .before .before .before .before .before .before .before .before .before .before .before .before .before .before .before .before .pre .0 .within)
+    (r .0 (coordinates (a .corners .now))) h (c .before .before .before .before .before .before .before .before .before .before .before .before .before .before .before .before .pre .0 .within)
     (record {
       number = c .before .before .before .before .before .before .before .before .index .ensures .0;
       mask = r .1 h .0 ∙ ap (λ i. maskOf (sidesMet (a .shape .now) (a .offsets .now) (boxOf (a .f)) i)) (sym (c .before .before .before .before .before .before .before .before .index .ensures .0));
@@ -132,7 +133,7 @@ returns c =
 returns-2 : tie.Need-returns-2
 unfolding commonEnd
 returns-2 c =
-    let r = c .before .first-met .ensures .0 in
+    let r = c .before .first-met .ensures .0 (coordinates (c .before .before .before .before .before .before .args .corners .now)) in
     let k : c .before .first-met .result .at ≡ c .before .before .before .before .before .before .args .to = omega (arith, r .high) in
     sym (ap commonEnd (rw k at (r .none)))
 

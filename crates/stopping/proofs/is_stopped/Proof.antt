@@ -3,7 +3,7 @@ use mathlib.Core.Path.{_∙_, ap}
 use mathlib.Core.List.{flatMap}
 use Rattle.chart_spec.specs.Cells.{commonEnd}
 use Rattle.shapes.specs.Shape.{coordinates}
-use Rattle.stopping.specs.Stopping.{sidesAt}
+use Rattle.stopping.specs.Stopping.{sidesAt, triangleTotal}
 use Rattle.candidates.specs.Stack.{part}
 use Rattle.stopping.proofs.StopLaws.{stopped-deep, stopped-sides}
 use Rattle.candidates.proofs.ReadyLaws.{ready-fits}
@@ -14,7 +14,7 @@ use Rattle.stopping.proofs.is_stopped.Tie as tie
 returns : tie.Need-returns
 returns c =
     let a = c .before .before .before .before .before .before .args in
-    stopped-deep (a .n) (coordinates (a .corners .now)) (a .shape .now) (a .offsets .now) (c .before .before .before .before .before .before .pre .0 .1 .0) (a .s) (c .if1 .taken)
+    stopped-deep (triangleTotal (a .corners .now)) (coordinates (a .corners .now)) (a .shape .now) (a .offsets .now) (c .before .before .before .before .before .before .pre .0 .1 .0) (a .s) (c .if1 .taken)
 
 common-end-requires : tie.Need-common-end-requires
 common-end-requires c κs =
@@ -27,7 +27,7 @@ returns-2 c =
     let p = c .before .before .before .before .before .before .before .pre .0 .1 in
     c .common-end .ensures
     ∙ ap (λ b. commonEnd (flatMap (λ i. sidesAt (coordinates (a .corners .now)) (a .shape .now) (a .offsets .now) b i) (part (a .from) (a .to) (a .stack .now)))) (p .1 .1 .0)
-    ∙ stopped-sides (a .n) (coordinates (a .corners .now)) (a .shape .now) (a .offsets .now) (p .0) (a .s) (c .before .if1 .left) (p .1 .0) (part (a .from) (a .to) (a .stack .now)) (c .before .before .before .before .before .before .before .pre .1)
+    ∙ stopped-sides (triangleTotal (a .corners .now)) (coordinates (a .corners .now)) (a .shape .now) (a .offsets .now) (p .0) (a .s) (c .before .if1 .left) (p .1 .0) (part (a .from) (a .to) (a .stack .now)) (c .before .before .before .before .before .before .before .pre .1)
 
 pub is-stopped-spec : {M : Type 1} → statement M
 is-stopped-spec = tie.close (tie.spec returns common-end-requires returns-2)

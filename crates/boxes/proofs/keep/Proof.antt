@@ -3,8 +3,8 @@ use mathlib.Core.Bool.{cond, _||_}
 use Prim.Native.Nat.{_+_}
 use borrow.Author.Needs.{needs}
 use lib.Dec.{leb}
-use Rattle.row_candidates.proofs.keep.Statement.{statement}
-use Rattle.row_candidates.proofs.keep.Tie as tie
+use Rattle.boxes.proofs.keep.Statement.{statement}
+use Rattle.boxes.proofs.keep.Tie as tie
 
 mul-near : tie.Need-mul-near
 mul-near c = search needs
@@ -23,7 +23,7 @@ same-length c = search needs
 
 returns : tie.Need-returns
 returns c =
-    let a = c .before .before .before .before .before .before .before .before .before .before .before .args in
+    let a = c .before .before .before .before .before .before .before .args in
     (refl, sym (ap (λ b. cond b (a .c) (a .c + 1)) (sym (ap (λ b. b || leb (a .m) (a .j)) (c .before .is-clear .ensures)) ∙ c .if1 .taken)))
 
 same-length-2 : tie.Need-same-length-2
@@ -31,7 +31,7 @@ same-length-2 c = search needs
 
 returns-2 : tie.Need-returns-2
 returns-2 c =
-    let a = c .before .before .before .before .before .before .before .before .before .before .before .args in
+    let a = c .before .before .before .before .before .before .before .args in
     (refl, sym (ap (λ b. cond b (a .c) (a .c + 1)) (sym (ap (λ b. b || leb (a .m) (a .j)) (c .before .is-clear .ensures)) ∙ c .if1 .left)))
 
 pub keep-spec : {M : Type 1} → statement M
