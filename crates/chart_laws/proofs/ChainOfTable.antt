@@ -18,10 +18,10 @@ use Rattle.orthtree.specs.Entries.{Entry, emptyMark, chain}
 use Rattle.orthtree.proofs.ChainTilingLaws.{Listing, marked, listed}
 use Rattle.plane.specs.Box.{triangleMeets}
 use Rattle.squares.specs.declared.Square.{Square}
-use Rattle.squares.specs.Square.{depth, topLeft, topRight, bottomLeft, bottomRight, quarters, squareKey, squareBox, Aligned}
+use Rattle.squares.specs.Square.{arity, depth, topLeft, topRight, bottomLeft, bottomRight, quarters, squareKey, squareBox, Aligned}
 use Rattle.squares.proofs.ZOrderLaws.{zOrder-bound}
 use Rattle.squares.proofs.SquareLeavesLaws.{leaves-aligned, squares-chain}
-use Rattle.chart_spec.specs.Table.{Table}
+use Rattle.chart_spec.specs.Table.{Table, maxTriangles}
 use Rattle.chart_spec.specs.Cells.{stopped, cellsIn, cells, trianglesMeeting, orMark, entryOf, cellEntries, entriesIn, entriesOf}
 
 orMark-count : (is : List ℕ) → length (orMark is) ≡ max 1 (length is)
@@ -84,7 +84,7 @@ unfolding trianglesMeeting
 meeting-rising table s = places-rising (λ t. triangleMeets t (squareBox s)) table
 
 -- the entries of a table satisfy the chain rule
-pub entries-chain : (table : Table) → length table ≤ 512 → T (chain 4 16 (length table) (entriesOf table))
+pub entries-chain : (table : Table) → length table ≤ maxTriangles → T (chain arity depth (length table) (entriesOf table))
 unfolding entriesOf cells cellsIn cellEntries entryOf emptyMark
 entries-chain table few =
     squares-chain (λ s. stopped table s) (length table) (omega arith) (λ s. orMark (trianglesMeeting table s))

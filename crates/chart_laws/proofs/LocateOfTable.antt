@@ -28,7 +28,7 @@ use Rattle.squares.specs.Square.{squareBox}
 use Rattle.plane.proofs.ExtremeLaws.{OnGrid}
 use Rattle.squares.proofs.ZOrderLaws.{InSquare}
 use Rattle.squares.proofs.SquareLeavesLaws.{leaf-of-point, cell-of-point}
-use Rattle.chart_spec.specs.Table.{Table, numbered}
+use Rattle.chart_spec.specs.Table.{Table, maxTriangles, numbered}
 use Rattle.chart_spec.specs.Cells.{stopped, cellsIn, cells, trianglesMeeting, orMark, entryOf, cellEntries, entriesOf}
 use Rattle.chart_spec.specs.Reading.{cellOf, listing, located}
 use Rattle.chart_laws.proofs.TableLaws.{proper-at}
@@ -36,7 +36,7 @@ use Rattle.chart_laws.proofs.EntriesOfTable.{meeting-filter}
 use Rattle.chart_laws.proofs.ChainOfTable.{meeting-rising}
 
 -- the items of a cell's entries, without the mark
-unmarked : (s : Square) {n : ℕ} {is : List ℕ} → n ≤ 512 → Rising 0 n is
+unmarked : (s : Square) {n : ℕ} {is : List ℕ} → n ≤ maxTriangles → Rising 0 n is
     → map (λ e. e .item) (filter (λ e. not (isMark e)) (map (λ i. entryOf s i) (orMark is))) ≡ is
 unfolding orMark entryOf isMark emptyMark filter
 unmarked s few rising-none = refl
@@ -49,7 +49,7 @@ unmarked s few (rising-more {i = i} {is = is} a b r) =
     in
     ap (map (λ e. e .item)) (filter-all (λ e. not (isMark e)) es h) ∙ map-map (λ e. e .item) (λ j. entryOf s j) (i ∷ is) ∙ map-id (i ∷ is)
 
-module _ (table : Table) (few : length table ≤ 512) (p : Point) (g : OnGrid p) where
+module _ (table : Table) (few : length table ≤ maxTriangles) (p : Point) (g : OnGrid p) where
   -- the cell listing of a point is that of the triangles that meet the cell that the point lies in
   pub listing-cell : {s : Square} → List·Memᴰ s (cells table) → InSquare s p → listing (entriesOf table) p ≡ trianglesMeeting table s
   unfolding listing cellOf entriesOf cells cellsIn cellEntries entryOf

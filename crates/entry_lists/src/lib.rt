@@ -53,7 +53,7 @@ fn list_all(
     m
 }
 
-// Builds a table into the three lists: the number of its entries, or 16385 where they are more than 16384 and the lists stay as
+// Builds a table into the three lists: the number of its entries, or one more than the most where they are too many and the lists stay as
 // they were. A small table mostly has few entries, so this is tried first.
 pub fn build_into(
     table: &[u16],

@@ -62,7 +62,7 @@ fn item_of(x: u64) -> u16
     (x % 65536) as u16
 }
 
-// The keys of the first n packed entries, and zeros up to place 16384.
+// The keys of the first n packed entries, and zeros up to the most entries.
 fn put_keys(entries: &[u64], n: usize, keys: &mut [u32])
     requires { ⌜ (n ≤ length (now entries)) × ((n ≤ maxEntries) × (maxEntries ≤ length (now keys))) ⌝ }
     ensures { λ r. ⌜ now (keys .exit) ≡ padded maxEntries (map keyOf (take n (now (entries .entry)))) (now (keys .entry)) ⌝ }
@@ -101,7 +101,7 @@ fn put_items(entries: &[u64], n: usize, items: &mut [u16])
     clear_items(items, n, tables::MOST_ENTRIES);
 }
 
-// The first n packed entries as three lists, zeros after them up to place 16384.
+// The first n packed entries as three lists, zeros after them up to the most entries.
 pub fn put_lists(entries: &[u64], n: usize, keys: &mut [u32], levels: &mut [u8], items: &mut [u16])
     requires { ⌜ (n ≤ length (now entries)) × (n ≤ maxEntries) ⌝ }
     requires { ⌜ (maxEntries ≤ length (now keys)) × ((maxEntries ≤ length (now levels)) × (maxEntries ≤ length (now items))) ⌝ }

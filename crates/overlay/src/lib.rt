@@ -37,7 +37,7 @@ pub fn overlay(
     if !(first & second) {
         return overlay_answers::refused(Overlay::BrokenChain);
     }
-    let mut rows = [0u64; 4104];
+    let mut rows = [0u64; pair_marks::ROWS_LENGTH];
     let meetings = merge::mark_pairs(keys0, items0, m0, keys1, items1, m1, &mut rows);
     let found = pair_list::put_pairs(table0, n0, table1, n1, &rows, pairs);
     overlay_answers::finish(found, meetings, pairs)

@@ -14,7 +14,7 @@ ghost use Rattle.answers.specs.Outcomes.{overlaidOf};
 ghost use Rattle.pair_writes.specs.Pairs.{Wrote};
 
 // The numbers of a full list of pairs.
-pub const PAIR_NUMBERS: usize = 8192;
+pub const PAIR_NUMBERS: usize = 2 * pair_writes::MOST_PAIRS;
 
 // A refusal.
 pub fn refused(overlay: Overlay) -> Overlaid

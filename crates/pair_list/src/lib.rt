@@ -9,6 +9,7 @@ ghost use Rattle.lists.specs.Lists.{all};
 ghost use Rattle.plane.specs.Triangle.{proper};
 ghost use Rattle.chart_spec.specs.Table.{maxTriangles, numbersPerTriangle, tableOf};
 ghost use Rattle.call_spec.specs.Buffers.{pairsLength};
+ghost use Rattle.pair_marks.specs.PairMarks.{rowsLength};
 ghost use Rattle.pair_writes.specs.Pairs.{markedPairs, Wrote};
 
 // Writes the marked pairs whose triangles have a common interior point, ascending: how many they are, or 4097 where they are more.
@@ -22,7 +23,7 @@ pub fn put_pairs(
 ) -> usize
     requires { ⌜ ((n ≤ maxTriangles) × (numbersPerTriangle * n ≤ length (now first))) × (all (λ t. proper t) (tableOf (now first) n) ≡ true) ⌝ }
     requires { ⌜ ((m ≤ maxTriangles) × (numbersPerTriangle * m ≤ length (now second))) × (all (λ t. proper t) (tableOf (now second) m) ≡ true) ⌝ }
-    requires { ⌜ (4096 ≤ length (now rows)) × (pairsLength ≤ length (now pairs)) ⌝ }
+    requires { ⌜ (rowsLength ≤ length (now rows)) × (pairsLength ≤ length (now pairs)) ⌝ }
     ensures { λ r. ⌜ Wrote (markedPairs (now (first .entry)) n (now (second .entry)) m (now (rows .entry))) 0 r (now (pairs .entry)) (now (pairs .exit)) ⌝ }
 {
     let mut lefts = [0u16; tables::MOST_TRIANGLES];

@@ -11,9 +11,10 @@ use lib.Dec.{leb, ltb, eqb}
 use lib.ListN.{length, getD, take, drop, replicate, length-drop}
 use lib.Seq.{take-suc, getD-drop}
 use Rattle.lists.specs.Lists.{any}
+use Rattle.chart_spec.specs.Table.{maxTriangles}
 use Rattle.bitsets.specs.Bits.{hasBit, Inserted, Joined}
 use Rattle.bitsets.proofs.BitLaws.{or-false, zeros-empty}
-use Rattle.pair_marks.specs.PairMarks.{placeOf, someAt, ItemsInserted, SetJoined, PartsMarked}
+use Rattle.pair_marks.specs.PairMarks.{rowWords, placeOf, someAt, ItemsInserted, SetJoined, PartsMarked}
 
 or-assoc : (a b c : Bool) → (a || b) || c ≡ a || (b || c)
 or-assoc true b c = refl
@@ -80,14 +81,14 @@ insert-more {set} {is} {a} {r} p h l {k} e i = record {
 }
 
 -- row k, and no other, has the bits of the set
-row-bits : (k i j : ℕ) (set : List ℕ) → j < 512
-    → leb (64 * (8 * k)) (512 * i + j) && ltb (512 * i + j) (64 * (8 * k + 8)) && hasBit set (512 * i + j - 64 * (8 * k)) ≡ eqb k i && hasBit set j
+row-bits : (k i j : ℕ) (set : List ℕ) → j < maxTriangles
+    → leb (64 * (rowWords * k)) (maxTriangles * i + j) && ltb (maxTriangles * i + j) (64 * (rowWords * k + rowWords)) && hasBit set (maxTriangles * i + j - 64 * (rowWords * k)) ≡ eqb k i && hasBit set j
 row-bits k i j set h = elim (ℕ-discrete k i) [
-  | yes e ↦ let z : 512 * i + j - 64 * (8 * k) ≡ j = omega arith in
-      rw (le-leb (64 * (8 * k)) (512 * i + j) (omega arith), lt-ltb (512 * i + j) (64 * (8 * k + 8)) (omega arith), eq-eqb k i e, z)
+  | yes e ↦ let z : maxTriangles * i + j - 64 * (rowWords * k) ≡ j = omega arith in
+      rw (le-leb (64 * (rowWords * k)) (maxTriangles * i + j) (omega arith), lt-ltb (maxTriangles * i + j) (64 * (rowWords * k + rowWords)) (omega arith), eq-eqb k i e, z)
   | no n ↦ elim (decLt k i) [
-    | yes s ↦ drop-second (leb (64 * (8 * k)) (512 * i + j)) (hasBit set (512 * i + j - 64 * (8 * k))) (hasBit set j) (le-ltb (512 * i + j) (64 * (8 * k + 8)) (omega arith)) (ne-eqb k i n)
-    | no s ↦ rw (lt-leb (64 * (8 * k)) (512 * i + j) (omega arith), ne-eqb k i n)
+    | yes s ↦ drop-second (leb (64 * (rowWords * k)) (maxTriangles * i + j)) (hasBit set (maxTriangles * i + j - 64 * (rowWords * k))) (hasBit set j) (le-ltb (maxTriangles * i + j) (64 * (rowWords * k + rowWords)) (omega arith)) (ne-eqb k i n)
+    | no s ↦ rw (lt-leb (64 * (rowWords * k)) (maxTriangles * i + j) (omega arith), ne-eqb k i n)
   ]
 ]
   where
@@ -106,17 +107,17 @@ both false false e y = refl
 -- no row joined yet
 pub join-start : (rows is : List ℕ) (a : ℕ) (set : List ℕ) → SetJoined rows is a a set rows
 join-start rows is a set = record {
-  bits = λ i j h. sym (or-false (hasBit rows (512 * i + j))) ∙ ap (λ x. hasBit rows (512 * i + j) || x && hasBit set j) (sym (some-none is a i));
+  bits = λ i j h. sym (or-false (hasBit rows (maxTriangles * i + j))) ∙ ap (λ x. hasBit rows (maxTriangles * i + j) || x && hasBit set j) (sym (some-none is a i));
   kept = refl;
 }
 
 -- one more
 pub join-more : {rows is : List ℕ} {a r : ℕ} {set vs : List ℕ} → SetJoined rows is a r set vs → a ≤ r → r < length is
-    → {k : ℕ} {ws : List ℕ} → k ≡ placeOf (getD is r 0) → Joined vs (8 * k) set 8 ws → SetJoined rows is a (r + 1) set ws
+    → {k : ℕ} {ws : List ℕ} → k ≡ placeOf (getD is r 0) → Joined vs (rowWords * k) set rowWords ws → SetJoined rows is a (r + 1) set ws
 join-more {rows} {is} {a} {r} {set} p h l {k} e q = record {
-  bits = λ i j s. q .bits (512 * i + j) ∙ ap₂ _||_ (p .bits i j s) (row-bits k i j set s ∙ ap (λ x. eqb x i && hasBit set j) e)
-      ∙ both (hasBit rows (512 * i + j)) (someAt is a r i) (eqb (placeOf (getD is r 0)) i) (hasBit set j)
-      ∙ ap (λ x. hasBit rows (512 * i + j) || x && hasBit set j) (sym (some-more is a r i h l));
+  bits = λ i j s. q .bits (maxTriangles * i + j) ∙ ap₂ _||_ (p .bits i j s) (row-bits k i j set s ∙ ap (λ x. eqb x i && hasBit set j) e)
+      ∙ both (hasBit rows (maxTriangles * i + j)) (someAt is a r i) (eqb (placeOf (getD is r 0)) i) (hasBit set j)
+      ∙ ap (λ x. hasBit rows (maxTriangles * i + j) || x && hasBit set j) (sym (some-more is a r i h l));
   kept = q .kept ∙ p .kept;
 }
 
@@ -125,6 +126,6 @@ pub parts-marked : {rows is : List ℕ} {a p : ℕ} {js : List ℕ} {b q : ℕ} 
     → ItemsInserted (replicate w 0) js b q set → SetJoined rows is a p set after → PartsMarked rows is a p js b q after
 parts-marked {rows} {is} {a} {p} {js} {b} {q} w s t = record {
   bits = λ i j h. t .bits i j h
-      ∙ ap (λ x. hasBit rows (512 * i + j) || someAt is a p i && x) (s .bits j ∙ ap (λ x. x || someAt js b q j) (zeros-empty w j));
+      ∙ ap (λ x. hasBit rows (maxTriangles * i + j) || someAt is a p i && x) (s .bits j ∙ ap (λ x. x || someAt js b q j) (zeros-empty w j));
   kept = t .kept;
 }

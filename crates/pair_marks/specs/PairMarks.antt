@@ -7,15 +7,20 @@ use Prim.Native.Nat.{ℕ, _+_, _*_, _-_, _<_, min}
 use lib.Dec.{eqb}
 use lib.ListN.{length, take, drop}
 use Rattle.lists.specs.Lists.{any}
+use Rattle.chart_spec.specs.Table.{maxTriangles}
 use Rattle.bitsets.specs.Bits.{hasBit}
 
--- the words of the rows: 8 for each of 512 items, and 8 for the mark
-abbrev pub rowsLength : ℕ
-rowsLength = 4104
+-- the words of a row, which has a bit for each triangle
+abbrev pub rowWords : ℕ
+rowWords = 8
 
--- an item's row, and its bit in a row: its own number, or 512 for the mark
+-- the words of the rows: one row for each triangle, and one for the mark
+abbrev pub rowsLength : ℕ
+rowsLength = rowWords * (maxTriangles + 1)
+
+-- an item's row, and its bit in a row: its own number, or for the mark the one after all triangles
 abbrev pub placeOf : ℕ → ℕ
-placeOf t = min t 512
+placeOf t = min t maxTriangles
 
 -- some item from place a up to place r has this row, or bit
 unfoldable pub someAt : List ℕ → ℕ → ℕ → ℕ → Bool
@@ -28,10 +33,10 @@ pub record ItemsInserted (before is : List ℕ) (a r : ℕ) (after : List ℕ) :
 
 -- the rows with the set's bits in those of the items from place a up to place r
 pub record SetJoined (before is : List ℕ) (a r : ℕ) (set after : List ℕ) : Type 0 where
-  pub bits : (i j : ℕ) → j < 512 → hasBit after (512 * i + j) ≡ hasBit before (512 * i + j) || someAt is a r i && hasBit set j
+  pub bits : (i j : ℕ) → j < maxTriangles → hasBit after (maxTriangles * i + j) ≡ hasBit before (maxTriangles * i + j) || someAt is a r i && hasBit set j
   pub kept : length after ≡ length before
 
 -- the rows with each item of a part of the one list marked with each item of a part of the other
 pub record PartsMarked (before is : List ℕ) (a p : ℕ) (js : List ℕ) (b q : ℕ) (after : List ℕ) : Type 0 where
-  pub bits : (i j : ℕ) → j < 512 → hasBit after (512 * i + j) ≡ hasBit before (512 * i + j) || someAt is a p i && someAt js b q j
+  pub bits : (i j : ℕ) → j < maxTriangles → hasBit after (maxTriangles * i + j) ≡ hasBit before (maxTriangles * i + j) || someAt is a p i && someAt js b q j
   pub kept : length after ≡ length before

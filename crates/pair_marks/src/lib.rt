@@ -3,21 +3,27 @@
 ghost use mathlib.Core.Path.{_≡_};
 ghost use Prim.Native.Nat.{_+_, _*_, _≤_, _<_};
 ghost use lib.ListN.{length};
-ghost use Rattle.pair_marks.specs.PairMarks.{rowsLength, placeOf, ItemsInserted, SetJoined, PartsMarked};
+ghost use Rattle.pair_marks.specs.PairMarks.{rowWords, rowsLength, placeOf, ItemsInserted, SetJoined, PartsMarked};
 
-// The words of a row, which has a bit for each item of the second chart.
-const ROW_WORDS: usize = 8;
+// The words of a row, which has a bit for each triangle of the second chart.
+pub const ROW_WORDS: usize = tables::MOST_TRIANGLES / bitsets::WORD;
 
-// An item's row, and its bit in a row: its own number, or 512 for the mark.
+// The words of all rows: one row for each triangle of the first chart, and one for the mark.
+pub const ROWS_LENGTH: usize = ROW_WORDS * (tables::MOST_TRIANGLES + 1);
+
+// The mark's row, and its bit in a row.
+const MARK_PLACE: u16 = tables::MOST_TRIANGLES as u16;
+
+// An item's row, and its bit in a row: its own number, or the mark's.
 fn place(item: u16) -> usize
     ensures { λ r. ⌜ r ≡ placeOf item ⌝ }
 {
-    numbers::index(numbers::smaller(item, 512))
+    numbers::index(numbers::smaller(item, MARK_PLACE))
 }
 
 // Inserts the items from place a up to place r into the set.
 fn insert_all(set: &mut [u64], items: &[u16], a: usize, r: usize)
-    requires { ⌜ ((a ≤ r) × (r ≤ length (now items))) × (9 ≤ length (now set)) ⌝ }
+    requires { ⌜ ((a ≤ r) × (r ≤ length (now items))) × (rowWords + 1 ≤ length (now set)) ⌝ }
     ensures { λ o. ⌜ ItemsInserted (now (set .entry)) (now (items .entry)) a r (now (set .exit)) ⌝ }
 {
     let mut i = a;
@@ -29,7 +35,7 @@ fn insert_all(set: &mut [u64], items: &[u16], a: usize, r: usize)
 
 // Joins the set into the rows of the items from place a up to place r.
 fn join_all(rows: &mut [u64], items: &[u16], a: usize, r: usize, set: &[u64])
-    requires { ⌜ ((a ≤ r) × (r ≤ length (now items))) × ((rowsLength ≤ length (now rows)) × (8 ≤ length (now set))) ⌝ }
+    requires { ⌜ ((a ≤ r) × (r ≤ length (now items))) × ((rowsLength ≤ length (now rows)) × (rowWords ≤ length (now set))) ⌝ }
     ensures { λ o. ⌜ SetJoined (now (rows .entry)) (now (items .entry)) a r (now (set .entry)) (now (rows .exit)) ⌝ }
 {
     let mut i = a;
@@ -53,7 +59,7 @@ pub fn mark_parts(
     requires { ⌜ rowsLength ≤ length (now rows) ⌝ }
     ensures { λ o. ⌜ PartsMarked (now (rows .entry)) (now («first_items» .entry)) a p (now («second_items» .entry)) b q (now (rows .exit)) ⌝ }
 {
-    let mut set = [0u64; 9];
+    let mut set = [0u64; ROW_WORDS + 1];
     insert_all(&mut set, second_items, b, q);
     join_all(rows, first_items, a, p, &set);
 }

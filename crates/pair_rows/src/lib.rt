@@ -10,6 +10,7 @@ ghost use Rattle.chart_spec.specs.Table.{maxTriangles, numbersPerTriangle, tria
 ghost use Rattle.chart_spec.specs.Overlay.{maxPairs};
 ghost use Rattle.call_spec.specs.Buffers.{pairsLength};
 ghost use Rattle.boxes.specs.Boxes.{Places, BoxedTable};
+ghost use Rattle.pair_marks.specs.PairMarks.{rowsLength};
 ghost use Rattle.pair_writes.specs.Pairs.{rowPairs, markedPairs, Wrote};
 
 // The pairs of row i, after the first `at` pairs. The boxes of the second table's triangles are in the four lists.
@@ -29,7 +30,7 @@ fn put_row(
 ) -> usize
     requires { ⌜ (numbersPerTriangle * (i + 1) ≤ length (now first)) × (proper (triangleAt (now first) i) ≡ true) ⌝ }
     requires { ⌜ BoxedTable (now second) (now lefts) (now tops) (now rights) (now bottoms) m × Places (now lefts) (now tops) (now rights) (now bottoms) maxTriangles ⌝ }
-    requires { ⌜ ((i < maxTriangles) × (m ≤ maxTriangles)) × ((4096 ≤ length (now rows)) × (maxTriangles ≤ length (now near))) ⌝ }
+    requires { ⌜ ((i < maxTriangles) × (m ≤ maxTriangles)) × ((rowsLength ≤ length (now rows)) × (maxTriangles ≤ length (now near))) ⌝ }
     requires { ⌜ (at ≤ maxPairs + 1) × (pairsLength ≤ length (now pairs)) ⌝ }
     ensures { λ r. ⌜ Wrote (rowPairs (now (first .entry)) (now (second .entry)) m (now (rows .entry)) i) at r (now (pairs .entry)) (now (pairs .exit)) ⌝ }
     ensures { λ r. ⌜ length (now (near .exit)) ≡ length (now (near .entry)) ⌝ }
@@ -58,7 +59,7 @@ pub fn put_rows(
 ) -> usize
     requires { ⌜ ((n ≤ maxTriangles) × (numbersPerTriangle * n ≤ length (now first))) × (all (λ t. proper t) (tableOf (now first) n) ≡ true) ⌝ }
     requires { ⌜ BoxedTable (now second) (now lefts) (now tops) (now rights) (now bottoms) m × Places (now lefts) (now tops) (now rights) (now bottoms) maxTriangles ⌝ }
-    requires { ⌜ (m ≤ maxTriangles) × ((4096 ≤ length (now rows)) × ((maxTriangles ≤ length (now near)) × (pairsLength ≤ length (now pairs)))) ⌝ }
+    requires { ⌜ (m ≤ maxTriangles) × ((rowsLength ≤ length (now rows)) × ((maxTriangles ≤ length (now near)) × (pairsLength ≤ length (now pairs)))) ⌝ }
     ensures { λ r. ⌜ Wrote (markedPairs (now (first .entry)) n (now (second .entry)) m (now (rows .entry))) 0 r (now (pairs .entry)) (now (pairs .exit)) ⌝ }
 {
     let mut c = 0;

@@ -7,7 +7,7 @@ use native.Mathlib.Omega.{arith}
 use lib.Pow.{pow-mono}
 use Rattle.orthtree.specs.Entries.{span}
 use Rattle.squares.specs.declared.Square.{Square}
-use Rattle.squares.specs.Square.{sideAt, squareKey}
+use Rattle.squares.specs.Square.{arity, depth, sideAt, squareKey}
 use Rattle.squares.proofs.SideLaws.{shift-half}
 use Rattle.squares.proofs.ZOrderLaws.{zOrder-bound}
 
@@ -15,7 +15,7 @@ squared : (m : ℕ) → 2 ^ m * 2 ^ m ≡ 4 ^ m
 squared zero = refl
 squared (suc m) = rw (pow-succ' 2 m, pow-succ' 4 m, ← squared m) (omega arith)
 
-pub key-step-is : (level : ℕ) → level < 16 → (32768 / 2 ^ level * (32768 / 2 ^ level) ≡ span 4 16 (suc level)) × (32768 / 2 ^ level * (32768 / 2 ^ level) ≤ 1073741824)
+pub key-step-is : (level : ℕ) → level < 16 → (32768 / 2 ^ level * (32768 / 2 ^ level) ≡ span arity depth (suc level)) × (32768 / 2 ^ level * (32768 / 2 ^ level) ≤ 1073741824)
 unfolding span sideAt
 key-step-is level h =
     let e = shift-half level h in

@@ -7,7 +7,7 @@ ghost use Prim.Native.Nat.{suc, _+_, _*_, _≤_, _<_};
 ghost use lib.ListN.{getD};
 ghost use Rattle.plane.specs.Box.{Framed};
 ghost use Rattle.orthtree.specs.Entries.{span};
-ghost use Rattle.squares.specs.Square.{squareKey, squareBox, quarters, Aligned};
+ghost use Rattle.squares.specs.Square.{arity, depth, squareKey, squareBox, quarters, Aligned};
 ghost use Rattle.shapes.specs.Shape.{boxOf};
 
 // A square with its key.
@@ -52,7 +52,7 @@ fn quarter(s: Square, k: u32) -> Square
 // How many keys a quarter of a square of this level covers: 4^(15 - level).
 fn key_step(level: u32) -> u64
     requires { ⌜ level < 16 ⌝ }
-    ensures { λ r. ⌜ (r ≡ span 4 16 (suc level)) × (r ≤ 1073741824) ⌝ }
+    ensures { λ r. ⌜ (r ≡ span arity depth (suc level)) × (r ≤ 1073741824) ⌝ }
 {
     let side = 32768u64 >> level;
     side * side

@@ -16,6 +16,7 @@ use Rattle.plane.specs.Box.{Box}
 use Rattle.boxes.specs.Boxes.{clear, boxesOverlap}
 use Rattle.boxes.proofs.KeepLaws.{kept-none, kept-more, kept-skip}
 use Rattle.bitsets.specs.Bits.{wordBit, hasBit}
+use Rattle.pair_marks.specs.PairMarks.{rowWords}
 use Rattle.row_candidates.specs.RowCandidates.{markedAt, isNear, NearInRow}
 use Rattle.row_candidates.proofs.WordLaws.{Lowest, lowest, bits-before, bit-there, bit-within, bits-after, bits-none}
 
@@ -60,38 +61,38 @@ pub word-start : (w k : ℕ) → w ≡ w / 2 ^ (k - k)
 word-start w k = sym (ap (λ x. w / 2 ^ x) (sub-self k) ∙ div-one w)
 
 -- the marks of row i, word by word
-word-marks : (rows : List ℕ) (i q b : ℕ) → b < 64 → markedAt rows i (64 * q + b) ≡ wordBit (getD rows (8 * i + q) 0) b
+word-marks : (rows : List ℕ) (i q b : ℕ) → b < 64 → markedAt rows i (64 * q + b) ≡ wordBit (getD rows (rowWords * i + q) 0) b
 unfolding hasBit
 word-marks rows i q b h = ap₂ (λ x y. wordBit (getD rows x 0) y) (omega arith) (omega arith)
 
 -- word q of the row, of which the marks from place j on are left
-module _ (rows : List ℕ) (i j q w : ℕ) (fits : getD rows (8 * i + q) 0 < 2 ^ 64) (low : 64 * q ≤ j) (left : w ≡ getD rows (8 * i + q) 0 / 2 ^ (j - 64 * q)) where
+module _ (rows : List ℕ) (i j q w : ℕ) (fits : getD rows (rowWords * i + q) 0 < 2 ^ 64) (low : 64 * q ≤ j) (left : w ≡ getD rows (rowWords * i + q) 0 / 2 ^ (j - 64 * q)) where
   -- nothing is left
   pub word-ended : w ≡ 0 → (k : ℕ) → k < 64 * (q + 1) - j → markedAt rows i (j + k) ≡ false
   word-ended z k l =
       ap (λ x. markedAt rows i x) (omega arith) ∙ word-marks rows i q (j - 64 * q + k) (omega arith)
-      ∙ bits-none (getD rows (8 * i + q) 0) (j - 64 * q) k (sym z ∙ left)
+      ∙ bits-none (getD rows (rowWords * i + q) 0) (j - 64 * q) k (sym z ∙ left)
 
   -- the next mark
   pub next-mark : 0 < w → Lowest w (trailingZeros 64 w)
-  next-mark p = lowest 64 w p (omega (arith, shr-le (getD rows (8 * i + q) 0) (j - 64 * q)))
+  next-mark p = lowest 64 w p (omega (arith, shr-le (getD rows (rowWords * i + q) 0) (j - 64 * q)))
 
   -- it is t places on
   module _ (t : ℕ) (l : Lowest w t) where
     pub mark-within : j + t < 64 * (q + 1)
-    mark-within = omega (arith, bit-within (getD rows (8 * i + q) 0) (j - 64 * q) w t left l 64 fits)
+    mark-within = omega (arith, bit-within (getD rows (rowWords * i + q) 0) (j - 64 * q) w t left l 64 fits)
 
     pub mark-next : (k : ℕ) → k < t → markedAt rows i (j + k) ≡ false
     mark-next k h =
         ap (λ x. markedAt rows i x) (omega arith) ∙ word-marks rows i q (j - 64 * q + k) (omega (arith, mark-within))
-        ∙ bits-before (getD rows (8 * i + q) 0) (j - 64 * q) w t left l k h
+        ∙ bits-before (getD rows (rowWords * i + q) 0) (j - 64 * q) w t left l k h
 
     pub mark-there : markedAt rows i (j + t) ≡ true
     mark-there =
         ap (λ x. markedAt rows i x) (omega arith) ∙ word-marks rows i q (j - 64 * q + t) (omega (arith, mark-within))
-        ∙ bit-there (getD rows (8 * i + q) 0) (j - 64 * q) w t left l
+        ∙ bit-there (getD rows (rowWords * i + q) 0) (j - 64 * q) w t left l
 
-    pub mark-past : w / 2 ^ t / 2 ≡ getD rows (8 * i + q) 0 / 2 ^ (j + t + 1 - 64 * q)
+    pub mark-past : w / 2 ^ t / 2 ≡ getD rows (rowWords * i + q) 0 / 2 ^ (j + t + 1 - 64 * q)
     mark-past =
-        bits-after (getD rows (8 * i + q) 0) (j - 64 * q) w t left l
-        ∙ ap (λ x. getD rows (8 * i + q) 0 / 2 ^ x) (omega arith)
+        bits-after (getD rows (rowWords * i + q) 0) (j - 64 * q) w t left l
+        ∙ ap (λ x. getD rows (rowWords * i + q) 0 / 2 ^ x) (omega arith)

@@ -6,10 +6,8 @@ ghost use Prim.Native.Nat.{_+_, _*_, _≤_, _<_};
 ghost use lib.ListN.{length};
 ghost use Rattle.chart_spec.specs.Table.{maxTriangles};
 ghost use Rattle.boxes.specs.Boxes.{boundsBox, boxAt, Places};
+ghost use Rattle.pair_marks.specs.PairMarks.{rowWords, rowsLength};
 ghost use Rattle.row_candidates.specs.RowCandidates.{NearInRow};
-
-// The words of a row.
-const ROW_WORDS: usize = 8;
 
 // The candidates of word q of row i, after the first c: each mark of the word is looked at once. The box of triangle i is b.
 fn collect_word(
@@ -25,13 +23,13 @@ fn collect_word(
     near: &mut [usize],
     c: usize,
 ) -> usize
-    requires { ⌜ Places (now lefts) (now tops) (now rights) (now bottoms) maxTriangles × ((i < maxTriangles) × (q < 8)) ⌝ }
-    requires { ⌜ (4096 ≤ length (now rows)) × (maxTriangles ≤ length (now near)) ⌝ }
+    requires { ⌜ Places (now lefts) (now tops) (now rights) (now bottoms) maxTriangles × ((i < maxTriangles) × (q < rowWords)) ⌝ }
+    requires { ⌜ (rowsLength ≤ length (now rows)) × (maxTriangles ≤ length (now near)) ⌝ }
     requires { ⌜ NearInRow (boundsBox b) (boxAt (now lefts) (now tops) (now rights) (now bottoms)) (now rows) m i (now near) (64 * q) c ⌝ }
     ensures { λ r. ⌜ NearInRow (boundsBox b) (boxAt (now (lefts .entry)) (now (tops .entry)) (now (rights .entry)) (now (bottoms .entry))) (now (rows .entry)) m i (now (near .exit)) (64 * (q + 1)) r ⌝ }
     ensures { λ r. ⌜ length (now (near .exit)) ≡ length (now (near .entry)) ⌝ }
 {
-    let mut w = rows[ROW_WORDS * i + q];
+    let mut w = rows[pair_marks::ROW_WORDS * i + q];
     let mut j = bitsets::WORD * q;
     let mut n = c;
     while w != 0 {
@@ -57,13 +55,13 @@ pub fn collect_row(
     near: &mut [usize],
 ) -> usize
     requires { ⌜ Places (now lefts) (now tops) (now rights) (now bottoms) maxTriangles × (i < maxTriangles) ⌝ }
-    requires { ⌜ (4096 ≤ length (now rows)) × (maxTriangles ≤ length (now near)) ⌝ }
+    requires { ⌜ (rowsLength ≤ length (now rows)) × (maxTriangles ≤ length (now near)) ⌝ }
     ensures { λ r. ⌜ NearInRow (boundsBox b) (boxAt (now (lefts .entry)) (now (tops .entry)) (now (rights .entry)) (now (bottoms .entry))) (now (rows .entry)) m i (now (near .exit)) maxTriangles r ⌝ }
     ensures { λ r. ⌜ length (now (near .exit)) ≡ length (now (near .entry)) ⌝ }
 {
     let mut c = 0;
     let mut q = 0;
-    while q < ROW_WORDS {
+    while q < pair_marks::ROW_WORDS {
         c = collect_word(b, lefts, tops, rights, bottoms, rows, m, i, q, near, c);
         q += 1;
     }

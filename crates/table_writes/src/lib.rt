@@ -6,7 +6,7 @@ ghost use lib.ListN.{length, take};
 ghost use Rattle.chart_spec.specs.Table.{tableLength};
 ghost use Rattle.call_spec.specs.Buffers.{padded};
 
-// The first n numbers given, then zeros up to place 3072.
+// The first n numbers given, then zeros up to the numbers of a full table.
 pub fn put_table(given: &[u16], n: usize, table: &mut [u16])
     requires { ⌜ (n ≤ length (now given)) × ((n ≤ tableLength) × (tableLength ≤ length (now table))) ⌝ }
     ensures { λ _. ⌜ now (table .exit) ≡ padded tableLength (take n (now (given .entry))) (now (table .entry)) ⌝ }

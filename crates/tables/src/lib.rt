@@ -10,14 +10,15 @@ ghost use lib.Seq.{sets};
 ghost use Rattle.plane.specs.Triangle.{corners, triangleOf};
 ghost use Rattle.chart_spec.specs.Table.{numbersPerTriangle, pointAt, triangleAt, triangleNumbers};
 
-// The numbers of a triangle, and those of a full table.
+// The numbers of a triangle.
 pub const TRIANGLE_NUMBERS: usize = 6;
 
-pub const TABLE_NUMBERS: usize = 3072;
-
-// The most triangles of a table, and the most entries of a chart.
+// The most triangles of a table, and the numbers of so many.
 pub const MOST_TRIANGLES: usize = 512;
 
+pub const TABLE_NUMBERS: usize = TRIANGLE_NUMBERS * MOST_TRIANGLES;
+
+// The most entries of a chart.
 pub const MOST_ENTRIES: usize = 16384;
 
 // The point at places k and k + 1 of a table.

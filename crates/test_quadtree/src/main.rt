@@ -1,4 +1,4 @@
-// Files tables: reads them from standard input and writes the entries of each.
+// A test program: reads tables from standard input, builds the quadtree of each and writes its entries.
 //
 // A table comes as its number of triangles, then six coordinates for each triangle, all of them 16-bit numbers, low byte first.
 // It prints a line with the number of its entries and a line `key level triangle` for each, or `over` above 16,384 entries, or
@@ -8,6 +8,10 @@ use libc::STDIN_FILENO;
 use libc::STDOUT_FILENO;
 ghost use Prim.Native.Nat.{_+_, _*_, _≤_};
 ghost use lib.ListN.{length};
+ghost use Rattle.chart_spec.specs.Cells.{maxEntries};
+
+// The bytes of a triangle.
+const TRIANGLE_BYTES: usize = 2 * tables::TRIANGLE_NUMBERS;
 
 // Number k of a list of bytes, low byte first.
 fn number_at(bytes: &[u8], k: usize) -> u16
@@ -63,29 +67,29 @@ fn print_entries(keys: &[u32], levels: &[u8], items: &[u16], n: usize)
     }
 }
 
-// The places from n on up to 16384 hold 0.
+// The places from n on up to the most entries hold 0.
 fn rest_is_zero(keys: &[u32], levels: &[u8], items: &[u16], n: usize) -> bool
-    requires { ⌜ (16384 ≤ length (now keys)) × ((16384 ≤ length (now levels)) × (16384 ≤ length (now items))) ⌝ }
+    requires { ⌜ (maxEntries ≤ length (now keys)) × ((maxEntries ≤ length (now levels)) × (maxEntries ≤ length (now items))) ⌝ }
 {
     let mut zero = true;
     let mut i = n;
-    while i < 16384 {
+    while i < tables::MOST_ENTRIES {
         zero = zero & (keys[i] == 0) & (levels[i] == 0) & (items[i] == 0);
         i += 1;
     }
     zero
 }
 
-// Files a table and writes its entries.
-fn file(table: &[u16], keys: &mut [u32], levels: &mut [u8], items: &mut [u16])
-    requires { ⌜ (16384 ≤ length (now keys)) × ((16384 ≤ length (now levels)) × (16384 ≤ length (now items))) ⌝ }
+// Builds the entries of a table and writes them.
+fn build_and_print(table: &[u16], keys: &mut [u32], levels: &mut [u8], items: &mut [u16])
+    requires { ⌜ (maxEntries ≤ length (now keys)) × ((maxEntries ≤ length (now levels)) × (maxEntries ≤ length (now items))) ⌝ }
 {
     let m = build_export::build_table(table, keys, levels, items);
     if m > 16385 {
         io::write_all(STDOUT_FILENO, b"refused\n");
         return;
     }
-    if m > 16384 {
+    if m > tables::MOST_ENTRIES {
         io::write_all(STDOUT_FILENO, b"over\n");
         return;
     }
@@ -99,32 +103,32 @@ fn file(table: &[u16], keys: &mut [u32], levels: &mut [u8], items: &mut [u16])
 
 // Reads a table and builds its entries; answers whether there was one.
 fn next_table(keys: &mut [u32], levels: &mut [u8], items: &mut [u16]) -> bool
-    requires { ⌜ (16384 ≤ length (now keys)) × ((16384 ≤ length (now levels)) × (16384 ≤ length (now items))) ⌝ }
+    requires { ⌜ (maxEntries ≤ length (now keys)) × ((maxEntries ≤ length (now levels)) × (maxEntries ≤ length (now items))) ⌝ }
 {
     let mut count = [0u8; 2];
     if io::read_full(STDIN_FILENO, &mut count) < 2 {
         return false;
     }
     let n = number_at(&count, 0) as usize;
-    if n > 512 {
+    if n > tables::MOST_TRIANGLES {
         io::write_all(STDOUT_FILENO, b"refused\n");
         return false;
     }
-    let mut bytes = [0u8; 6144];
-    let length = 12 * n;
+    let mut bytes = [0u8; TRIANGLE_BYTES * tables::MOST_TRIANGLES];
+    let length = TRIANGLE_BYTES * n;
     if io::read_full(STDIN_FILENO, &mut bytes[..length]) < length {
         return false;
     }
-    let mut table = [0u16; 3072];
-    let numbers = 6 * n;
+    let mut table = [0u16; tables::TABLE_NUMBERS];
+    let numbers = tables::TRIANGLE_NUMBERS * n;
     decode(&bytes, numbers, &mut table);
-    file(&table[..numbers], keys, levels, items);
+    build_and_print(&table[..numbers], keys, levels, items);
     true
 }
 
 // The lists go from table to table, so that each build finds the entries of the one before.
 fn build_all(keys: &mut [u32], levels: &mut [u8], items: &mut [u16])
-    requires { ⌜ (16384 ≤ length (now keys)) × ((16384 ≤ length (now levels)) × (16384 ≤ length (now items))) ⌝ }
+    requires { ⌜ (maxEntries ≤ length (now keys)) × ((maxEntries ≤ length (now levels)) × (maxEntries ≤ length (now items))) ⌝ }
 {
     let mut turns = u64::MAX;
     while turns > 0 && next_table(keys, levels, items) {
@@ -133,8 +137,8 @@ fn build_all(keys: &mut [u32], levels: &mut [u8], items: &mut [u16])
 }
 
 fn main() {
-    let mut keys = [7u32; 16384];
-    let mut levels = [7u8; 16384];
-    let mut items = [7u16; 16384];
+    let mut keys = [7u32; tables::MOST_ENTRIES];
+    let mut levels = [7u8; tables::MOST_ENTRIES];
+    let mut items = [7u16; tables::MOST_ENTRIES];
     build_all(&mut keys, &mut levels, &mut items);
 }

@@ -1,4 +1,5 @@
 use native.Mathlib.Omega.{arith}
+use Rattle.chart_spec.specs.Cells.{maxEntries}
 use borrow.Author.Needs.{needs}
 use Rattle.entry_lists.proofs.ListedLaws.{listed-within, listed-again}
 use Rattle.entry_lists.proofs.build_into.Statement.{statement}
@@ -32,7 +33,7 @@ same-length-6 : tie.Need-same-length-6
 same-length-6 c = search needs
 
 returns-2 : tie.Need-returns-2
-returns-2 c = listed-within (c .before .before .before .before .before .before .before .list-few .ensures) 16384 (omega arith) (omega (arith, c .if2 .taken))
+returns-2 c = listed-within (c .before .before .before .before .before .before .before .list-few .ensures) maxEntries (omega arith) (omega (arith, c .if2 .taken))
 
 list-all-requires-2 : tie.Need-list-all-requires-2
 list-all-requires-2 c κs = search needs

@@ -1,5 +1,6 @@
 use Prim.Native.Nat.{_-_}
 use native.Mathlib.Omega.{arith}
+use Rattle.chart_spec.specs.Cells.{maxEntries}
 use borrow.Author.Needs.{needs}
 use Rattle.leaves.specs.Packed.{keyOf}
 use Rattle.list_writes.proofs.StoreLaws.{Copying, copying-start, copying-next, padded-copy}
@@ -48,7 +49,7 @@ same-length c = search needs
 returns : tie.Need-returns Inv-loop μ-loop
 returns c =
     let p = c .before .before .before .before .before .before .before .before .pre in
-    padded-copy 16384 (c .before .before .before .before .before .loop .inv) (omega arith) (p .0) (p .1 .0) (p .1 .1) (c .before .before .clear-keys .ensures)
+    padded-copy maxEntries (c .before .before .before .before .before .loop .inv) (omega arith) (p .0) (p .1 .0) (p .1 .1) (c .before .before .clear-keys .ensures)
 
 pub put-keys-spec : {M : Type 1} → statement M
 put-keys-spec =

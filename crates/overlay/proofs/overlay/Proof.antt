@@ -7,6 +7,7 @@ use borrow.Author.Tests.{not-true, not-false}
 use lib.Dec.{ltb}
 use lib.ListN.{length}
 use Rattle.call_spec.specs.Buffers.{Chart, chartOf, tooShort, chainRule, chartTable, chartEntries, pairsLength}
+use Rattle.pair_marks.specs.PairMarks.{rowsLength}
 use Rattle.bitsets.proofs.BitLaws.{zeros-empty}
 use Rattle.overlay.proofs.OverlayLaws.{overlay-short, first-long, second-long, pairs-long, overlay-broken, first-passed, second-passed, first-chain, second-chain, overlay-passed, overlay-same}
 use Rattle.overlay.proofs.overlay.Statement.{statement}
@@ -92,7 +93,7 @@ mark-pairs-requires c κs =
     let r = rules (c .before) in
     let p = first-passed (first top) (second top) l s r in
     let q = second-passed (first top) (second top) l s r in
-    ((p .entries, (p .keyed, p .listed)), ((q .entries, (q .keyed, q .listed)), (search needs, λ k h. zeros-empty 4104 k)))
+    ((p .entries, (p .keyed, p .listed)), ((q .entries, (q .keyed, q .listed)), (search needs, λ k h. zeros-empty rowsLength k)))
 
 slice-aggregate-put-pairs : tie.Need-slice-aggregate-put-pairs
 slice-aggregate-put-pairs c = search needs

@@ -5,6 +5,7 @@ use borrow.Author.Needs.{needs}
 use lib.ListN.{length}
 use Rattle.chart_spec.specs.Table.{maxTriangles}
 use Rattle.boxes.specs.Boxes.{boundsBox, boxAt}
+use Rattle.pair_marks.specs.PairMarks.{rowWords}
 use Rattle.row_candidates.specs.RowCandidates.{NearInRow}
 use Rattle.row_candidates.proofs.NearLaws.{near-none}
 use Rattle.row_candidates.proofs.collect_row.Statement.{statement}
@@ -12,11 +13,11 @@ use Rattle.row_candidates.proofs.collect_row.Tie as tie
 
 abbrev Inv-loop : tie.InvT-loop
 Inv-loop b lefts tops rights bottoms rows m i near₀ c₀ q₀ near c q =
-    ((q ≤ 8) × (length near ≡ length near₀))
+    ((q ≤ rowWords) × (length near ≡ length near₀))
     × NearInRow (boundsBox b) (boxAt lefts tops rights bottoms) rows m i near (64 * q) c
 
 abbrev μ-loop : tie.MeasureT-loop
-μ-loop b lefts tops rights bottoms rows m i near₀ c₀ q₀ near c q = 8 - q
+μ-loop b lefts tops rights bottoms rows m i near₀ c₀ q₀ near c q = rowWords - q
 
 loop-holds : tie.Need-loop-holds Inv-loop μ-loop
 loop-holds c =

@@ -9,6 +9,7 @@ use Rattle.plane.specs.Box.{Box}
 use Rattle.chart_spec.specs.Table.{maxTriangles}
 use Rattle.boxes.proofs.BoxesLaws.{places-fewer, set-length}
 use Rattle.boxes.specs.Boxes.{boundsBox, boxAt}
+use Rattle.pair_marks.specs.PairMarks.{rowWords}
 use Rattle.row_candidates.specs.RowCandidates.{NearInRow}
 use Rattle.row_candidates.proofs.WordLaws.{Lowest}
 use Rattle.row_candidates.proofs.NearLaws.{near-more, near-skip, word-start, word-ended, next-mark, mark-within, mark-next, mark-there, mark-past}
@@ -18,7 +19,7 @@ use Rattle.row_candidates.proofs.collect_word.Tie as tie
 abbrev Inv-loop : tie.InvT-loop
 Inv-loop b lefts tops rights bottoms rows m i q near₀ c w₀ j₀ n₀ near w j n =
     ((64 * q ≤ j) × (j ≤ 64 * (q + 1)))
-    × ((w ≡ getD rows (8 * i + q) 0 / 2 ^ (j - 64 * q))
+    × ((w ≡ getD rows (rowWords * i + q) 0 / 2 ^ (j - 64 * q))
     × ((length near ≡ length near₀)
     × NearInRow (boundsBox b) (boxAt lefts tops rights bottoms) rows m i near j n))
 
@@ -36,10 +37,10 @@ boxes c = boxAt (c .args .lefts .now) (c .args .tops .now) (c .args .rights .now
 
 -- the word
 abbrev word : tie.Start Inv-loop μ-loop → ℕ
-word c = getD (c .args .rows .now) (8 * c .args .i + c .args .q) 0
+word c = getD (c .args .rows .now) (rowWords * c .args .i + c .args .q) 0
 
 fits : (c : tie.In-loop Inv-loop μ-loop) → word (start c) < 2 ^ 64
-fits c = omega (arith, c .before .before .shared-slice-known6 .given (8 * start c .args .i + start c .args .q))
+fits c = omega (arith, c .before .before .shared-slice-known6 .given (rowWords * start c .args .i + start c .args .q))
 
 -- its next mark
 mark : (c : tie.In-loop Inv-loop μ-loop) → Lowest (c .before .loop .w) (trailingZeros 64 (c .before .loop .w))
@@ -132,7 +133,7 @@ returns c =
     let a = top .args in
     let l = c .before .loop in
     let i = l .inv in
-    let small : word top < 2 ^ 64 = omega (arith, c .before .before .shared-slice-known6 .given (8 * a .i + a .q)) in
+    let small : word top < 2 ^ 64 = omega (arith, c .before .before .shared-slice-known6 .given (rowWords * a .i + a .q)) in
     let none = word-ended (a .rows .now) (a .i) (l .j) (a .q) (l .w) small (i .0 .0) (i .1 .0) (omega arith) in
     let e : l .j + (64 * (a .q + 1) - l .j) ≡ 64 * (a .q + 1) = omega (arith, i .0 .1) in
     let bounds = boundsBox (a .b) in

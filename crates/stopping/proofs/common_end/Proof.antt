@@ -4,6 +4,7 @@ use mathlib.Core.List.{[]}
 use Prim.Native.Nat.{_+_, _*_}
 use native.Mathlib.Omega.{arith}
 use lib.ListN.{getD}
+use Rattle.chart_spec.specs.Table.{numbersPerTriangle}
 use Rattle.chart_spec.specs.Cells.{commonEnd}
 use Rattle.shapes.specs.Shape.{coordinates, boxOf}
 use Rattle.side_masks.specs.Masks.{maskOf, sidesMet}
@@ -104,9 +105,9 @@ either-end-requires c κs =
           (record {
             number = c .before .before .before .before .before .before .before .index .ensures .0;
             mask = r .1 h .0 ∙ ap (λ i. maskOf (sidesMet (a .shape .now) (a .offsets .now) (boxOf (a .f)) i)) (sym (c .before .before .before .before .before .before .before .index .ensures .0));
-            first = point-kept (a .corners .now) (3 * i) (6 * i) (omega arith);
-            second = point-kept (a .corners .now) (3 * i + 1) (6 * i + 2) (omega arith);
-            third = point-kept (a .corners .now) (3 * i + 2) (6 * i + 4) (omega arith);
+            first = point-kept (a .corners .now) (3 * i) (numbersPerTriangle * i) (omega arith);
+            second = point-kept (a .corners .now) (3 * i + 1) (numbersPerTriangle * i + 2) (omega arith);
+            third = point-kept (a .corners .now) (3 * i + 2) (numbersPerTriangle * i + 4) (omega arith);
           })
           (c .before .missed .ensures) (c .missed2 .ensures),
     )
@@ -124,9 +125,9 @@ returns c =
     (record {
       number = c .before .before .before .before .before .before .before .before .index .ensures .0;
       mask = r .1 h .0 ∙ ap (λ i. maskOf (sidesMet (a .shape .now) (a .offsets .now) (boxOf (a .f)) i)) (sym (c .before .before .before .before .before .before .before .before .index .ensures .0));
-      first = point-kept (a .corners .now) (3 * i) (6 * i) (omega arith);
-      second = point-kept (a .corners .now) (3 * i + 1) (6 * i + 2) (omega arith);
-      third = point-kept (a .corners .now) (3 * i + 2) (6 * i + 4) (omega arith);
+      first = point-kept (a .corners .now) (3 * i) (numbersPerTriangle * i) (omega arith);
+      second = point-kept (a .corners .now) (3 * i + 1) (numbersPerTriangle * i + 2) (omega arith);
+      third = point-kept (a .corners .now) (3 * i + 2) (numbersPerTriangle * i + 4) (omega arith);
     })
     (r .1 h .1 .0) (r .1 h .1 .1) (c .before .before .before .before .start-of .ensures) (c .before .before .before .start-of2 .ensures)
 

@@ -2,6 +2,7 @@
 use Prim.Native.Nat.{_+_, _*_, _-_}
 use native.Mathlib.Omega.{arith}
 use lib.ListN.{getD}
+use Rattle.chart_spec.specs.Table.{numbersPerTriangle}
 use Rattle.shapes.specs.Shape.{coordinates, boxOf}
 use Rattle.side_masks.specs.Masks.{unpacked}
 use Rattle.stopping.specs.Stopping.{sidesAt, Tested}
@@ -101,9 +102,9 @@ returns c =
     (record {
       number = c .before .before .before .before .before .before .before .index .ensures .0;
       mask = c .before .before .before .before .before .before .sides-met .ensures .0;
-      first = point-kept (a .corners .now) (3 * i) (6 * i) (omega arith);
-      second = point-kept (a .corners .now) (3 * i + 1) (6 * i + 2) (omega arith);
-      third = point-kept (a .corners .now) (3 * i + 2) (6 * i + 4) (omega arith);
+      first = point-kept (a .corners .now) (3 * i) (numbersPerTriangle * i) (omega arith);
+      second = point-kept (a .corners .now) (3 * i + 1) (numbersPerTriangle * i + 2) (omega arith);
+      third = point-kept (a .corners .now) (3 * i + 2) (numbersPerTriangle * i + 4) (omega arith);
     })
     (c .before .before .missed .ensures) (c .before .missed2 .ensures) in
     tested-out (sidesAt (coordinates (a .corners .now)) (a .shape .now) (a .offsets .now) (boxOf (a .f))) (a .stack .now) (unpacked (a .p)) (unpacked (a .q)) (a .from) (a .to) (c .before .before .before .before .before .before .before .before .before .before .loop .k + 1) _ _ w (c .if1 .taken)
@@ -125,9 +126,9 @@ loop-again c =
     (record {
       number = c .before .before .before .before .before .before .before .index .ensures .0;
       mask = c .before .before .before .before .before .before .sides-met .ensures .0;
-      first = point-kept (a .corners .now) (3 * i) (6 * i) (omega arith);
-      second = point-kept (a .corners .now) (3 * i + 1) (6 * i + 2) (omega arith);
-      third = point-kept (a .corners .now) (3 * i + 2) (6 * i + 4) (omega arith);
+      first = point-kept (a .corners .now) (3 * i) (numbersPerTriangle * i) (omega arith);
+      second = point-kept (a .corners .now) (3 * i + 1) (numbersPerTriangle * i + 2) (omega arith);
+      third = point-kept (a .corners .now) (3 * i + 2) (numbersPerTriangle * i + 4) (omega arith);
     })
     (c .before .before .missed .ensures) (c .before .missed2 .ensures)
 

@@ -4,7 +4,7 @@ use Prim.Native.Nat.{_+_, _*_}
 use native.Mathlib.Numerals.{add-two, add-four}
 use lib.Seq.{sets}
 use Rattle.plane.specs.Triangle.{triangleOf, cornerAt}
-use Rattle.chart_spec.specs.Table.{triangleNumbers}
+use Rattle.chart_spec.specs.Table.{numbersPerTriangle, triangleNumbers}
 use borrow.Author.Needs.{needs}
 use Rattle.tables.proofs.put_triangle.Statement.{statement}
 use Rattle.tables.proofs.put_triangle.Tie as tie
@@ -43,7 +43,7 @@ returns : tie.Need-returns
 unfolding triangleNumbers triangleOf cornerAt
 returns c =
     let a = c .before .before .before .before .before .before .before .before .before .before .before .before .before .before .before .before .args in
-    let k = 6 * a .i in
+    let k = numbersPerTriangle * a .i in
     let p = cornerAt (a .t3) 0 in
     let q = cornerAt (a .t3) 1 in
     let r = cornerAt (a .t3) 2 in

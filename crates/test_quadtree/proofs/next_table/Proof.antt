@@ -2,6 +2,7 @@ use mathlib.Core.Path.{sym}
 use Prim.Native.Nat.{_*_}
 use native.Mathlib.Omega.{arith}
 use lib.Seq.{length-take-le}
+use Rattle.chart_spec.specs.Table.{numbersPerTriangle}
 use Rattle.lists.proofs.LentLaws.{lent-length, back-length}
 use borrow.Author.Needs.{needs}
 use Rattle.test_quadtree.proofs.next_table.Statement.{statement}
@@ -64,11 +65,11 @@ decode-requires c κs = let b = back-length (12 * c .before .before .before .bef
 array-share-prefix-table : tie.Need-array-share-prefix-table
 array-share-prefix-table c = search needs
 
-slice-aggregate-file : tie.Need-slice-aggregate-file
-slice-aggregate-file c = sym (length-take-le (6 * c .before .before .before .before .before .before .before .before .before .before .number-at .result) (c .before .before .decode .last .1 .1 .0) (omega arith))
+slice-aggregate-build-and-print : tie.Need-slice-aggregate-build-and-print
+slice-aggregate-build-and-print c = sym (length-take-le (numbersPerTriangle * c .before .before .before .before .before .before .before .before .before .before .number-at .result) (c .before .before .decode .last .1 .1 .0) (omega arith))
 
-file-requires : tie.Need-file-requires
-file-requires c κs = search needs
+build-and-print-requires : tie.Need-build-and-print-requires
+build-and-print-requires c κs = search needs
 
 same-length : tie.Need-same-length
 same-length c = search needs
@@ -105,8 +106,8 @@ next-table-spec =
     slice-aggregate-decode-2
     decode-requires
     array-share-prefix-table
-    slice-aggregate-file
-    file-requires
+    slice-aggregate-build-and-print
+    build-and-print-requires
     same-length
     same-length-2
     same-length-3
