@@ -19,6 +19,7 @@ use Rattle.chain_blocks.proofs.KeyBlocksLaws.{KeysOf}
 use Rattle.call_spec.specs.Buffers.{zipEntries}
 use Rattle.call_laws.proofs.EntriesLaws.{first-count, first-at}
 use Rattle.pair_marks.specs.PairMarks.{placeOf, someAt}
+use Rattle.chart_spec.specs.Table.{maxTriangles}
 
 -- the first n keys and items are those of the entries
 pub record EntriesOf (ks is : List ℕ) (n : ℕ) (es : List Entry) : Type 0 where
@@ -47,21 +48,21 @@ entries-of ks us is n h l g = record {
         let whole : take n es ≡ es = take-all n es (omega (arith, count)) in
         rw (sub-zero n, whole) at p
 
--- of an item below 512, its own number is its row and its bit
-own-place : (t i : ℕ) → i < 512 → eqb (placeOf t) i ≡ eqb t i
+-- of an item below maxTriangles, its own number is its row and its bit
+own-place : (t i : ℕ) → i < maxTriangles → eqb (placeOf t) i ≡ eqb t i
 own-place t i h = elim (ℕ-discrete t i) [
   | yes e ↦ eq-eqb (placeOf t) i (omega arith) ∙ sym (eq-eqb t i e)
   | no n ↦ ne-eqb (placeOf t) i (λ e. n (omega arith)) ∙ sym (ne-eqb t i n)
 ]
 
-some-item : (i : ℕ) → i < 512 → (gs : List Entry) → any (λ t. eqb (placeOf t) i) (map (λ e. e .item) gs) ≡ any (λ g. eqb (g .item) i) gs
+some-item : (i : ℕ) → i < maxTriangles → (gs : List Entry) → any (λ t. eqb (placeOf t) i) (map (λ e. e .item) gs) ≡ any (λ g. eqb (g .item) i) gs
 unfolding any
 some-item i h [] = refl
 some-item i h (g ∷ gs) =
     ap₂ (λ (b c : Bool). elim b [ true ↦ true | false ↦ c ]) (own-place (g .item) i h) (some-item i h gs)
 
 -- some entry of a part lists the item
-pub some-listed : {ks is : List ℕ} {n : ℕ} {es : List Entry} → EntriesOf ks is n es → (a r : ℕ) → a ≤ r → r ≤ n → (i : ℕ) → i < 512
+pub some-listed : {ks is : List ℕ} {n : ℕ} {es : List Entry} → EntriesOf ks is n es → (a r : ℕ) → a ≤ r → r ≤ n → (i : ℕ) → i < maxTriangles
     → someAt is a r i ≡ any (λ g. eqb (g .item) i) (take (r - a) (drop a es))
 unfolding someAt
 some-listed {es = es} x a r h l i s =

@@ -28,6 +28,8 @@ use Rattle.bitsets.specs.Bits.{hasBit}
 use Rattle.runs.specs.Runs.{RunOf}
 use Rattle.merge.specs.Merge.{BlockMarked, Overlapping, Merged}
 use Rattle.runs.proofs.WalkLaws.{blocks-few}
+use Rattle.chart_spec.specs.Table.{maxTriangles}
+use Rattle.chart_spec.specs.Cells.{maxEntries}
 use Rattle.merge.proofs.EntryLaws.{EntriesOf, entries-of, some-listed}
 
 pos : 0 < arity
@@ -55,13 +57,13 @@ run-below c {es} rule {ks} {n} x {a} {p} {e} h cell w run = record {
 
 -- nothing is passed yet
 reached-start : (c d : ℕ) (es fs : List Entry) → T (chain arity depth c es) → T (chain arity depth d fs) → (rows : List ℕ)
-    → ((k : ℕ) → k < 512 * 512 → hasBit rows k ≡ false) → Reached es fs 0 0 rows 0
+    → ((k : ℕ) → k < maxTriangles * maxTriangles → hasBit rows k ≡ false) → Reached es fs 0 0 rows 0
 unfolding listedTogether meetings cellHeads any filter sumOf
 reached-start c d es fs rule rule₂ rows empty = record {
   key = 0;
   first = cut-start arity depth pos c es rule;
   second = cut-start arity depth pos d fs rule₂;
-  before = record { marks = λ i j h l. empty (512 * i + j) (omega arith); count = refl };
+  before = record { marks = λ i j h l. empty (maxTriangles * i + j) (omega arith); count = refl };
 }
 
 -- one block more
@@ -101,14 +103,14 @@ run-cells ks a r = omega (arith, blocks-few (take (r - a) (drop a ks)), length-t
 
 -- a product of cells of two runs fits into 64 bits
 pub cells-fit : {ks : List ℕ} {n a e r cells : ℕ} {ls : List ℕ} {m b f s cells₂ : ℕ} → RunOf ks n a e r cells → RunOf ls m b f s cells₂
-    → n ≤ 16384 → m ≤ 16384 → cells * cells₂ ≤ 16384 * 16384
+    → n ≤ maxEntries → m ≤ maxEntries → cells * cells₂ ≤ maxEntries * maxEntries
 cells-fit {ks} {a = a} {r = r} {ls = ls} {b = b} {s = s} x y h l =
-    mul-le-mul {n₂ = 16384} {m₂ = 16384} (omega (arith, x .count, run-cells ks a r, x .ends .within))
+    mul-le-mul {n₂ = maxEntries} {m₂ = maxEntries} (omega (arith, x .count, run-cells ks a r, x .ends .within))
     (omega (arith, y .count, run-cells ls b s, y .ends .within))
 
 -- a number of pairs fits into 64 bits
-pub pairs-fit : {count p q : ℕ} → count ≤ p * q → p ≤ 16384 → q ≤ 16384 → count ≤ 16384 * 16384
-pairs-fit {count} {p} {q} h l g = omega (arith, mul-le-mul {n₁ = p} {m₁ = q} {n₂ = 16384} {m₂ = 16384} l g)
+pub pairs-fit : {count p q : ℕ} → count ≤ p * q → p ≤ maxEntries → q ≤ maxEntries → count ≤ maxEntries * maxEntries
+pairs-fit {count} {p} {q} h l g = omega (arith, mul-le-mul {n₁ = p} {m₁ = q} {n₂ = maxEntries} {m₂ = maxEntries} l g)
 
 -- both places are within their lists
 pub both-below : {a n b m : ℕ} → ltb a n && ltb b m ≡ true → (a < n) × (b < m)
@@ -128,7 +130,7 @@ pub record Merging (ks is : List ℕ) (n : ℕ) (ls js : List ℕ) (m : ℕ) (st
       → T (chain arity depth c es) → T (chain arity depth d fs) → Reached es fs a b rows count
 
 module _ (ks is : List ℕ) (n : ℕ) (ls js : List ℕ) (m : ℕ) where
-  pub merging-start : (rows : List ℕ) → ((k : ℕ) → k < 512 * 512 → hasBit rows k ≡ false) → Merging ks is n ls js m rows rows 0 0 0
+  pub merging-start : (rows : List ℕ) → ((k : ℕ) → k < maxTriangles * maxTriangles → hasBit rows k ≡ false) → Merging ks is n ls js m rows rows 0 0 0
   merging-start rows empty = record {
     firstIn = omega arith;
     secondIn = omega arith;

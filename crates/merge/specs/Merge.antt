@@ -12,6 +12,7 @@ use Rattle.call_spec.specs.Buffers.{zipEntries}
 use Rattle.bitsets.specs.Bits.{hasBit}
 use Rattle.runs.specs.Runs.{BlockEnd}
 use Rattle.pair_marks.specs.PairMarks.{PartsMarked}
+use Rattle.chart_spec.specs.Table.{maxTriangles}
 
 -- the block that starts at places a and b and ends at p and q, marked in the rows, and its pairs of cells
 pub record BlockMarked (ks is : List ℕ) (n a p : ℕ) (ls js : List ℕ) (m b q pairs : ℕ) (before after : List ℕ) : Type 0 where
@@ -24,7 +25,7 @@ pub record BlockMarked (ks is : List ℕ) (n a p : ℕ) (ls js : List ℕ) (m b 
 
 -- the rows have a bit for each pair of items that are listed together, and r is the number of meetings
 pub record Overlapping (es fs : List Entry) (rows : List ℕ) (r : ℕ) : Type 0 where
-  pub marks : (i j : ℕ) → i < 512 → j < 512 → hasBit rows (512 * i + j) ≡ listedTogether arity depth es fs i j
+  pub marks : (i j : ℕ) → i < maxTriangles → j < maxTriangles → hasBit rows (maxTriangles * i + j) ≡ listedTogether arity depth es fs i j
   pub count : r ≡ meetings arity depth es fs
 
 -- the same of lists of keys and items that satisfy the chain rule, whatever levels and triangle counts they do so with

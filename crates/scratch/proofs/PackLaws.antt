@@ -9,7 +9,7 @@ use lib.ListN.{length}
 use Rattle.lists.proofs.ListsLaws.{Every, every-uncons}
 use Rattle.lists.proofs.EveryLaws.{every-imp}
 use Rattle.orthtree.specs.Entries.{Entry, emptyMark}
-use Rattle.chart_spec.specs.Table.{tableOf}
+use Rattle.chart_spec.specs.Table.{tableOf, maxTriangles}
 use Rattle.chart_spec.specs.Cells.{entriesOf}
 use Rattle.chart_laws.proofs.ChainOfTable.{entries-bounds}
 use Rattle.chart_laws.proofs.TableLaws.{tableOf-length}
@@ -21,15 +21,15 @@ pub record Packable (e : Entry) : Type 0 where
   pub level : e .level < 256
   pub item : e .item < 65536
 
-small-item : (count i : ℕ) → count ≤ 512 → (i < count) ⊎ (i ≡ emptyMark) → i < 65536
+small-item : (count i : ℕ) → count ≤ maxTriangles → (i < count) ⊎ (i ≡ emptyMark) → i < 65536
 unfolding emptyMark
 small-item count i h (inl l) = omega arith
 small-item count i h (inr e) = omega arith
 
 -- the entries of a table are packable
-pub entries-packable : (ns : List ℕ) (n : ℕ) → n ≤ 512 → Every (λ e. Packable e) (entriesOf (tableOf ns n))
+pub entries-packable : (ns : List ℕ) (n : ℕ) → n ≤ maxTriangles → Every (λ e. Packable e) (entriesOf (tableOf ns n))
 entries-packable ns n h =
-    let few : length (tableOf ns n) ≤ 512 = rw (tableOf-length ns n) h in
+    let few : length (tableOf ns n) ≤ maxTriangles = rw (tableOf-length ns n) h in
     every-imp
     (λ e b. record { level = omega (arith, b .level); item = small-item (length (tableOf ns n)) (e .item) few (b .item) })
     (entries-bounds (tableOf ns n))
