@@ -6,19 +6,10 @@ use borrow.Author.Needs.{needs}
 use Rattle.box_tests.proofs.side_meets.Statement.{statement}
 use Rattle.box_tests.proofs.side_meets.Tie as tie
 
-add-touches : tie.Need-add-touches
-add-touches c = search needs
-
-touches-requires : tie.Need-touches-requires
-touches-requires c κs = search needs
-
-base-requires : tie.Need-base-requires
-base-requires c κs = search needs
-
 returns : tie.Need-returns
 unfolding sideMeetsAt
 returns c = ap₂ _&&_ (c .before .touches .ensures) (ap (λ x. leb x (c .before .before .before .args .v)) (c .base .ensures))
 
 pub side-meets-spec : {M : Type 1} → statement M
 side-meets-spec =
-    tie.close (tie.spec add-touches touches-requires base-requires returns)
+    tie.close (tie.spec (λ c. search needs) (λ c κs. search needs) (λ c κs. search needs) returns)

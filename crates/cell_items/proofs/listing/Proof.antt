@@ -20,27 +20,6 @@ chained : (c : tie.Start) (count : ℕ) (levels : List ℕ) → c .args .n ≤ l
     → ChainLists arity depth count (c .args .keys .now) levels (c .args .items .now) (c .args .n)
 chained c count levels w h = record { keys = c .pre .0 .0; levels = w; items = c .pre .0 .1; rule = rw h tt }
 
-z-order-requires : tie.Need-z-order-requires
-z-order-requires c κs = search needs
-
-last-block-requires : tie.Need-last-block-requires
-last-block-requires c κs = search needs
-
-mul-if1 : tie.Need-mul-if1
-mul-if1 c = search needs
-
-shared-slice-read-if1 : tie.Need-shared-slice-read-if1
-shared-slice-read-if1 c = search needs
-
-sub-result : tie.Need-sub-result
-sub-result c = search needs
-
-part-result-start : tie.Need-part-result-start
-part-result-start c = search needs
-
-part-result-end : tie.Need-part-result-end
-part-result-end c = search needs
-
 returns : tie.Need-returns
 returns c =
     let top = c .before .before .before .before .before .before .before in
@@ -52,18 +31,6 @@ returns c =
           own-part 0 0 (omega arith) (omega arith) refl refl refl
           (point-nowhere (chained top count levels w h) (top .args .p) z (f .last-block .ensures) m),
     )
-
-mul-result : tie.Need-mul-result
-mul-result c = search needs
-
-sub-result-2 : tie.Need-sub-result-2
-sub-result-2 c = search needs
-
-part-result-start-2 : tie.Need-part-result-start-2
-part-result-start-2 c = search needs
-
-part-result-end-2 : tie.Need-part-result-end-2
-part-result-end-2 c = search needs
 
 returns-2 : tie.Need-returns-2
 returns-2 c =
@@ -83,16 +50,16 @@ pub listing-spec : {M : Type 1} → statement M
 listing-spec =
     tie.close
     (tie.spec
-    z-order-requires
-    last-block-requires
-    mul-if1
-    shared-slice-read-if1
-    sub-result
-    part-result-start
-    part-result-end
+    (λ c κs. search needs)
+    (λ c κs. search needs)
+    (λ c. search needs)
+    (λ c. search needs)
+    (λ c. search needs)
+    (λ c. search needs)
+    (λ c. search needs)
     returns
-    mul-result
-    sub-result-2
-    part-result-start-2
-    part-result-end-2
+    (λ c. search needs)
+    (λ c. search needs)
+    (λ c. search needs)
+    (λ c. search needs)
     returns-2)

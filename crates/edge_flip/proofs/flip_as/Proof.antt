@@ -11,30 +11,6 @@ use borrow.Author.Needs.{needs}
 use Rattle.edge_flip.proofs.flip_as.Statement.{statement}
 use Rattle.edge_flip.proofs.flip_as.Tie as tie
 
-array-copy-out-t14 : tie.Need-array-copy-out-t14
-array-copy-out-t14 c = search needs
-
-array-copy-out-t17 : tie.Need-array-copy-out-t17
-array-copy-out-t17 c = search needs
-
-array-copy-out-t20 : tie.Need-array-copy-out-t20
-array-copy-out-t20 c = search needs
-
-array-copy-out-t14-2 : tie.Need-array-copy-out-t14-2
-array-copy-out-t14-2 c = search needs
-
-array-copy-out-t20-2 : tie.Need-array-copy-out-t20-2
-array-copy-out-t20-2 c = search needs
-
-array-copy-out-t17-2 : tie.Need-array-copy-out-t17-2
-array-copy-out-t17-2 c = search needs
-
-is-proper-requires : tie.Need-is-proper-requires
-is-proper-requires c κs = search needs
-
-is-proper-requires-2 : tie.Need-is-proper-requires-2
-is-proper-requires-2 c κs = search needs
-
 returns : tie.Need-returns
 unfolding triangle triangleOf cornerAt
 returns c =
@@ -44,15 +20,6 @@ returns c =
           (sym both ∙ not-true (c .before .before .is-proper .result && c .before .is-proper2 .result) (c .if1 .taken))),
       omega arith,
     )
-
-replace-row-requires : tie.Need-replace-row-requires
-replace-row-requires c κs = search needs
-
-put-triangle-requires : tie.Need-put-triangle-requires
-put-triangle-requires c κs = search needs
-
-same-length : tie.Need-same-length
-same-length c = search needs
 
 returns-2 : tie.Need-returns-2
 unfolding triangle triangleOf cornerAt
@@ -73,16 +40,16 @@ pub flip-as-spec : {M : Type 1} → statement M
 flip-as-spec =
     tie.close
     (tie.spec
-    array-copy-out-t14
-    array-copy-out-t17
-    array-copy-out-t20
-    array-copy-out-t14-2
-    array-copy-out-t20-2
-    array-copy-out-t17-2
-    is-proper-requires
-    is-proper-requires-2
+    (λ c. search needs)
+    (λ c. search needs)
+    (λ c. search needs)
+    (λ c. search needs)
+    (λ c. search needs)
+    (λ c. search needs)
+    (λ c κs. search needs)
+    (λ c κs. search needs)
     returns
-    replace-row-requires
-    put-triangle-requires
-    same-length
+    (λ c κs. search needs)
+    (λ c κs. search needs)
+    (λ c. search needs)
     returns-2)

@@ -5,18 +5,6 @@ use Rattle.entry_checks.proofs.MatchLaws.{match-entries}
 use Rattle.entry_checks.proofs.match_all.Statement.{statement}
 use Rattle.entry_checks.proofs.match_all.Tie as tie
 
-slice-aggregate-build : tie.Need-slice-aggregate-build
-slice-aggregate-build c = search needs
-
-build-requires : tie.Need-build-requires
-build-requires c κs = search needs
-
-slice-aggregate-same-entries : tie.Need-slice-aggregate-same-entries
-slice-aggregate-same-entries c = search needs
-
-same-entries-requires : tie.Need-same-entries-requires
-same-entries-requires c κs = search needs
-
 returns : tie.Need-returns
 returns c =
     let a = c .before .before .before .before .before .before .before .before .before .args in
@@ -29,8 +17,8 @@ pub match-all-spec : {M : Type 1} → statement M
 match-all-spec =
     tie.close
     (tie.spec
-    slice-aggregate-build
-    build-requires
-    slice-aggregate-same-entries
-    same-entries-requires
+    (λ c. search needs)
+    (λ c κs. search needs)
+    (λ c. search needs)
+    (λ c κs. search needs)
     returns)

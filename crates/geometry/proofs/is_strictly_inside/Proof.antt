@@ -5,33 +5,6 @@ use borrow.Author.Needs.{needs}
 use Rattle.geometry.proofs.is_strictly_inside.Statement.{statement}
 use Rattle.geometry.proofs.is_strictly_inside.Tie as tie
 
-array-copy-out-is-inner : tie.Need-array-copy-out-is-inner
-array-copy-out-is-inner c = search needs
-
-array-copy-out-is-inner-2 : tie.Need-array-copy-out-is-inner-2
-array-copy-out-is-inner-2 c = search needs
-
-is-inner-requires : tie.Need-is-inner-requires
-is-inner-requires c κs = search needs
-
-array-copy-out-is-inner-3 : tie.Need-array-copy-out-is-inner-3
-array-copy-out-is-inner-3 c = search needs
-
-array-copy-out-is-inner-4 : tie.Need-array-copy-out-is-inner-4
-array-copy-out-is-inner-4 c = search needs
-
-is-inner-requires-2 : tie.Need-is-inner-requires-2
-is-inner-requires-2 c κs = search needs
-
-array-copy-out-is-inner-5 : tie.Need-array-copy-out-is-inner-5
-array-copy-out-is-inner-5 c = search needs
-
-array-copy-out-is-inner-6 : tie.Need-array-copy-out-is-inner-6
-array-copy-out-is-inner-6 c = search needs
-
-is-inner-requires-3 : tie.Need-is-inner-requires-3
-is-inner-requires-3 c κs = search needs
-
 returns : tie.Need-returns
 unfolding strictlyInside triangleOf cornerAt
 returns c = ap₂ _&&_ (ap₂ _&&_ (c .before .before .before .before .before .before .is-inner .ensures) (c .before .before .before .is-inner2 .ensures)) (c .is-inner3 .ensures)
@@ -40,13 +13,13 @@ pub is-strictly-inside-spec : {M : Type 1} → statement M
 is-strictly-inside-spec =
     tie.close
     (tie.spec
-    array-copy-out-is-inner
-    array-copy-out-is-inner-2
-    is-inner-requires
-    array-copy-out-is-inner-3
-    array-copy-out-is-inner-4
-    is-inner-requires-2
-    array-copy-out-is-inner-5
-    array-copy-out-is-inner-6
-    is-inner-requires-3
+    (λ c. search needs)
+    (λ c. search needs)
+    (λ c κs. search needs)
+    (λ c. search needs)
+    (λ c. search needs)
+    (λ c κs. search needs)
+    (λ c. search needs)
+    (λ c. search needs)
+    (λ c κs. search needs)
     returns)

@@ -3,15 +3,6 @@ use borrow.Author.Needs.{needs}
 use Rattle.links.proofs.fault.Statement.{statement}
 use Rattle.links.proofs.fault.Tie as tie
 
-low-bits-requires : tie.Need-low-bits-requires
-low-bits-requires c κs = search needs
-
-gap-requires : tie.Need-gap-requires
-gap-requires c κs = search needs
-
-unless-requires : tie.Need-unless-requires
-unless-requires c κs = search needs
-
 returns : tie.Need-returns
 returns c =
     let top = c .before .before .before in
@@ -22,4 +13,4 @@ returns c =
     (top .pre) (search needs) (m .ensures) (c .unless .ensures) (g .ensures)
 
 pub fault-spec : {M : Type 1} → statement M
-fault-spec = tie.close (tie.spec low-bits-requires gap-requires unless-requires returns)
+fault-spec = tie.close (tie.spec (λ c κs. search needs) (λ c κs. search needs) (λ c κs. search needs) returns)

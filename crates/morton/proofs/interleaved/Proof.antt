@@ -3,18 +3,6 @@ use borrow.Author.Needs.{needs}
 use Rattle.morton.proofs.interleaved.Statement.{statement}
 use Rattle.morton.proofs.interleaved.Tie as tie
 
-spread-requires : tie.Need-spread-requires
-spread-requires c κs = search needs
-
-spread-requires-2 : tie.Need-spread-requires-2
-spread-requires-2 c κs = search needs
-
-mul-result : tie.Need-mul-result
-mul-result c = search needs
-
-add-result : tie.Need-add-result
-add-result c = search needs
-
 returns : tie.Need-returns
 returns c =
     let a = c .before .before .args in
@@ -22,4 +10,4 @@ returns c =
 
 pub interleaved-spec : {M : Type 1} → statement M
 interleaved-spec =
-    tie.close (tie.spec spread-requires spread-requires-2 mul-result add-result returns)
+    tie.close (tie.spec (λ c κs. search needs) (λ c κs. search needs) (λ c. search needs) (λ c. search needs) returns)

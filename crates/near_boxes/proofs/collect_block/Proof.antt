@@ -6,9 +6,6 @@ use Rattle.near_boxes.proofs.NearLaws.{near-block}
 use Rattle.near_boxes.proofs.collect_block.Statement.{statement}
 use Rattle.near_boxes.proofs.collect_block.Tie as tie
 
-block-clear-requires : tie.Need-block-clear-requires
-block-clear-requires c κs = search needs
-
 returns : tie.Need-returns
 returns c =
     let top = c .before .before .before .before .before .before .before in
@@ -18,18 +15,6 @@ returns c =
       refl,
     )
 
-add-collect : tie.Need-add-collect
-add-collect c = search needs
-
-collect-requires : tie.Need-collect-requires
-collect-requires c κs = search needs
-
-same-length : tie.Need-same-length
-same-length c = search needs
-
-returns-2 : tie.Need-returns-2
-returns-2 c = search needs
-
 pub collect-block-spec : {M : Type 1} → statement M
 collect-block-spec =
-    tie.close (tie.spec block-clear-requires returns add-collect collect-requires same-length returns-2)
+    tie.close (tie.spec (λ c κs. search needs) returns (λ c. search needs) (λ c κs. search needs) (λ c. search needs) (λ c. search needs))

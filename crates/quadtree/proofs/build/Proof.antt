@@ -13,27 +13,6 @@ use borrow.Author.Needs.{needs}
 use Rattle.quadtree.proofs.build.Statement.{statement}
 use Rattle.quadtree.proofs.build.Tie as tie
 
-prepare-requires : tie.Need-prepare-requires
-prepare-requires c κs = search needs
-
-put-numbers-requires : tie.Need-put-numbers-requires
-put-numbers-requires c κs = search needs
-
-whole-requires : tie.Need-whole-requires
-whole-requires c κs = search needs
-
-mul-build-square : tie.Need-mul-build-square
-mul-build-square c = search needs
-
-sub-build-square : tie.Need-sub-build-square
-sub-build-square c = search needs
-
-part-build-square-start : tie.Need-part-build-square-start
-part-build-square-start c = search needs
-
-part-build-square-end : tie.Need-part-build-square-end
-part-build-square-end c = search needs
-
 build-square-requires : tie.Need-build-square-requires
 build-square-requires c κs =
     let top = c .before .before .before .before .before .before .before .before .before .before .before .before .before .before .before .before .before .before .before .before .before .before .before .before .before .before .before in
@@ -54,21 +33,6 @@ build-square-requires c κs =
       ),
     )
 
-same-length : tie.Need-same-length
-same-length c = search needs
-
-same-length-2 : tie.Need-same-length-2
-same-length-2 c = search needs
-
-same-length-3 : tie.Need-same-length-3
-same-length-3 c = search needs
-
-same-length-4 : tie.Need-same-length-4
-same-length-4 c = search needs
-
-same-length-5 : tie.Need-same-length-5
-same-length-5 c = search needs
-
 returns : tie.Need-returns
 returns c =
     let top = c .before .before .before .before .before .before .before .before .before .before .before .before .before .before .before .before .before .before .before .before .before .before .before .before .before .before .before .before .before .before .before .before in
@@ -85,17 +49,17 @@ pub build-spec : {M : Type 1} → statement M
 build-spec =
     tie.close
     (tie.spec
-    prepare-requires
-    put-numbers-requires
-    whole-requires
-    mul-build-square
-    sub-build-square
-    part-build-square-start
-    part-build-square-end
+    (λ c κs. search needs)
+    (λ c κs. search needs)
+    (λ c κs. search needs)
+    (λ c. search needs)
+    (λ c. search needs)
+    (λ c. search needs)
+    (λ c. search needs)
     build-square-requires
-    same-length
-    same-length-2
-    same-length-3
-    same-length-4
-    same-length-5
+    (λ c. search needs)
+    (λ c. search needs)
+    (λ c. search needs)
+    (λ c. search needs)
+    (λ c. search needs)
     returns)

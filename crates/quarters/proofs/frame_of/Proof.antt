@@ -5,27 +5,6 @@ use borrow.Author.Needs.{needs}
 use Rattle.quarters.proofs.frame_of.Statement.{statement}
 use Rattle.quarters.proofs.frame_of.Tie as tie
 
-side-requires : tie.Need-side-requires
-side-requires c κs = search needs
-
-add-right : tie.Need-add-right
-add-right c = search needs
-
-add-bottom : tie.Need-add-bottom
-add-bottom c = search needs
-
-cast-t5 : tie.Need-cast-t5
-cast-t5 c = search needs
-
-cast-t6 : tie.Need-cast-t6
-cast-t6 c = search needs
-
-cast-t7 : tie.Need-cast-t7
-cast-t7 c = search needs
-
-cast-t8 : tie.Need-cast-t8
-cast-t8 c = search needs
-
 returns : tie.Need-returns
 unfolding squareBox
 returns c =
@@ -38,4 +17,4 @@ returns c =
 
 pub frame-of-spec : {M : Type 1} → statement M
 frame-of-spec =
-    tie.close (tie.spec side-requires add-right add-bottom cast-t5 cast-t6 cast-t7 cast-t8 returns)
+    tie.close (tie.spec (λ c κs. search needs) (λ c. search needs) (λ c. search needs) (λ c. search needs) (λ c. search needs) (λ c. search needs) (λ c. search needs) returns)

@@ -6,24 +6,6 @@ use borrow.Author.Needs.{needs}
 use Rattle.shared_edges.proofs.shares_side.Statement.{statement}
 use Rattle.shared_edges.proofs.shares_side.Tie as tie
 
-array-copy-out-same-point : tie.Need-array-copy-out-same-point
-array-copy-out-same-point c = search needs
-
-array-copy-out-same-point-2 : tie.Need-array-copy-out-same-point-2
-array-copy-out-same-point-2 c = search needs
-
-same-point-requires : tie.Need-same-point-requires
-same-point-requires c κs = search needs
-
-array-copy-out-same-point-3 : tie.Need-array-copy-out-same-point-3
-array-copy-out-same-point-3 c = search needs
-
-array-copy-out-same-point-4 : tie.Need-array-copy-out-same-point-4
-array-copy-out-same-point-4 c = search needs
-
-same-point-requires-2 : tie.Need-same-point-requires-2
-same-point-requires-2 c κs = search needs
-
 returns : tie.Need-returns
 unfolding sharesSide triangleOf cornerAt
 returns c = ap₂ _&&_ (c .before .before .before .same-point .ensures) (c .same-point2 .ensures)
@@ -32,10 +14,10 @@ pub shares-side-spec : {M : Type 1} → statement M
 shares-side-spec =
     tie.close
     (tie.spec
-    array-copy-out-same-point
-    array-copy-out-same-point-2
-    same-point-requires
-    array-copy-out-same-point-3
-    array-copy-out-same-point-4
-    same-point-requires-2
+    (λ c. search needs)
+    (λ c. search needs)
+    (λ c κs. search needs)
+    (λ c. search needs)
+    (λ c. search needs)
+    (λ c κs. search needs)
     returns)

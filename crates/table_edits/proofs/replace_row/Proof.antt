@@ -5,15 +5,6 @@ use borrow.Author.Needs.{needs}
 use Rattle.table_edits.proofs.replace_row.Statement.{statement}
 use Rattle.table_edits.proofs.replace_row.Tie as tie
 
-append-rows-requires : tie.Need-append-rows-requires
-append-rows-requires c κs = search needs
-
-put-triangle-requires : tie.Need-put-triangle-requires
-put-triangle-requires c κs = search needs
-
-same-length : tie.Need-same-length
-same-length c = search needs
-
 returns : tie.Need-returns
 returns c =
     let top = c .before .before .before .before .before .before .before .before .before .before in
@@ -23,4 +14,4 @@ returns c =
 
 pub replace-row-spec : {M : Type 1} → statement M
 replace-row-spec =
-    tie.close (tie.spec append-rows-requires put-triangle-requires same-length returns)
+    tie.close (tie.spec (λ c κs. search needs) (λ c κs. search needs) (λ c. search needs) returns)

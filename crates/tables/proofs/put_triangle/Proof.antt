@@ -9,36 +9,6 @@ use borrow.Author.Needs.{needs}
 use Rattle.tables.proofs.put_triangle.Statement.{statement}
 use Rattle.tables.proofs.put_triangle.Tie as tie
 
-mul-k : tie.Need-mul-k
-mul-k c = search needs
-
-array-copy-out-put-point : tie.Need-array-copy-out-put-point
-array-copy-out-put-point c = search needs
-
-put-point-requires : tie.Need-put-point-requires
-put-point-requires c κs = search needs
-
-add-put-point : tie.Need-add-put-point
-add-put-point c = search needs
-
-array-copy-out-put-point-2 : tie.Need-array-copy-out-put-point-2
-array-copy-out-put-point-2 c = search needs
-
-put-point-requires-2 : tie.Need-put-point-requires-2
-put-point-requires-2 c κs = search needs
-
-add-put-point-2 : tie.Need-add-put-point-2
-add-put-point-2 c = search needs
-
-array-copy-out-put-point-3 : tie.Need-array-copy-out-put-point-3
-array-copy-out-put-point-3 c = search needs
-
-put-point-requires-3 : tie.Need-put-point-requires-3
-put-point-requires-3 c κs = search needs
-
-same-length : tie.Need-same-length
-same-length c = search needs
-
 returns : tie.Need-returns
 unfolding triangleNumbers triangleOf cornerAt
 returns c =
@@ -57,14 +27,14 @@ pub put-triangle-spec : {M : Type 1} → statement M
 put-triangle-spec =
     tie.close
     (tie.spec
-    mul-k
-    array-copy-out-put-point
-    put-point-requires
-    add-put-point
-    array-copy-out-put-point-2
-    put-point-requires-2
-    add-put-point-2
-    array-copy-out-put-point-3
-    put-point-requires-3
-    same-length
+    (λ c. search needs)
+    (λ c. search needs)
+    (λ c κs. search needs)
+    (λ c. search needs)
+    (λ c. search needs)
+    (λ c κs. search needs)
+    (λ c. search needs)
+    (λ c. search needs)
+    (λ c κs. search needs)
+    (λ c. search needs)
     returns)

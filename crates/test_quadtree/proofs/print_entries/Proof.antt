@@ -9,53 +9,20 @@ Inv-loop keys levels items n i₀ i = i ≤ n
 abbrev μ-loop : tie.MeasureT-loop
 μ-loop keys levels items n i₀ i = n - i
 
-loop-holds : tie.Need-loop-holds Inv-loop μ-loop
-loop-holds c = omega arith
-
-mul-print-entry : tie.Need-mul-print-entry Inv-loop μ-loop
-mul-print-entry c = omega arith
-
-shared-slice-read-print-entry : tie.Need-shared-slice-read-print-entry Inv-loop μ-loop
-shared-slice-read-print-entry c = omega arith
-
-shared-slice-read-print-entry-2 : tie.Need-shared-slice-read-print-entry-2 Inv-loop μ-loop
-shared-slice-read-print-entry-2 c = omega arith
-
-mul-print-entry-2 : tie.Need-mul-print-entry-2 Inv-loop μ-loop
-mul-print-entry-2 c = omega arith
-
-shared-slice-read-print-entry-3 : tie.Need-shared-slice-read-print-entry-3 Inv-loop μ-loop
-shared-slice-read-print-entry-3 c = omega arith
-
-print-entry-requires : tie.Need-print-entry-requires Inv-loop μ-loop
-print-entry-requires c κs = tt
-
-add-i : tie.Need-add-i Inv-loop μ-loop
-add-i c = omega arith
-
-loop-less : tie.Need-loop-less Inv-loop μ-loop
-loop-less c = omega arith
-
-loop-again : tie.Need-loop-again Inv-loop μ-loop
-loop-again c = omega arith
-
-returns : tie.Need-returns Inv-loop μ-loop
-returns c = tt
-
 pub print-entries-spec : {M : Type 1} → statement M
 print-entries-spec =
     tie.close
     (tie.spec
     Inv-loop
     μ-loop
-    loop-holds
-    mul-print-entry
-    shared-slice-read-print-entry
-    shared-slice-read-print-entry-2
-    mul-print-entry-2
-    shared-slice-read-print-entry-3
-    print-entry-requires
-    add-i
-    loop-less
-    loop-again
-    returns)
+    (λ c. omega arith)
+    (λ c. omega arith)
+    (λ c. omega arith)
+    (λ c. omega arith)
+    (λ c. omega arith)
+    (λ c. omega arith)
+    (λ c κs. tt)
+    (λ c. omega arith)
+    (λ c. omega arith)
+    (λ c. omega arith)
+    (λ c. tt))

@@ -5,30 +5,6 @@ use borrow.Author.Needs.{needs}
 use Rattle.triangle_merge.proofs.put_merged.Statement.{statement}
 use Rattle.triangle_merge.proofs.put_merged.Tie as tie
 
-append-rows-requires : tie.Need-append-rows-requires
-append-rows-requires c κs = search needs
-
-add-append-rows : tie.Need-add-append-rows
-add-append-rows c = search needs
-
-append-rows-requires-2 : tie.Need-append-rows-requires-2
-append-rows-requires-2 c κs = search needs
-
-add-append-rows-2 : tie.Need-add-append-rows-2
-add-append-rows-2 c = search needs
-
-sub-append-rows : tie.Need-sub-append-rows
-sub-append-rows c = search needs
-
-append-rows-requires-3 : tie.Need-append-rows-requires-3
-append-rows-requires-3 c κs = search needs
-
-put-triangle-requires : tie.Need-put-triangle-requires
-put-triangle-requires c κs = search needs
-
-same-length : tie.Need-same-length
-same-length c = search needs
-
 returns : tie.Need-returns
 returns c =
     let a = c .before .before .before .before .before .before .before .before .before .before .before .before .before .before .before .before .before .before .args in
@@ -42,12 +18,12 @@ pub put-merged-spec : {M : Type 1} → statement M
 put-merged-spec =
     tie.close
     (tie.spec
-    append-rows-requires
-    add-append-rows
-    append-rows-requires-2
-    add-append-rows-2
-    sub-append-rows
-    append-rows-requires-3
-    put-triangle-requires
-    same-length
+    (λ c κs. search needs)
+    (λ c. search needs)
+    (λ c κs. search needs)
+    (λ c. search needs)
+    (λ c. search needs)
+    (λ c κs. search needs)
+    (λ c κs. search needs)
+    (λ c. search needs)
     returns)

@@ -4,21 +4,9 @@ use borrow.Author.Needs.{needs}
 use Rattle.squares.proofs.Square.bottom_right.Statement.{statement}
 use Rattle.squares.proofs.Square.bottom_right.Tie as tie
 
-half-requires : tie.Need-half-requires
-half-requires c κs = search needs
-
-add-t3 : tie.Need-add-t3
-add-t3 c = search needs
-
-add-t4 : tie.Need-add-t4
-add-t4 c = search needs
-
-add-t5 : tie.Need-add-t5
-add-t5 c = search needs
-
 returns : tie.Need-returns
 unfolding bottomRight
 returns c = rw (c .before .before .before .half .ensures .0, add-one)
 
 pub bottom-right-spec : {M : Type 1} → statement M
-bottom-right-spec = tie.close (tie.spec half-requires add-t3 add-t4 add-t5 returns)
+bottom-right-spec = tie.close (tie.spec (λ c κs. search needs) (λ c. search needs) (λ c. search needs) (λ c. search needs) returns)
