@@ -515,4 +515,5 @@ def main():
     print(f"{cases} cases agree with the model")
 
 
-main()
+if __name__ == "__main__":
+    main()

@@ -42,10 +42,11 @@ import tempfile
 import threading
 import time
 
+from definitions import TRIALS  # the crates that it makes of the executed cases
+
 ROOT = os.path.dirname(os.path.dirname(os.path.abspath(__file__)))
 SAME = os.path.join(ROOT, "tests", "mutants-same.tsv")
 CASES = ["7", "4"]  # seed and count of the executed cases
-TRIALS = ["trial", "trial_worked"]  # the crates that tests/definitions.py makes of them
 AT_ONCE = 24  # mutants in one check of the examples
 TIMES, LEAST = 4, 20  # a check of the own crate may take so many times what it takes as things stand, and at least so many seconds
 LONGEST = 900  # seconds that a check of a crate above may take

@@ -1,4 +1,4 @@
--- The overlay of the entries of two tables lists exactly the pairs of triangles that share ground.
+-- The overlay of the entries of two tables lists exactly the pairs of triangles that have a common interior point.
 -- The idea: a point strictly inside both triangles lies, with the grid point above and left of it, in one cell of each table. Both cells
 -- list their triangle, as it meets the cell, and both have the key of that grid point.
 -- Assumes nothing.
@@ -105,7 +105,7 @@ module _ (table : Table) (i : ℕ) (h : i < length table) where
       }
 
 module _ (s t : Table) (sok : IsTable s) (tok : IsTable t) where
-  -- triangles that share ground are listed in overlapping cells
+  -- triangles with a common interior point are listed in overlapping cells
   pub ground-listed : {i j : ℕ} → SharesGround s t i j → ListedTogether arity depth (entriesOf s) (entriesOf t) i j
   ground-listed {i} {j} h =
       let p = h .common .point in
@@ -128,7 +128,7 @@ module _ (s t : Table) (sok : IsTable s) (tok : IsTable t) where
         common = record { key = zOrder (floorOf z); first = e .has .1; second = f .has .1 };
       }
 
-  -- the overlay of two tables with their entries lists a pair exactly when it shares ground
+  -- the overlay of two tables with their entries lists a pair exactly when it has a common interior point
   pub pairs-of-tables : (i j : ℕ) → List·Memᴰ (pair i j) (pairsListed s (entriesOf s) t (entriesOf t)) ↔ SharesGround s t i j
   pairs-of-tables i j =
       let e = pairs-listed-iff s (entriesOf s) t (entriesOf t) (table-proper sok) (table-proper tok) i j in (

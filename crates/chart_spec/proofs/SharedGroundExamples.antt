@@ -1,4 +1,4 @@
--- Examples of Overlay.antt: the order of pairs, pairs that share ground, and the meetings of two tables' cells.
+-- Examples of Overlay.antt: the order of pairs, common interior points, and the meetings of two tables' cells.
 -- Assumes nothing.
 use mathlib.Core.Path.{_≡_, refl}
 use mathlib.Core.Bool.{true, false}
@@ -68,7 +68,7 @@ cellMeetings-example : cellMeetings corner [] ∷ cellMeetings [] corner ∷ cel
 unfolding evaluate
 cellMeetings-example = refl
 
--- triangle 0 of the one shares ground with triangle 1 of the other: (36001/3, 129001/3) is strictly inside both
+-- triangle 0 of the one has a common interior point with triangle 1 of the other: (36001/3, 129001/3)
 shares-example : SharesGround corner two 0 1
 unfolding evaluate
 shares-example = record {

@@ -1,6 +1,6 @@
 -- The overlay of two indexed charts answers by their tables alone.
 -- The idea: an indexed chart passes refusals 1 and 2 and gives back its table and that table's entries. Of those it is known that the
--- pairs listed are the pairs that share ground, and that the meetings are the pairs of overlapping cells.
+-- pairs listed are the pairs with a common interior point, and that the meetings are the pairs of overlapping cells.
 -- Assumes nothing.
 use mathlib.Core.Path.{_≡_, refl, _∙_, ap}
 use mathlib.Core.Bool.{Bool, true, false}

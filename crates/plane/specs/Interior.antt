@@ -28,6 +28,6 @@ unfoldable pub noSideSeparates : Triangle → Triangle → Bool
 noSideSeparates s t =
     someCornerInner (s .a) (s .b) t && someCornerInner (s .b) (s .c) t && someCornerInner (s .c) (s .a) t
 
--- shares ground, computed: no side of either separates the two
+-- a common interior point, computed: no side of either separates the two
 unfoldable pub interiorsMeet : Triangle → Triangle → Bool
 interiorsMeet s t = noSideSeparates s t && noSideSeparates t s
