@@ -49,7 +49,7 @@ pub fn triangle_box(table: &[u16], i: usize) -> Bounds
 }
 
 // The bounding box of triangle i, to place i of the lists.
-fn put_box(
+fn put_bounds(
     table: &[u16],
     i: usize,
     lefts: &mut [u16],
@@ -84,7 +84,7 @@ pub fn put_boxes(
 {
     let mut i = 0;
     while i < n {
-        put_box(table, i, lefts, tops, rights, bottoms);
+        put_bounds(table, i, lefts, tops, rights, bottoms);
         i += 1;
     }
 }

@@ -49,9 +49,9 @@ unfolding tableRule
 table-many ns n h = rw (lt-leb n maxTriangles h)
 
 -- else each triangle's D decides
-pub table-proper : (ns : List ℕ) (n : ℕ) → n ≤ maxTriangles → {b : Bool} → b ≡ all (λ t. proper t) (tableOf ns n) → b ≡ tableRule ns n
+pub table-ruled : (ns : List ℕ) (n : ℕ) → n ≤ maxTriangles → {b : Bool} → b ≡ all (λ t. proper t) (tableOf ns n) → b ≡ tableRule ns n
 unfolding tableRule
-table-proper ns n h e = rw (le-leb n maxTriangles h, e)
+table-ruled ns n h e = rw (le-leb n maxTriangles h, e)
 
 -- ---- the entries' part
 

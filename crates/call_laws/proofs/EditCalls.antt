@@ -17,7 +17,7 @@ use Rattle.call_spec.specs.Calls.{changedBy, ifLong, ifIndexed, loadCall, editC
 use Rattle.call_spec.specs.History.{eventCall}
 use Rattle.call_laws.proofs.JudgeLaws.{indexed-then, indexed-refused, indexed-passes}
 use Rattle.call_laws.proofs.IndexedLaws.{Editable, indexed-table, indexed-editable}
-use Rattle.call_laws.proofs.OverwriteLaws.{Fits, changed-number, changed-value, changed-chart, after-fits}
+use Rattle.call_laws.proofs.OverwriteLaws.{Indexable, changed-number, changed-value, changed-chart, after-fits}
 
 -- an edit of any chart, by what judging the chart finds
 module _ (c : Chart) (edit : Table → Outcome Table) where
@@ -33,7 +33,7 @@ module _ (c : Chart) (edit : Table → Outcome Table) where
       let next = andThen (edit (chartTable c)) (λ u. withinLimit u) in
       ap (λ o. changedBy c (andThen o (λ b. next))) h ∙ ap (changedBy c) (indexed-then c next)
 
-module _ (c : Chart) (s : tooShort c ≡ false) (t : Table) (h : Fits t) where
+module _ (c : Chart) (s : tooShort c ≡ false) (t : Table) (h : Indexable t) where
   editable : Editable (indexedChart c t)
   editable = indexed-editable c t (h .few) (h .small) s (h .oriented)
 
@@ -52,7 +52,7 @@ module _ (c : Chart) (s : tooShort c ≡ false) (t : Table) (h : Fits t) where
 
     -- which can be edited again, where the edit's tables have at most 512 triangles, each with D > 0
     pub edit-fits : ((u : Table) → edit t ≡ done u → (length u ≤ maxTriangles) × (all (λ s. proper s) u ≡ true))
-        → Fits (doneOr t (andThen (edit t) (λ u. withinLimit u)))
+        → Indexable (doneOr t (andThen (edit t) (λ u. withinLimit u)))
     edit-fits good = after-fits t (edit t) good h
 
   -- ---- any event on an indexed chart

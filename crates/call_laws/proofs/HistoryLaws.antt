@@ -16,7 +16,7 @@ use Rattle.chart_spec.specs.Edits.{Event, sixteenBitEvent, proposed, eventOn, a
 use Rattle.chart_laws.proofs.EventTable.{after-event-table}
 use Rattle.call_spec.specs.Buffers.{Chart, tooShort, indexedChart}
 use Rattle.call_spec.specs.History.{eventCall, chartAfter}
-use Rattle.call_laws.proofs.OverwriteLaws.{Fits, after-small}
+use Rattle.call_laws.proofs.OverwriteLaws.{Indexable, after-small}
 use Rattle.call_laws.proofs.EditCalls.{event-chart}
 
 -- the chart d is that of t in the buffers of c, and t is a table whose entries fit
@@ -30,7 +30,7 @@ module _ (c : Chart) (s : tooShort c ≡ false) where
   event-holds : (e : Event) (d : Chart) (t : Table) → T (sixteenBitEvent e) → Holds c d t → Holds c (eventCall e d .chart) (afterEvent e t)
   unfolding afterEvent eventOn
   event-holds e d t w h =
-      let f : Fits t = record { few = h .table .few; oriented = test-true (h .table .oriented); small = h .small } in
+      let f : Indexable t = record { few = h .table .few; oriented = test-true (h .table .oriented); small = h .small } in
       record {
         is = ap (λ d. eventCall e d .chart) (h .is) ∙ event-chart c s t f e;
         table = after-event-table e t w (h .table);

@@ -22,7 +22,7 @@ use Rattle.chart_laws.proofs.ChainOfTable.{entries-chain}
 use Rattle.chart_laws.proofs.TableLaws.{numbered-at, tableOf-length}
 use Rattle.call_spec.specs.Buffers.{Chart, tooShort, padded, zipEntries, chartTable, chartEntries, chainRule, indexed, chartWith, indexedChart}
 use Rattle.call_laws.proofs.EntriesLaws.{sameEntries-reflects}
-use Rattle.call_laws.proofs.BufferLaws.{long-enough, table-proper, entries-chained, rule-joined}
+use Rattle.call_laws.proofs.BufferLaws.{long-enough, table-ruled, entries-chained, rule-joined}
 
 -- ---- the table
 
@@ -150,7 +150,7 @@ module _ (c : Chart) (t : Table) where
     indexed-chain p =
         let d = indexedChart c t in
         sym (rule-joined d
-        (table-proper (d .table) (length t) few (sym (ap (all (λ s. proper s)) (indexed-table c t) ∙ p)))
+        (table-ruled (d .table) (length t) few (sym (ap (all (λ s. proper s)) (indexed-table c t) ∙ p)))
         (entries-chained d small (sym (ap (chain arity depth (length t)) (indexed-entries c t) ∙ test-true (entries-chain t few)))))
 
     -- the chart of a table within the limits whose triangles have D > 0, in buffers that are long enough

@@ -34,13 +34,13 @@ unfolding padded
 padded-again n u v l h = ap (λ r. u ++ replicate (n - length u) 0 ++ r) (drop-padded n v l h)
 
 -- a table that a chart can hold
-pub record Fits (t : Table) : Type 0 where
+pub record Indexable (t : Table) : Type 0 where
   pub few : length t ≤ maxTriangles
   pub oriented : all (λ s. proper s) t ≡ true
   pub small : length (entriesOf t) ≤ maxEntries
 
 -- the chart of a table over the chart of another is that of the table alone
-pub indexed-again : (c : Chart) (t u : Table) → Fits t → indexedChart (indexedChart c t) u ≡ indexedChart c u
+pub indexed-again : (c : Chart) (t u : Table) → Indexable t → indexedChart (indexedChart c t) u ≡ indexedChart c u
 unfolding indexedChart chartWith
 indexed-again c t u h =
     let es = entriesOf t in
@@ -66,7 +66,7 @@ changed-value c (refused r) = refl
 changed-value c (done t) = refl
 
 -- the chart is that of the table done, or else of the table before
-pub changed-chart : (c : Chart) (t : Table) (o : Outcome Table) → Fits t → changedBy (indexedChart c t) o .chart ≡ indexedChart c (doneOr t o)
+pub changed-chart : (c : Chart) (t : Table) (o : Outcome Table) → Indexable t → changedBy (indexedChart c t) o .chart ≡ indexedChart c (doneOr t o)
 unfolding changedBy doneOr
 changed-chart c t (refused r) h = refl
 changed-chart c t (done u) h = indexed-again c t u h
@@ -86,15 +86,15 @@ after-small t (refused r) h = h
 after-small t (done u) h = limited-small (ltb maxEntries (length (entriesOf u))) t u refl h
 
 -- and can be held again, where what is proposed has at most 512 triangles, each with D > 0
-limited-fits : (b : Bool) (t u : Table) → ltb maxEntries (length (entriesOf u)) ≡ b → Fits t → length u ≤ maxTriangles
-    → all (λ s. proper s) u ≡ true → Fits (doneOr t (refuseIf b tooManyEntries (done u)))
+limited-fits : (b : Bool) (t u : Table) → ltb maxEntries (length (entriesOf u)) ≡ b → Indexable t → length u ≤ maxTriangles
+    → all (λ s. proper s) u ≡ true → Indexable (doneOr t (refuseIf b tooManyEntries (done u)))
 unfolding refuseIf doneOr
 limited-fits true t u e h few proper = h
 limited-fits false t u e h few proper =
     record { few = few; oriented = proper; small = ltb-false maxEntries (length (entriesOf u)) e }
 
 pub after-fits : (t : Table) (o : Outcome Table) → ((u : Table) → o ≡ done u → (length u ≤ maxTriangles) × (all (λ s. proper s) u ≡ true))
-    → Fits t → Fits (doneOr t (andThen o (λ u. withinLimit u)))
+    → Indexable t → Indexable (doneOr t (andThen o (λ u. withinLimit u)))
 unfolding andThen withinLimit limited doneOr
 after-fits t (refused r) good h = h
 after-fits t (done u) good h =

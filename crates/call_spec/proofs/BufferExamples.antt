@@ -5,11 +5,11 @@ use mathlib.Core.Bool.{true, false}
 use mathlib.Core.List.{List, [], _∷_, _++_, map}
 use Prim.Native.Nat.{ℕ}
 use lib.ListN.{replicate}
+use Rattle.orthtree.specs.Entries.{entry}
 use Rattle.lists.specs.Lists.{all}
 use Rattle.plane.specs.Triangle.{proper}
 use Rattle.chart_spec.specs.Table.{tableOf}
 use Rattle.chart_spec.proofs.EditExamples.{tri, pa, pb, pc}
-use Rattle.chart_spec.proofs.OverlayExamples.{entry}
 use Rattle.call_spec.specs.Buffers.{Chart, chartOf, pairsLength, tooShort, padded, zipEntries, chartTable, chartEntries, tableRule, entryCountFits, chainRule, sameEntries, indexed, chartWith, indexedChart}
 use Rattle.call_spec.proofs.Evaluate.{evaluate}
 

@@ -6,6 +6,7 @@ ghost use mathlib.Core.Bool.{Bool, true, false};
 ghost use mathlib.Core.List.{List};
 ghost use Prim.Native.Nat.{ℕ, _+_, _*_, _≤_};
 ghost use lib.ListN.{length};
+ghost use Rattle.orthtree.specs.Entries.{entry};
 ghost use Rattle.lists.specs.Lists.{all};
 ghost use Rattle.plane.specs.Triangle.{proper};
 ghost use Rattle.chart_spec.specs.Table.{numbersPerTriangle, tableOf, tableLength};
@@ -14,7 +15,6 @@ ghost use Rattle.chart_spec.specs.Refusals.{Outcome, done};
 ghost use Rattle.call_spec.specs.Buffers.{tooShort, tableRule, entriesRule, chainRule, chartOf};
 ghost use Rattle.call_spec.specs.Calls.{ifChained};
 ghost use Rattle.answers.specs.Outcomes.{judgedOutcome};
-ghost use Rattle.links.specs.Links.{entry};
 
 // Each of the first n triangles has D > 0.
 pub fn all_proper(table: &[u16], n: usize) -> bool

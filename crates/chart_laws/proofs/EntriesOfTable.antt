@@ -20,14 +20,14 @@ use Rattle.orthtree.proofs.LeavesLaws.{leaves-stopped, leaves-split}
 use Rattle.plane.specs.Triangle.{Side, sides, proper}
 use Rattle.plane.specs.Box.{sideMeets, triangleMeets}
 use Rattle.separation.proofs.Boxes.{NotEmpty}
-use Rattle.separation.proofs.Parts.{Within, triangleMeets-part}
+use Rattle.separation.proofs.Parts.{BoxWithin, triangleMeets-part}
 use Rattle.separation.proofs.SideMeets.{side-triangle-meets}
 use Rattle.squares.specs.declared.Square.{Square}
 use Rattle.squares.specs.Square.{depth, wholeSquare, topLeft, topRight, bottomLeft, bottomRight, quarters, squareBox}
 use Rattle.squares.proofs.SquareLaws.{side-half, quarters-level}
 use Rattle.chart_spec.specs.Table.{Table, tableSides, numbered, noTriangle}
 use Rattle.chart_spec.specs.Cells.{sidesMeeting, stopped, cellsIn, cells, trianglesMeeting, cellEntries, entriesIn, entriesOf}
-use Rattle.chart_laws.proofs.TableLaws.{proper-at}
+use Rattle.chart_laws.proofs.TableLaws.{numbered-proper}
 
 -- a stopped square is its only cell
 pub cellsIn-stopped : (table : Table) (s : Square) → stopped table s ≡ true → cellsIn table s ≡ s ∷ []
@@ -69,7 +69,7 @@ unfolding numbered trianglesMeeting
 meeting-filter table s = places-filter noTriangle (λ t. triangleMeets t (squareBox s)) table
 
 -- the triangles that meet a part of a square, looked for among those that meet the square
-pub meeting-narrow : (table : Table) (s q : Square) → Within (squareBox q) (squareBox s)
+pub meeting-narrow : (table : Table) (s q : Square) → BoxWithin (squareBox q) (squareBox s)
     → filter (λ i. triangleMeets (numbered table i) (squareBox q)) (trianglesMeeting table s) ≡ trianglesMeeting table q
 meeting-narrow table s q w =
     ap (filter (λ i. triangleMeets (numbered table i) (squareBox q))) (sym (meeting-filter table s))
@@ -79,30 +79,30 @@ meeting-narrow table s q w =
 
 module _ (s : Square) (l : s .level < 16) where
   -- the top left quarter is a part of its square
-  pub topLeft-within : Within (squareBox (topLeft s)) (squareBox s)
+  pub topLeft-within : BoxWithin (squareBox (topLeft s)) (squareBox s)
   unfolding squareBox topLeft
   topLeft-within = omega (arith, side-half (s .level) l)
 
   -- the top right quarter is a part of its square
-  pub topRight-within : Within (squareBox (topRight s)) (squareBox s)
+  pub topRight-within : BoxWithin (squareBox (topRight s)) (squareBox s)
   unfolding squareBox topRight
   topRight-within = omega (arith, side-half (s .level) l)
 
   -- the bottom left quarter is a part of its square
-  pub bottomLeft-within : Within (squareBox (bottomLeft s)) (squareBox s)
+  pub bottomLeft-within : BoxWithin (squareBox (bottomLeft s)) (squareBox s)
   unfolding squareBox bottomLeft
   bottomLeft-within = omega (arith, side-half (s .level) l)
 
   -- the bottom right quarter is a part of its square
-  pub bottomRight-within : Within (squareBox (bottomRight s)) (squareBox s)
+  pub bottomRight-within : BoxWithin (squareBox (bottomRight s)) (squareBox s)
   unfolding squareBox bottomRight
   bottomRight-within = omega (arith, side-half (s .level) l)
 
   -- the quarters are parts of their square
-  pub quarter-within : Every (λ q. Within (squareBox q) (squareBox s)) (quarters s)
+  pub quarter-within : Every (λ q. BoxWithin (squareBox q) (squareBox s)) (quarters s)
   unfolding quarters
   quarter-within =
-      let none = every-nil (λ q. Within (squareBox q) (squareBox s)) in
+      let none = every-nil (λ q. BoxWithin (squareBox q) (squareBox s)) in
       every-cons (topLeft-within, every-cons (topRight-within, every-cons (bottomLeft-within, every-cons (bottomRight-within, none))))
 
 -- a square has points
@@ -118,7 +118,7 @@ module _ (table : Table) (good : Every (λ t. T (proper t)) table) (s : Square) 
   no-side : (i : ℕ) → i < length table → triangleMeets (numbered table i) (squareBox s) ≡ false → meeting i ≡ []
   no-side i h e =
       filter-none (λ d. sideMeets d (squareBox s)) (sides (numbered table i)) (λ d m.
-      test-false (λ t. rw e at (side-triangle-meets (numbered table i) (squareBox s) d (proper-at table good i h) (square-not-empty s) m t)))
+      test-false (λ t. rw e at (side-triangle-meets (numbered table i) (squareBox s) d (numbered-proper table good i h) (square-not-empty s) m t)))
 
   -- the sides that meet a square are sides of the triangles that meet it
   pub sides-narrow : sidesMeeting table s ≡ flatMap (λ i. filter (λ d. sideMeets d (squareBox s)) (sides (numbered table i))) (trianglesMeeting table s)

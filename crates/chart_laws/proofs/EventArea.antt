@@ -18,7 +18,7 @@ use Rattle.chart_spec.specs.Table.{Table, IsTable, numbered, noTriangle}
 use Rattle.chart_spec.specs.Reading.{totalArea}
 use Rattle.chart_spec.specs.Refusals.{done}
 use Rattle.chart_spec.specs.Edits.{Event, load, split, takeOut, flip, triangle, rotations, splitAt, splitTable, takeOutTable, flipTable, proposed, eventOn}
-use Rattle.chart_laws.proofs.TableLaws.{proper-at}
+use Rattle.chart_laws.proofs.TableLaws.{numbered-proper}
 use Rattle.chart_laws.proofs.TriangleLaws.{named, inside-parts, area-around, area-across}
 use Rattle.chart_laws.proofs.RotationLaws.{rotations-area, rotations-proper, rotations-apart}
 use Rattle.chart_laws.proofs.GridLaws.{table-proper}
@@ -75,7 +75,7 @@ module _ {i j : ℕ} {table next : Table} (s : Flipped i j table next) (good : E
   pub flip-differ : j ≡ i → ⊥
   flip-differ e =
       let u = subst (λ k. List·Memᴰ (s .u) (rotations (numbered table k))) e (s .rotationJ) in
-      rotations-apart (numbered table i) (proper-at table good i (s .belowI)) (s .t) (s .rotationI) (s .u) u (s .ab) (s .ba)
+      rotations-apart (numbered table i) (numbered-proper table good i (s .belowI)) (s .t) (s .rotationI) (s .u) u (s .ab) (s .ba)
 
   -- the two new triangles have the area of the two old ones
   flip-both : doubledArea (triangle (s .t .a) (s .u .c) (s .t .c)) + doubledArea (triangle (s .u .c) (s .t .b) (s .t .c))
@@ -85,8 +85,8 @@ module _ {i j : ℕ} {table next : Table} (s : Flipped i j table next) (good : E
       let u = s .u in
       let a = rotations-area (numbered table i) t (s .rotationI) in
       let b = rotations-area (numbered table j) u (s .rotationJ) in
-      let p = rotations-proper (numbered table i) (proper-at table good i (s .belowI)) t (s .rotationI) in
-      let q = rotations-proper (numbered table j) (proper-at table good j (s .belowJ)) u (s .rotationJ) in
+      let p = rotations-proper (numbered table i) (numbered-proper table good i (s .belowI)) t (s .rotationI) in
+      let q = rotations-proper (numbered table j) (numbered-proper table good j (s .belowJ)) u (s .rotationJ) in
       let e = named t refl refl refl in
       let f = named u (sym (s .ba)) (sym (s .ab)) refl in
       let across =

@@ -19,7 +19,7 @@ use Rattle.plane.proofs.PointLaws.{samePoint-reflects}
 use Rattle.chart_spec.specs.Table.{Table, numbered}
 use Rattle.chart_spec.specs.Refusals.{refused, refuseIf, noFlip}
 use Rattle.chart_spec.specs.Edits.{triangle, rotations, sharesSide, flipAs, flipWith, flipAmong, flipTable}
-use Rattle.chart_laws.proofs.TableLaws.{proper-at}
+use Rattle.chart_laws.proofs.TableLaws.{numbered-proper}
 use Rattle.chart_laws.proofs.TriangleLaws.{named, reversed-proper}
 use Rattle.chart_laws.proofs.RotationLaws.{three, corners-apart, rotations-same, rotations-proper}
 
@@ -102,7 +102,7 @@ flip-found i j table good hi hj {s} {r} ms mr h =
     rw (lt-leb (length table) i hi, lt-leb (length table) j hj)
     (among-found table i j (rotations (numbered table j)) (rotations (numbered table i))
     (λ s′ r′ ms′ mr′ h′.
-    flip-side-unique (numbered table i) (numbered table j) (proper-at table good i hi) (proper-at table good j hj) ms ms′ mr mr′ h h′)
+    flip-side-unique (numbered table i) (numbered table j) (numbered-proper table good i hi) (numbered-proper table good j hj) ms ms′ mr mr′ h h′)
     ms mr h)
 
 -- where no rotations of them do, it is refused

@@ -31,7 +31,7 @@ use Rattle.squares.proofs.SquareLeavesLaws.{leaf-of-point, cell-of-point}
 use Rattle.chart_spec.specs.Table.{Table, maxTriangles, numbered}
 use Rattle.chart_spec.specs.Cells.{stopped, cellsIn, cells, trianglesMeeting, orMark, entryOf, cellEntries, entriesOf}
 use Rattle.chart_spec.specs.Reading.{cellOf, listing, located}
-use Rattle.chart_laws.proofs.TableLaws.{proper-at}
+use Rattle.chart_laws.proofs.TableLaws.{numbered-proper}
 use Rattle.chart_laws.proofs.EntriesOfTable.{meeting-filter}
 use Rattle.chart_laws.proofs.ChainOfTable.{meeting-rising}
 
@@ -78,7 +78,7 @@ module _ (table : Table) (few : length table ≤ maxTriangles) (p : Point) (g : 
         let s = c .value in
         ap (first f) (listing-cell (c .member) (c .has) ∙ sym (meeting-filter table s))
         ∙ first-narrow f (λ i. triangleMeets (numbered table i) (squareBox s)) (upTo (length table))
-        (λ i m h. square-meets i s (proper-at table good i (upTo-to m)) (c .has) (only i h))
+        (λ i m h. square-meets i s (numbered-proper table good i (upTo-to m)) (c .has) (only i h))
 
     -- on an indexed chart a point is located in the lowest numbered triangle of the whole table that holds it
     pub locate-listing : located table (entriesOf table) p ≡ first (λ i. holds (numbered table i) p) (upTo (length table))

@@ -14,7 +14,7 @@ use Rattle.plane.specs.declared.Point.{Point}
 use Rattle.plane.specs.Triangle.{Triangle, proper, doubledArea}
 use Rattle.chart_spec.specs.Table.{Table, numbered, noTriangle}
 use Rattle.chart_spec.specs.Edits.{triangle, endingIn, hasCorner, mergeAround}
-use Rattle.chart_laws.proofs.TableLaws.{proper-at}
+use Rattle.chart_laws.proofs.TableLaws.{numbered-proper}
 use Rattle.chart_laws.proofs.TriangleLaws.{named, area-around, proper-around}
 use Rattle.chart_laws.proofs.RotationLaws.{rotations-area, rotations-proper, endingIn-rotation}
 use Rattle.chart_laws.proofs.EditLaws.{Closes, mergedTriangle, TakenOut}
@@ -60,9 +60,9 @@ taken-sum {p} {table} h good =
     let ij = h .ij in
     let jk = h .jk in
     let below = h .below in
-    let t = ending p (numbered table (h .i)) (h .cornerI) (proper-at table good (h .i) (omega arith)) in
-    let u = ending p (numbered table (h .j)) (h .cornerJ) (proper-at table good (h .j) (omega arith)) in
-    let v = ending p (numbered table (h .k)) (h .cornerK) (proper-at table good (h .k) below) in
+    let t = ending p (numbered table (h .i)) (h .cornerI) (numbered-proper table good (h .i) (omega arith)) in
+    let u = ending p (numbered table (h .j)) (h .cornerJ) (numbered-proper table good (h .j) (omega arith)) in
+    let v = ending p (numbered table (h .k)) (h .cornerK) (numbered-proper table good (h .k) below) in
     elim (h .closed) [
       | inl e ↦
           let s = merged _ _ _ (h .c) p e (t .last) (u .last) (v .last) (t .oriented) (u .oriented) (v .oriented) in

@@ -24,7 +24,7 @@ use Rattle.separation.proofs.Separation.{interiors-meet-iff}
 use Rattle.squares.specs.Square.{arity, depth}
 use Rattle.chart_spec.specs.Table.{Table, numbered}
 use Rattle.chart_spec.specs.Overlay.{Pair, pair, Earlier, pairListed, pairsListed}
-use Rattle.chart_laws.proofs.TableLaws.{proper-at}
+use Rattle.chart_laws.proofs.TableLaws.{numbered-proper}
 
 -- "a cell listing i and a cell listing j overlap so and some point is strictly inside both triangles", where i and j are numbers of
 -- the two tables
@@ -101,7 +101,7 @@ module _ (s : Table) (es : List Entry) (t : Table) (fs : List Entry) where
         → Reflects (pairListed s es t fs i j) (CommonInterior (numbered s i) (numbered t j) × ListedTogether arity depth es fs i j)
     unfolding pairListed
     pairListed-reflects i j hi hj =
-        let e = interiors-meet-iff (numbered s i) (numbered t j) (proper-at s good i hi) (proper-at t fine j hj) in
+        let e = interiors-meet-iff (numbered s i) (numbered t j) (numbered-proper s good i hi) (numbered-proper t fine j hj) in
         let r : Reflects (interiorsMeet (numbered s i) (numbered t j)) (CommonInterior (numbered s i) (numbered t j)) =
         record { to = e .1; from = e .0 }
         in

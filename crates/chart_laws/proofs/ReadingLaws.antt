@@ -13,7 +13,7 @@ use Rattle.plane.specs.Interior.{CommonInterior, interiorsMeet}
 use Rattle.separation.proofs.Separation.{interiors-meet-iff}
 use Rattle.chart_spec.specs.Table.{Table, numbered}
 use Rattle.chart_spec.specs.Reading.{sound}
-use Rattle.chart_laws.proofs.TableLaws.{proper-at}
+use Rattle.chart_laws.proofs.TableLaws.{numbered-proper}
 
 -- "no two different triangle numbers of the table have a point strictly inside both"
 abbrev pub Sound : Table → Type 0
@@ -41,9 +41,9 @@ module _ (table : Table) (good : Every (λ t. T (proper t)) table) where
   pub sound-reflects : Reflects (sound table) (Sound table)
   sound-reflects =
       reflects-iff
-      (λ e i j hi hj n c. e i (upTo-from hi) j (upTo-from hj) n (interiors-meet-iff _ _ (proper-at table good i hi) (proper-at table good j hj) .0 c))
+      (λ e i j hi hj n c. e i (upTo-from hi) j (upTo-from hj) n (interiors-meet-iff _ _ (numbered-proper table good i hi) (numbered-proper table good j hj) .0 c))
       (λ s i mi j mj n t.
       let hi = upTo-to mi in
       let hj = upTo-to mj in
-      s i j hi hj n (interiors-meet-iff _ _ (proper-at table good i hi) (proper-at table good j hj) .1 t))
+      s i j hi hj n (interiors-meet-iff _ _ (numbered-proper table good i hi) (numbered-proper table good j hj) .1 t))
       (every-apart table)

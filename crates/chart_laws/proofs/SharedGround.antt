@@ -35,7 +35,7 @@ use Rattle.squares.proofs.SquareLeavesLaws.{leaf-of-point}
 use Rattle.chart_spec.specs.Table.{Table, numbered, noTriangle, IsTable}
 use Rattle.chart_spec.specs.Cells.{stopped, cellsIn, cells, trianglesMeeting, orMark, entryOf, cellEntries, entriesOf}
 use Rattle.chart_spec.specs.Overlay.{pairsListed, pair, SharesGround}
-use Rattle.chart_laws.proofs.TableLaws.{proper-at}
+use Rattle.chart_laws.proofs.TableLaws.{numbered-proper}
 use Rattle.chart_laws.proofs.EntriesOfTable.{meeting-filter}
 use Rattle.chart_laws.proofs.ChainOfTable.{cells-aligned}
 use Rattle.chart_laws.proofs.GridLaws.{table-proper, table-triangles}
@@ -109,8 +109,8 @@ module _ (s t : Table) (sok : IsTable s) (tok : IsTable t) where
   pub ground-listed : {i j : ℕ} → SharesGround s t i j → ListedTogether arity depth (entriesOf s) (entriesOf t) i j
   ground-listed {i} {j} h =
       let p = h .common .point in
-      let good = proper-at s (table-proper sok) i (h .first) in
-      let fine = proper-at t (table-proper tok) j (h .second) in
+      let good = numbered-proper s (table-proper sok) i (h .first) in
+      let fine = numbered-proper t (table-proper tok) j (h .second) in
       let held = inside-held (numbered s i) p (h .common .first) in
       let v = weights (numbered s i) p good (h .common .above) held in
       let z = v .point in

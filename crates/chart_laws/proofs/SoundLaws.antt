@@ -18,8 +18,8 @@ use Rattle.chart_spec.specs.Reading.{sound}
 use Rattle.chart_laws.proofs.TableLaws.{numbered-at, tableOf-length}
 
 -- triangle i shares no ground with triangle j
-abbrev pub apart : List ℕ → ℕ → ℕ → Bool
-apart ns i j = not (interiorsMeet (triangleAt ns i) (triangleAt ns j))
+abbrev pub trianglesApart : List ℕ → ℕ → ℕ → Bool
+trianglesApart ns i j = not (interiorsMeet (triangleAt ns i) (triangleAt ns j))
 
 module _ (ns : List ℕ) (n : ℕ) where
   -- the test of the definition
@@ -27,24 +27,24 @@ module _ (ns : List ℕ) (n : ℕ) where
   pairApart i j = eqb i j || not (interiorsMeet (numbered (tableOf ns n) i) (numbered (tableOf ns n) j))
 
   -- of two different numbers, by the table's numbers
-  pair-apart : (i j : ℕ) → i < n → j < n → (i ≡ j → ⊥) → pairApart i j ≡ apart ns i j
+  pair-apart : (i j : ℕ) → i < n → j < n → (i ≡ j → ⊥) → pairApart i j ≡ trianglesApart ns i j
   pair-apart i j h k d = rw (ne-eqb i j d, numbered-at ns n i h, numbered-at ns n j k) refl
 
   -- and the other way round
-  pair-reversed : (i j : ℕ) → i < n → j < n → (i ≡ j → ⊥) → pairApart i j ≡ apart ns j i
+  pair-reversed : (i j : ℕ) → i < n → j < n → (i ≡ j → ⊥) → pairApart i j ≡ trianglesApart ns j i
   pair-reversed i j h k d = pair-apart i j h k d ∙ ap not (interiorsMeet-sym (triangleAt ns i) (triangleAt ns j))
 
   -- what both decide
   abbrev Below : Type 0
-  Below = (i : ℕ) → i < n → (j : ℕ) → j < i → T (apart ns i j)
+  Below = (i : ℕ) → i < n → (j : ℕ) → j < i → T (trianglesApart ns i j)
 
   -- the pairs with j < i
-  below-reflects : Reflects (all (λ i. all (λ j. apart ns i j) (upTo i)) (upTo n)) Below
+  below-reflects : Reflects (all (λ i. all (λ j. trianglesApart ns i j) (upTo i)) (upTo n)) Below
   below-reflects =
       reflects-iff
-      (λ h i l. all-below-reflects (λ j. apart ns i j) i .to (h i l))
-      (λ h i l. all-below-reflects (λ j. apart ns i j) i .from (h i l))
-      (all-below-reflects (λ i. all (λ j. apart ns i j) (upTo i)) n)
+      (λ h i l. all-below-reflects (λ j. trianglesApart ns i j) i .to (h i l))
+      (λ h i l. all-below-reflects (λ j. trianglesApart ns i j) i .from (h i l))
+      (all-below-reflects (λ i. all (λ j. trianglesApart ns i j) (upTo i)) n)
 
   -- all pairs
   pairs-reflects : Reflects (all (λ i. all (λ j. pairApart i j) (upTo n)) (upTo n)) Below
@@ -60,6 +60,6 @@ module _ (ns : List ℕ) (n : ℕ) where
       go h i j l k (no u) v = rw (pair-apart i j l k (λ e. omega arith)) (h i l j (omega arith))
 
   -- soundness asks it of the pairs with j < i only
-  pub sound-below : all (λ i. all (λ j. apart ns i j) (upTo i)) (upTo n) ≡ sound (tableOf ns n)
+  pub sound-below : all (λ i. all (λ j. trianglesApart ns i j) (upTo i)) (upTo n) ≡ sound (tableOf ns n)
   unfolding sound
   sound-below = rw (tableOf-length ns n) (reflects-same below-reflects pairs-reflects)

@@ -70,6 +70,6 @@ tableNumbers-take ns (suc n) h =
     ∙ ap (λ k. take k ns) (sym m)
 
 -- where all triangles of a table have D > 0, so has each that a number below the count stands for
-pub proper-at : (table : Table) → Every (λ t. T (proper t)) table → (i : ℕ) → i < length table → T (proper (numbered table i))
+pub numbered-proper : (table : Table) → Every (λ t. T (proper t)) table → (i : ℕ) → i < length table → T (proper (numbered table i))
 unfolding numbered
-proper-at table good i h = good _ (getD-member table i noTriangle h)
+numbered-proper table good i h = good _ (getD-member table i noTriangle h)

@@ -5,16 +5,13 @@ use mathlib.Core.Bool.{true, false}
 use mathlib.Core.List.{List, [], _∷_}
 use Prim.Native.Nat.{ℕ}
 use lib.ListN.{replicate}
-use Rattle.orthtree.specs.Entries.{Entry}
+use Rattle.orthtree.specs.Entries.{Entry, entry}
 use Rattle.chart_spec.specs.Table.{Table}
 use Rattle.chart_spec.specs.Refusals.{refused, done, tooManyPairs}
 use Rattle.chart_spec.specs.Overlay.{pair, pairNumbers, pairListed, pairsListed, withinPairs, overlayOf}
 use Rattle.chart_spec.proofs.Evaluate.{evaluate}
 use Rattle.chart_spec.proofs.Written.{at, overlayNumbers}
 use Rattle.chart_spec.proofs.EditExamples.{tri}
-
-abbrev pub entry : ℕ → ℕ → ℕ → Entry
-entry k l i = record { key = k; level = l; item = i }
 
 -- i then j
 pairNumbers-example : pairNumbers (pair 3 5 ∷ pair 2 7 ∷ []) ≡ 3 ∷ 5 ∷ 2 ∷ 7 ∷ []

@@ -4,13 +4,12 @@ use mathlib.Core.Path.{_≡_, refl}
 use mathlib.Core.Bool.{true, false}
 use mathlib.Core.List.{List, [], _∷_, map}
 use mathlib.Core.Option.{none, some}
-use Rattle.orthtree.specs.Entries.{Entry}
+use Rattle.orthtree.specs.Entries.{Entry, entry}
 use Rattle.chart_spec.specs.Table.{Table}
 use Rattle.chart_spec.specs.Reading.{cellOf, listing, located, sound, totalArea}
 use Rattle.chart_spec.proofs.Evaluate.{evaluate}
 use Rattle.chart_spec.proofs.Written.{at}
 use Rattle.chart_spec.proofs.EditExamples.{pa, pb, pc, pd, pp, tri}
-use Rattle.chart_spec.proofs.OverlayExamples.{entry}
 
 -- four quarters: two triangles, one, the mark, and three
 abbrev es : List Entry

@@ -69,8 +69,8 @@ module _ (table : Table) (i j : ℕ) (us : List Triangle) where
     tried-end k m h = m .same ∙ ap (flipAmong table i j us) (rotations-end (triangleOf t) k h (m .high))
 
 -- both triangles are there
-pub both-below : (n i j : ℕ) → leb n i || leb n j ≡ false → (i < n) × (j < n)
-both-below n i j e =
+pub neither-over : (n i j : ℕ) → leb n i || leb n j ≡ false → (i < n) × (j < n)
+neither-over n i j e =
     let b = reflects-or (reflects-leb n i) (reflects-leb n j) in
     let none : T (leb n i || leb n j) → ⊥ = λ t. rw e at t in
     let bi : n ≤ i → ⊥ = λ h. none (b .from (inl h)) in
@@ -88,7 +88,7 @@ module _ (ns : List ℕ) (n i j : ℕ) where
       → flipTable i j (tableOf ns n) ≡ flipAmong (tableOf ns n) i j (rotations (triangleAt ns j)) (rotations (triangleAt ns i))
   unfolding flipTable refuseIf
   flip-within e =
-      let b = both-below n i j e in rw (tableOf-length ns n, e, numbered-at ns n i (b .0), numbered-at ns n j (b .1))
+      let b = neither-over n i j e in rw (tableOf-length ns n, e, numbered-at ns n i (b .0), numbered-at ns n j (b .1))
 
 -- the same, of the arrays of corners that code reads
 pub flip-begun : (ns : List ℕ) (n i j : ℕ) {s u : List Point} → s ≡ corners (triangleAt ns i) → u ≡ corners (triangleAt ns j)

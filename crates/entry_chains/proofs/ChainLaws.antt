@@ -6,11 +6,11 @@ use Prim.Native.Nat.{ℕ, suc, _≤_, _<_}
 use native.Mathlib.Omega.{arith}
 use lib.ListN.{length, getD, take}
 use Rattle.lists.proofs.Reflects.{Reflects, reflects-iff}
-use Rattle.orthtree.specs.Entries.{Entry, chain}
+use Rattle.orthtree.specs.Entries.{Entry, chain, entry}
 use Rattle.orthtree.proofs.ChainPlaceLaws.{Chained, places-reflect, chained-same}
 use Rattle.call_spec.specs.Buffers.{zipEntries}
 use Rattle.call_laws.proofs.EntriesLaws.{first-count, first-at}
-use Rattle.links.specs.Links.{entry, entryAt}
+use Rattle.links.specs.Links.{entryAt}
 
 -- what a place past the end of a list gives
 nowhere : Entry

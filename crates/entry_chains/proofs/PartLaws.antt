@@ -129,6 +129,6 @@ module _ (count : ℕ) (ks ls is : List ℕ) (n m : ℕ) (e : n ≡ suc m) where
     chain-joined l p q r = rw (chain-parts, l, p, q, r)
 
 -- there is at least one entry
-pub chain-none : (count : ℕ) (es : List Entry) {n : ℕ} → n ≡ 0 → false ≡ chain arity depth count (take n es)
+pub no-entries : (count : ℕ) (es : List Entry) {n : ℕ} → n ≡ 0 → false ≡ chain arity depth count (take n es)
 unfolding chain
-chain-none count es h = rw h
+no-entries count es h = rw h

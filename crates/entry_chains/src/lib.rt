@@ -9,10 +9,10 @@ ghost use Prim.Native.Nat.{ℕ, _+_, _≤_};
 ghost use lib.Dec.{leb, eqb};
 ghost use lib.ListN.{length, getD, take};
 ghost use Rattle.lists.specs.Lists.{all, upTo};
-ghost use Rattle.orthtree.specs.Entries.{chain};
+ghost use Rattle.orthtree.specs.Entries.{chain, entry};
 ghost use Rattle.squares.specs.Square.{arity, depth};
 ghost use Rattle.call_spec.specs.Buffers.{zipEntries};
-ghost use Rattle.links.specs.Links.{entry, itemFits, linkedAt};
+ghost use Rattle.links.specs.Links.{itemFits, linkedAt};
 
 // Each of the first n levels is at most 16.
 fn levels_fit(levels: &[u8], n: usize) -> bool

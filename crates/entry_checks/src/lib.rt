@@ -61,7 +61,7 @@ fn match_few(table: &[u16], n: usize, keys: &[u32], levels: &[u8], items: &[u16]
     ensures { λ o. ⌜ o ≡ sameEntries (take m (zipEntries (now (keys .entry)) (now (levels .entry)) (now (items .entry)))) (entriesOf (tableOf (now (table .entry)) n)) ⌝ }
 {
     let mut entries = [0u64; scratch::FEW_ENTRIES];
-    let r = scratch::build(table, n, &mut entries, scratch::FEW_ENTRIES);
+    let r = scratch::build_packed(table, n, &mut entries, scratch::FEW_ENTRIES);
     same_entries(&entries, r, keys, levels, items, m)
 }
 
@@ -72,7 +72,7 @@ fn match_all(table: &[u16], n: usize, keys: &[u32], levels: &[u8], items: &[u16]
     ensures { λ o. ⌜ o ≡ sameEntries (take m (zipEntries (now (keys .entry)) (now (levels .entry)) (now (items .entry)))) (entriesOf (tableOf (now (table .entry)) n)) ⌝ }
 {
     let mut entries = [0u64; tables::MOST_ENTRIES];
-    let r = scratch::build(table, n, &mut entries, tables::MOST_ENTRIES);
+    let r = scratch::build_packed(table, n, &mut entries, tables::MOST_ENTRIES);
     same_entries(&entries, r, keys, levels, items, m)
 }
 

@@ -24,7 +24,7 @@ fn list_few(
     ensures { λ r. ⌜ ListedWithin 1024 (entriesOf (tableOf (now (table .entry)) n)) r (now (keys .entry)) (now (keys .exit)) (now (levels .entry)) (now (levels .exit)) (now (items .entry)) (now (items .exit)) ⌝ }
 {
     let mut entries = [0u64; scratch::FEW_ENTRIES];
-    let m = scratch::build(table, n, &mut entries, scratch::FEW_ENTRIES);
+    let m = scratch::build_packed(table, n, &mut entries, scratch::FEW_ENTRIES);
     if m > scratch::FEW_ENTRIES {
         return 1025;
     }
@@ -45,7 +45,7 @@ fn list_all(
     ensures { λ r. ⌜ ListedWithin maxEntries (entriesOf (tableOf (now (table .entry)) n)) r (now (keys .entry)) (now (keys .exit)) (now (levels .entry)) (now (levels .exit)) (now (items .entry)) (now (items .exit)) ⌝ }
 {
     let mut entries = [0u64; tables::MOST_ENTRIES];
-    let m = scratch::build(table, n, &mut entries, tables::MOST_ENTRIES);
+    let m = scratch::build_packed(table, n, &mut entries, tables::MOST_ENTRIES);
     if m > tables::MOST_ENTRIES {
         return 16385;
     }

@@ -20,7 +20,7 @@ use Rattle.call_spec.specs.Buffers.{Chart, tooShort, chartTable, chartEntries, 
 use Rattle.call_spec.specs.Calls.{changedBy, ifLong, loadCall}
 use Rattle.call_spec.specs.History.{eventCall, chartAfter}
 use Rattle.call_laws.proofs.IndexedLaws.{indexed-table, indexed-entries}
-use Rattle.call_laws.proofs.OverwriteLaws.{Fits, after-small}
+use Rattle.call_laws.proofs.OverwriteLaws.{Indexable, after-small}
 use Rattle.call_laws.proofs.HistoryLaws.{events-chart}
 use Rattle.history.specs.Histories.{HoldsTable}
 
@@ -36,7 +36,7 @@ after-few [] t h = h
 after-few (e ∷ es) t h = after-few es (afterEvent e t) (after-small t (proposed e t) h)
 
 -- the plain table can be held by a chart
-pub plain-fits : (es : List Event) → T (all (λ e. sixteenBitEvent e) es) → Fits (plainTable es)
+pub plain-fits : (es : List Event) → T (all (λ e. sixteenBitEvent e) es) → Indexable (plainTable es)
 unfolding plainTable
 plain-fits es w =
     let t = plain-table es w in

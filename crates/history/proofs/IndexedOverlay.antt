@@ -22,7 +22,7 @@ use Rattle.chart_laws.proofs.MeetingsOfTable.{meetings-of-cells, meetings-of-ce
 use Rattle.call_spec.specs.Buffers.{Chart, tooShort, indexedChart, padded, pairsLength}
 use Rattle.call_spec.specs.Calls.{pairsRefused, overlaidBy, overlayCall}
 use Rattle.call_laws.proofs.IndexedLaws.{Editable, indexed-table, indexed-entries, indexed-editable}
-use Rattle.call_laws.proofs.OverwriteLaws.{Fits}
+use Rattle.call_laws.proofs.OverwriteLaws.{Indexable}
 use Rattle.history.specs.Histories.{overlayAnswer, TablesOverlaid}
 
 -- the pairs are within the limit or not: the answer is the same
@@ -38,8 +38,8 @@ answer-same ps m before = go (ltb maxPairs (length ps))
     go true = refl
     go false = refl
 
-module _ (c d : Chart) (long : tooShort c ≡ false) (wide : tooShort d ≡ false) (before : List ℕ) (room : pairsLength ≤ length before) (s t : Table) (fits : Fits s) (holds : Fits t) where
-  editable : (b : Chart) → tooShort b ≡ false → (u : Table) → Fits u → Editable (indexedChart b u)
+module _ (c d : Chart) (long : tooShort c ≡ false) (wide : tooShort d ≡ false) (before : List ℕ) (room : pairsLength ≤ length before) (s t : Table) (fits : Indexable s) (holds : Indexable t) where
+  editable : (b : Chart) → tooShort b ≡ false → (u : Table) → Indexable u → Editable (indexedChart b u)
   editable b l u f = indexed-editable b u (f .few) (f .small) l (f .oriented)
 
   -- neither chart is refused, nor is the pairs list

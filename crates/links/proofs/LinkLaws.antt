@@ -7,9 +7,9 @@ use native.Mathlib.Omega.{arith}
 use borrow.Author.Tests.{eqb-true}
 use lib.Bits.{bitAnd, bitOr}
 use lib.Dec.{ltb, eqb}
-use Rattle.orthtree.specs.Entries.{emptyMark, isMark, sameCell, span, rangeEnd, follows}
+use Rattle.orthtree.specs.Entries.{emptyMark, isMark, sameCell, span, rangeEnd, follows, entry}
 use Rattle.squares.specs.Square.{arity, depth}
-use Rattle.links.specs.Links.{entry, aligned, linked, endsTree}
+use Rattle.links.specs.Links.{aligned, linked, endsTree}
 use Rattle.lists.proofs.TestLaws.{and-then, and-skip, and-second, eqb-same}
 use Rattle.links.proofs.ItemLaws.{no-mark}
 use Rattle.links.proofs.MaskLaws.{and-span, or-span}

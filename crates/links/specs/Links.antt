@@ -5,12 +5,8 @@ use mathlib.Core.List.{List}
 use Prim.Native.Nat.{ℕ, _%_}
 use lib.Dec.{ltb, eqb}
 use lib.ListN.{getD}
-use Rattle.orthtree.specs.Entries.{Entry, emptyMark, span, rangeEnd, follows}
+use Rattle.orthtree.specs.Entries.{Entry, emptyMark, span, rangeEnd, follows, entry}
 use Rattle.squares.specs.Square.{arity, depth}
-
--- an entry by its key, level and item
-abbrev pub entry : ℕ → ℕ → ℕ → Entry
-entry key level item = record { key = key; level = level; item = item }
 
 -- the entry at place i of three lists
 unfoldable pub entryAt : List ℕ → List ℕ → List ℕ → ℕ → Entry

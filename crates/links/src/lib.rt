@@ -4,9 +4,9 @@ ghost use mathlib.Core.Path.{_≡_};
 ghost use mathlib.Core.Bool.{_||_};
 ghost use Prim.Native.Nat.{ℕ, _+_, _*_, _≤_};
 ghost use lib.Dec.{leb, eqb};
-ghost use Rattle.orthtree.specs.Entries.{span};
+ghost use Rattle.orthtree.specs.Entries.{span, entry};
 ghost use Rattle.squares.specs.Square.{arity, depth};
-ghost use Rattle.links.specs.Links.{entry, itemFits, linked, endsTree};
+ghost use Rattle.links.specs.Links.{itemFits, linked, endsTree};
 
 // The lowest triangle count for which an item fits: one more than it, and 0 for the mark.
 pub fn count_for(item: u16) -> u16

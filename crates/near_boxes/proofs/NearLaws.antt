@@ -15,7 +15,7 @@ use Rattle.lists.proofs.CompactLaws.{compact-below, compact-all}
 use Rattle.plane.specs.Box.{Box, triangleBox}
 use Rattle.chart_spec.specs.Table.{triangleAt}
 use Rattle.chart_laws.proofs.ProperLaws.{proper-at}
-use Rattle.chart_laws.proofs.SoundLaws.{apart}
+use Rattle.chart_laws.proofs.SoundLaws.{trianglesApart}
 use Rattle.boxes.specs.Boxes.{clear, boxAt, boxesOverlap, BoxedTable}
 use Rattle.boxes.proofs.BoxesLaws.{boxes-apart}
 use Rattle.boxes.proofs.KeepLaws.{kept-more, kept-skip}
@@ -48,10 +48,10 @@ module _ (b : Box) (table ls ts rs bs near : List ℕ) (i c : ℕ) (n : Near b (
 
   -- triangle i is apart from all before it where it is apart from those that are listed
   pub near-sound : BoxedTable table ls ts rs bs (i + 1) → b ≡ triangleBox (triangleAt table i)
-      → all (λ k. apart table i (getD near k 0)) (upTo c) ≡ all (λ k. apart table i k) (upTo i)
-  near-sound p e = compact-all (λ k. boxesOverlap b (boxAt ls ts rs bs) k) near i c room (n .listed) (λ k. apart table i k) others
+      → all (λ k. trianglesApart table i (getD near k 0)) (upTo c) ≡ all (λ k. trianglesApart table i k) (upTo i)
+  near-sound p e = compact-all (λ k. boxesOverlap b (boxAt ls ts rs bs) k) near i c room (n .listed) (λ k. trianglesApart table i k) others
     where
-      others : (k : ℕ) → k < i → boxesOverlap b (boxAt ls ts rs bs) k ≡ false → T (apart table i k)
+      others : (k : ℕ) → k < i → boxesOverlap b (boxAt ls ts rs bs) k ≡ false → T (trianglesApart table i k)
       others k l f =
           let h = not-false (clear b (boxAt ls ts rs bs k)) f in
           rw (boxes-apart (triangleAt table i) (proper-at table (i + 1) i (p .oriented) (omega arith)) e p k (omega arith) (rw h tt)) tt

@@ -12,11 +12,11 @@ use Rattle.lists.proofs.Reflects.{test-true, test-false}
 use Rattle.lists.proofs.ListsLaws.{Every}
 use Rattle.lists.proofs.EveryLaws.{every-map, every-flatMap}
 use Rattle.lists.proofs.FilterLaws.{filter-append, filter-all, filter-none}
-use Rattle.orthtree.specs.Entries.{Entry, span, rangeEnd, covers}
+use Rattle.orthtree.specs.Entries.{Entry, span, rangeEnd, covers, entry}
 use Rattle.orthtree.proofs.EntriesLaws.{covers-reflects}
 use Rattle.orthtree.proofs.RangeLaws.{Within}
 use Rattle.orthtree.proofs.TilingLaws.{Tiles, done, next, tiles-inside}
-use Rattle.orthtree.proofs.ChainTilingLaws.{entry, entriesFrom}
+use Rattle.orthtree.proofs.ChainTilingLaws.{entriesFrom}
 
 module _ (arity depth k : ℕ) {Node : Type 0} (key level : Node → ℕ) (items : Node → List ℕ) where
   abbrev size : Node → ℕ

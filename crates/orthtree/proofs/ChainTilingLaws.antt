@@ -10,7 +10,7 @@ use native.Mathlib.Omega.{arith}
 use lib.Dec.{T}
 use Rattle.lists.proofs.ListsLaws.{Every, every-uncons}
 use Rattle.lists.proofs.Order.{Rising, rising-none, rising-more}
-use Rattle.orthtree.specs.Entries.{Entry, emptyMark, span, rangeEnd, chain}
+use Rattle.orthtree.specs.Entries.{Entry, emptyMark, span, rangeEnd, chain, entry}
 use Rattle.orthtree.proofs.TilingLaws.{Tiles, done, next}
 use Rattle.orthtree.proofs.ChainLaws.{ChainAfter, last, link, ChainFrom, end, start, chain-reflects}
 
@@ -18,10 +18,6 @@ use Rattle.orthtree.proofs.ChainLaws.{ChainAfter, last, link, ChainFrom
 pub data Listing (count : ℕ) : List ℕ → Type 0 where
   marked : Listing count (emptyMark ∷ [])
   listed : {i : ℕ} {is : List ℕ} → Rising 0 count (i ∷ is) → Listing count (i ∷ is)
-
--- the entry with this key, level and item
-abbrev pub entry : ℕ → ℕ → ℕ → Entry
-entry k l i = record { key = k; level = l; item = i }
 
 -- the entries of nodes, one for each item of each
 abbrev pub entriesFrom : {Node : Type 0} → (Node → ℕ) → (Node → ℕ) → (Node → List ℕ) → List Node → List Entry

@@ -12,11 +12,11 @@ use lib.Seq.{drop-cons}
 use Rattle.lists.specs.Lists.{sumOf}
 use Rattle.lists.proofs.ListsLaws.{Every, every-uncons}
 use Rattle.lists.proofs.SumLaws.{sum-map, sum-agree}
-use Rattle.orthtree.specs.Entries.{Entry, sameCell, cellHeads, cellHeadsAfter, span, rangeEnd, overlaps, meetings}
+use Rattle.orthtree.specs.Entries.{Entry, sameCell, cellHeads, cellHeadsAfter, span, rangeEnd, overlaps, meetings, entry}
 use Rattle.orthtree.proofs.EntriesLaws.{span-positive}
 use Rattle.orthtree.proofs.TilingLaws.{Tiles, done, next}
 use Rattle.orthtree.proofs.ChainLaws.{SameCell}
-use Rattle.orthtree.proofs.ChainTilingLaws.{entry, entriesFrom}
+use Rattle.orthtree.proofs.ChainTilingLaws.{entriesFrom}
 use Rattle.orthtree.proofs.ChainHeadsLaws.{heads-same, heads-next}
 
 -- what comes after an entry depends on its cell alone

@@ -13,6 +13,10 @@ pub record Entry : Type 0 where
   pub level : ℕ
   pub item : ℕ
 
+-- the entry with this key, level and item
+abbrev pub entry : ℕ → ℕ → ℕ → Entry
+entry key level item = record { key = key; level = level; item = item }
+
 -- "the mark 65,535": the one entry of a cell with no item
 unfoldable pub emptyMark : ℕ
 emptyMark = 65535

@@ -18,7 +18,7 @@ use Rattle.boxes.proofs.KeepLaws.{kept-none, kept-more, kept-skip}
 use Rattle.bitsets.specs.Bits.{wordBit, hasBit}
 use Rattle.pair_marks.specs.PairMarks.{rowWords}
 use Rattle.row_candidates.specs.RowCandidates.{markedAt, isNear, NearInRow}
-use Rattle.row_candidates.proofs.WordLaws.{Lowest, lowest, bits-before, bit-there, bit-within, bits-after, bits-none}
+use Rattle.row_candidates.proofs.WordLaws.{Lowest, trailing-lowest, bits-before, bit-there, bit-within, bits-after, bits-none}
 
 -- j is below m, or not
 below-not : (j m : ℕ) → ltb j m ≡ not (leb m j)
@@ -75,7 +75,7 @@ module _ (rows : List ℕ) (i j q w : ℕ) (fits : getD rows (rowWords * i + q) 
 
   -- the next mark
   pub next-mark : 0 < w → Lowest w (trailingZeros 64 w)
-  next-mark p = lowest 64 w p (omega (arith, shr-le (getD rows (rowWords * i + q) 0) (j - 64 * q)))
+  next-mark p = trailing-lowest 64 w p (omega (arith, shr-le (getD rows (rowWords * i + q) 0) (j - 64 * q)))
 
   -- it is t places on
   module _ (t : ℕ) (l : Lowest w t) where

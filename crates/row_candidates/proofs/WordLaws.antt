@@ -23,10 +23,10 @@ twice w r p e f = omega (arith, go (w / 2) f)
     go h g = omega arith
 
 -- the lowest bit of a word that is not 0
-pub lowest : (k w : ℕ) → 0 < w → w < 2 ^ k → Lowest w (trailingZeros k w)
+pub trailing-lowest : (k w : ℕ) → 0 < w → w < 2 ^ k → Lowest w (trailingZeros k w)
 unfolding trailingZeros
-lowest zero w p h = absurd (omega arith)
-lowest (suc k) w p h = go (w % 2) refl (λ e. lowest k (w / 2) (omega arith) (omega (arith, pow-suc 2 k)))
+trailing-lowest zero w p h = absurd (omega arith)
+trailing-lowest (suc k) w p h = go (w % 2) refl (λ e. trailing-lowest k (w / 2) (omega arith) (omega (arith, pow-suc 2 k)))
   where
     go : (d : ℕ) → w % 2 ≡ d → (w % 2 ≡ 0 → Lowest (w / 2) (trailingZeros k (w / 2))) → Lowest w (under d (trailingZeros k (w / 2)))
     go zero e r =

@@ -60,7 +60,7 @@ fn build_large(table: &[u16], n: usize, out: &mut [u64], most: usize) -> usize
 }
 
 // The entries of a table, packed, from place 0 on, or most + 1 where they are more than `most`.
-pub fn build(table: &[u16], n: usize, out: &mut [u64], most: usize) -> usize
+pub fn build_packed(table: &[u16], n: usize, out: &mut [u64], most: usize) -> usize
     requires { ⌜ ((n ≤ maxTriangles) × (numbersPerTriangle * n ≤ length (now table))) × (all (λ t. proper t) (tableOf (now table) n) ≡ true) ⌝ }
     requires { ⌜ (most ≤ length (now out)) × (most ≤ maxEntries) ⌝ }
     ensures { λ r. ⌜ Packed most (entriesOf (tableOf (now (table .entry)) n)) r (now (out .entry)) (now (out .exit)) ⌝ }

@@ -16,7 +16,7 @@ use Rattle.plane.specs.declared.Point.{Point}
 use Rattle.plane.specs.Point.{FracPoint}
 use Rattle.plane.specs.Box.{Box}
 use Rattle.separation.proofs.Radon.{Triple}
-use Rattle.separation.proofs.Cone.{Cone, Form, flip, all, halfClosed, _•_}
+use Rattle.separation.proofs.Cone.{Cone, Form, flip, intersection, halfClosed, _•_}
 use Rattle.separation.proofs.Sides.{at, fraction}
 
 -- a fractional point lies in a box, its border included
@@ -44,7 +44,7 @@ abbrev pub others : Box → List Cone
 others b = halfClosed (toRight (b .right)) ∷ halfClosed (fromTop (b .top)) ∷ halfClosed (toBottom (b .bottom)) ∷ []
 
 abbrev pub rectangle : Box → Cone
-rectangle b = all (halfClosed (fromLeft (b .left))) (others b)
+rectangle b = intersection (halfClosed (fromLeft (b .left))) (others b)
 
 pub inBox-iff : (b : Box) (z : Triple) → InBox b (fraction z) ↔ rectangle b .Has z
 unfolding _•_

@@ -21,14 +21,14 @@ pub record Cone : Type 1 where
   pub mix : {l m n : ℕ} {p q r z : Triple} → Mixed l m n p q r z → Has p → Has q → Has r → Has z
 
 -- "some point lies in it"
-pub record Some (c : Cone) : Type 0 where
+pub record Inhabited (c : Cone) : Type 0 where
   pub point : Triple
   pub above : 0 < point .w
   pub has : c .Has point
 
 -- a cone that holds whatever another holds
-pub some-more : (c d : Cone) → ((t : Triple) → c .Has t → d .Has t) → Some c → Some d
-some-more c d f s = record { point = s .point; above = s .above; has = f (s .point) (s .has) }
+pub inhabited-more : (c d : Cone) → ((t : Triple) → c .Has t → d .Has t) → Inhabited c → Inhabited d
+inhabited-more c d f s = record { point = s .point; above = s .above; has = f (s .point) (s .has) }
 
 infixr 40 _∩_
 abbrev pub _∩_ : Cone → Cone → Cone
@@ -38,9 +38,9 @@ c ∩ d = record {
 }
 
 -- the intersection of one or more cones
-abbrev pub all : Cone → List Cone → Cone
-all c [] = c
-all c (d ∷ ds) = c ∩ all d ds
+abbrev pub intersection : Cone → List Cone → Cone
+intersection c [] = c
+intersection c (d ∷ ds) = c ∩ intersection d ds
 
 -- a sum with natural coefficients: the triple of these, at a point
 infixl 80 _•_

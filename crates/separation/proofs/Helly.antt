@@ -12,7 +12,7 @@ use Prim.Native.Nat.{_*_}
 use native.Mathlib.Omega.{arith}
 use Rattle.separation.proofs.Dependency.{Four}
 use Rattle.separation.proofs.Radon.{Triple, Blend, radon}
-use Rattle.separation.proofs.Cone.{Cone, Mixed, Some, some-more, _∩_, all}
+use Rattle.separation.proofs.Cone.{Cone, Mixed, Inhabited, inhabited-more, _∩_, intersection}
 
 -- the first weight is zero: the other three points will do
 skip : (c : Cone) {u : Four} {p q r s z : Triple} → Blend u p q r s z → u .a ≡ 0
@@ -36,8 +36,8 @@ turn : {u : Four} {p q r s z : Triple} → Blend u p q r s z → Blend (turned u
 turn b = omega arith
 
 -- four cones, of which each three have a common point
-pub helly : (c d e f : Cone) → Some (d ∩ e ∩ f) → Some (c ∩ e ∩ f) → Some (c ∩ d ∩ f) → Some (c ∩ d ∩ e)
-    → Some (c ∩ d ∩ e ∩ f)
+pub helly : (c d e f : Cone) → Inhabited (d ∩ e ∩ f) → Inhabited (c ∩ e ∩ f) → Inhabited (c ∩ d ∩ f) → Inhabited (c ∩ d ∩ e)
+    → Inhabited (c ∩ d ∩ e ∩ f)
 helly c d e f p q r s =
     let m = radon (p .point) (q .point) (r .point) (s .point) (p .above) (q .above) (r .above) (s .above) in
     let u = m .first in
@@ -69,21 +69,21 @@ each-more P Q f c [] h = f c h
 each-more P Q f c (d ∷ ds) h = (f c (h .0), each-more P Q f d ds (h .1))
 
 -- two cones and a family: each of the two meets the whole family, and both together meet each cone of it
-pair-family : (c d k : Cone) (ks : List Cone) → Some (c ∩ all k ks) → Some (d ∩ all k ks)
-    → Each (λ e. Some (c ∩ d ∩ e)) k ks → Some (c ∩ d ∩ all k ks)
+pair-family : (c d k : Cone) (ks : List Cone) → Inhabited (c ∩ intersection k ks) → Inhabited (d ∩ intersection k ks)
+    → Each (λ e. Inhabited (c ∩ d ∩ e)) k ks → Inhabited (c ∩ d ∩ intersection k ks)
 pair-family c d k [] p q h = h
 pair-family c d k (m ∷ ks) p q h =
-    helly c d k (all m ks) q p
-    (pair-family c d m ks (some-more _ _ (λ t x. (x .0, x .1 .1)) p) (some-more _ _ (λ t x. (x .0, x .1 .1)) q) (h .1))
+    helly c d k (intersection m ks) q p
+    (pair-family c d m ks (inhabited-more _ _ (λ t x. (x .0, x .1 .1)) p) (inhabited-more _ _ (λ t x. (x .0, x .1 .1)) q) (h .1))
     (h .0)
 
 -- three cones and a family: the three together meet each cone of it, and each of the three meets the whole family
-pub families-meet : (c d e k : Cone) (ks : List Cone) → Some (c ∩ d ∩ e) → Each (λ m. Some ((c ∩ d ∩ e) ∩ m)) k ks
-    → Some (c ∩ all k ks) → Some (d ∩ all k ks) → Some (e ∩ all k ks) → Some ((c ∩ d ∩ e) ∩ all k ks)
+pub families-meet : (c d e k : Cone) (ks : List Cone) → Inhabited (c ∩ d ∩ e) → Each (λ m. Inhabited ((c ∩ d ∩ e) ∩ m)) k ks
+    → Inhabited (c ∩ intersection k ks) → Inhabited (d ∩ intersection k ks) → Inhabited (e ∩ intersection k ks) → Inhabited ((c ∩ d ∩ e) ∩ intersection k ks)
 families-meet c d e k ks s h p q r =
-    some-more (c ∩ d ∩ e ∩ all k ks) _ (λ t x. ((x .0, (x .1 .0, x .1 .1 .0)), x .1 .1 .1))
-    (helly c d e (all k ks)
-    (pair-family d e k ks q r (each-more _ _ (λ m. some-more _ _ (λ t x. (x .0 .1 .0, (x .0 .1 .1, x .1)))) k ks h))
-    (pair-family c e k ks p r (each-more _ _ (λ m. some-more _ _ (λ t x. (x .0 .0, (x .0 .1 .1, x .1)))) k ks h))
-    (pair-family c d k ks p q (each-more _ _ (λ m. some-more _ _ (λ t x. (x .0 .0, (x .0 .1 .0, x .1)))) k ks h))
+    inhabited-more (c ∩ d ∩ e ∩ intersection k ks) _ (λ t x. ((x .0, (x .1 .0, x .1 .1 .0)), x .1 .1 .1))
+    (helly c d e (intersection k ks)
+    (pair-family d e k ks q r (each-more _ _ (λ m. inhabited-more _ _ (λ t x. (x .0 .1 .0, (x .0 .1 .1, x .1)))) k ks h))
+    (pair-family c e k ks p r (each-more _ _ (λ m. inhabited-more _ _ (λ t x. (x .0 .0, (x .0 .1 .1, x .1)))) k ks h))
+    (pair-family c d k ks p q (each-more _ _ (λ m. inhabited-more _ _ (λ t x. (x .0 .0, (x .0 .1 .0, x .1)))) k ks h))
     s)

@@ -13,7 +13,7 @@ use Rattle.plane.specs.Point.{FracPoint, whole}
 use Rattle.plane.specs.Triangle.{Triangle, proper, holds, holdsAt}
 use Rattle.plane.specs.Box.{Box, triangleMeets}
 use Rattle.plane.proofs.OrientLaws.{orientAt-whole}
-use Rattle.separation.proofs.Cone.{Form, Some, _∩_, halfClosed}
+use Rattle.separation.proofs.Cone.{Form, Inhabited, _∩_, halfClosed}
 use Rattle.separation.proofs.Helly.{families-meet}
 use Rattle.separation.proofs.Sides.{at, fraction, closed, closed-reflects, Proper, proper-reflects, corners-closed}
 use Rattle.separation.proofs.Near.{corner-in}
@@ -52,14 +52,14 @@ holds-meets t b p d h l r u m =
     holdsAt-meets t b (whole p) d (omega arith) k (omega (arith, le→leb))
 
 -- the largest corner as a common point of a half-plane and the box
-pub largest-in : (f : Form) (b : Box) → NotEmpty b → halfClosed f .Has (at (largest f b)) → Some (halfClosed f ∩ rectangle b)
+pub largest-in : (f : Form) (b : Box) → NotEmpty b → halfClosed f .Has (at (largest f b)) → Inhabited (halfClosed f ∩ rectangle b)
 largest-in f b h i = record {
   point = at (largest f b);
   above = omega arith;
   has = (i, corners-largest (rectangle b) f b (corners-in b h));
 }
 
-meets : (t : Triangle) (b : Box) → Proper t → NotEmpty b → Touch t b → Some (closed t ∩ rectangle b)
+meets : (t : Triangle) (b : Box) → Proper t → NotEmpty b → Touch t b → Inhabited (closed t ∩ rectangle b)
 meets t b p h i =
     let e = i .0 .0 .0 in
     families-meet _ _ _ (halfClosed (fromLeft (b .left))) (others b)
@@ -76,7 +76,7 @@ pub record CommonPoint (t : Triangle) (b : Box) : Type 0 where
   pub held : T (holdsAt t point)
   pub inBox : InBox b point
 
-common : (t : Triangle) (b : Box) → Some (closed t ∩ rectangle b) → CommonPoint t b
+common : (t : Triangle) (b : Box) → Inhabited (closed t ∩ rectangle b) → CommonPoint t b
 common t b z = record {
   point = fraction (z .point);
   above = z .above;

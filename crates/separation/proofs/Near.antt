@@ -8,11 +8,11 @@ use native.Mathlib.Nat.{mul-le-mul-left}
 use native.Mathlib.Omega.{arith}
 use Rattle.plane.specs.Triangle.{Triangle}
 use Rattle.separation.proofs.Radon.{Triple}
-use Rattle.separation.proofs.Cone.{Cone, Mixed, Some, Form, _∩_, half, halfClosed, _•_, •-mixed}
+use Rattle.separation.proofs.Cone.{Cone, Mixed, Inhabited, Form, _∩_, half, halfClosed, _•_, •-mixed}
 use Rattle.separation.proofs.Sides.{side, at, inside, closed, Proper, corners-closed, SomeCorner}
 
 -- a corner is a point of the closed triangle
-pub corner-in : (t : Triangle) (c : Cone) → Proper t → SomeCorner c t → Some (closed t ∩ c)
+pub corner-in : (t : Triangle) (c : Cone) → Proper t → SomeCorner c t → Inhabited (closed t ∩ c)
 corner-in t c h (inl (inl i)) = record { point = at (t .a); above = omega arith; has = (corners-closed t h .0, i) }
 corner-in t c h (inl (inr i)) = record { point = at (t .b); above = omega arith; has = (corners-closed t h .1, i) }
 corner-in t c h (inr i) = record { point = at (t .c); above = omega arith; has = (corners-closed t h .2, i) }
@@ -25,7 +25,7 @@ middle-inside : (t : Triangle) → Proper t → inside t .Has (middle t)
 unfolding side _•_
 middle-inside t h = omega arith
 
-pub some-inside : (t : Triangle) → Proper t → Some (inside t)
+pub some-inside : (t : Triangle) → Proper t → Inhabited (inside t)
 some-inside t h = record { point = middle t; above = omega arith; has = middle-inside t h }
 
 -- k steps from m toward r
@@ -44,8 +44,8 @@ reaches f m r h =
     let k = suc (f .low • m) in
     omega (arith, •-mixed (f .low) (toward-mixed k m r), •-mixed (f .high) (toward-mixed k m r), mul-le-mul-left k h)
 
-pub near : (t : Triangle) (f : Form) → Proper t → SomeCorner (half f) t → Some (inside t ∩ half f)
-near t f h s =
+pub near-corner : (t : Triangle) (f : Form) → Proper t → SomeCorner (half f) t → Inhabited (inside t ∩ half f)
+near-corner t f h s =
     let c = corner-in t (half f) h s in
     let r = c .point in
     let m = middle t in

@@ -16,7 +16,7 @@ use Rattle.separation.proofs.Touch.{Reaches, touch-reflects}
 use Rattle.separation.proofs.FlatSides.{flat, sideMeets-flat}
 
 -- r is a part of q, and has points
-pub record Within (r q : Box) : Type 0 where
+pub record BoxWithin (r q : Box) : Type 0 where
   pub left : q .left ≤ r .left
   pub right : r .right ≤ q .right
   pub top : q .top ≤ r .top
@@ -30,18 +30,18 @@ corner-more f g t k (inl (inl h)) = inl (inl (k _ h))
 corner-more f g t k (inl (inr h)) = inl (inr (k _ h))
 corner-more f g t k (inr h) = inr (k _ h)
 
-in-whole : {r q : Box} → Within r q → (p : Point) → rectangle r .Has (at p) → rectangle q .Has (at p)
+in-whole : {r q : Box} → BoxWithin r q → (p : Point) → rectangle r .Has (at p) → rectangle q .Has (at p)
 unfolding _•_
 in-whole w p h = omega arith
 
-reaches-part : (a b : Point) {r q : Box} → Within r q → Reaches a b r → Reaches a b q
+reaches-part : (a b : Point) {r q : Box} → BoxWithin r q → Reaches a b r → Reaches a b q
 reaches-part a b {r} {q} w =
     let f = side a b in
     let corner = corners-largest (rectangle r) f r (corners-in r (w .wide, w .tall)) in
     at-largest q (at (largest f r)) (omega arith) (in-whole w _ corner) f
 
 -- A triangle that meets a part of a box meets the box.
-pub triangleMeets-part : (t : Triangle) {r q : Box} → Within r q → T (triangleMeets t r) → T (triangleMeets t q)
+pub triangleMeets-part : (t : Triangle) {r q : Box} → BoxWithin r q → T (triangleMeets t r) → T (triangleMeets t q)
 unfolding _•_
 triangleMeets-part t {r} {q} w m =
     let h = touch-reflects t r (w .wide, w .tall) .to m in
@@ -56,5 +56,5 @@ triangleMeets-part t {r} {q} w m =
     )
 
 -- A side that meets a part of a box meets the box.
-pub sideMeets-part : (d : Side) {r q : Box} → Within r q → T (sideMeets d r) → T (sideMeets d q)
+pub sideMeets-part : (d : Side) {r q : Box} → BoxWithin r q → T (sideMeets d r) → T (sideMeets d q)
 sideMeets-part d {r} {q} w m = rw sideMeets-flat at (triangleMeets-part (flat d) w (rw (← sideMeets-flat d r) at m))

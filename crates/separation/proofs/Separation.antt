@@ -11,10 +11,10 @@ use lib.Dec.{T}
 use Rattle.plane.specs.Triangle.{Triangle, proper}
 use Rattle.plane.specs.Interior.{CommonInterior, noSideSeparates, interiorsMeet}
 use Rattle.lists.proofs.Reflects.{Reflects, reflects-dec, reflects-and, reflects-and₃}
-use Rattle.separation.proofs.Cone.{Cone, Some, some-more, _∩_, half}
+use Rattle.separation.proofs.Cone.{Cone, Inhabited, inhabited-more, _∩_, half}
 use Rattle.separation.proofs.Helly.{families-meet}
 use Rattle.separation.proofs.Sides.{side, fraction, inside, inside-reflects, Proper, proper-reflects, SomeCorner, someCorner-reflects}
-use Rattle.separation.proofs.Near.{some-inside, near}
+use Rattle.separation.proofs.Near.{some-inside, near-corner}
 use Rattle.separation.proofs.Weights.{weights, inside-held}
 use Rattle.separation.proofs.Averages.{some-corner}
 
@@ -42,20 +42,20 @@ shows s t d c =
 
 -- ---- no side separates, so there is a common point
 
-swapped : (c d : Cone) → Some (c ∩ d) → Some (d ∩ c)
-swapped c d = some-more _ _ (λ t h. (h .1, h .0))
+swapped : (c d : Cone) → Inhabited (c ∩ d) → Inhabited (d ∩ c)
+swapped c d = inhabited-more _ _ (λ t h. (h .1, h .0))
 
-meets : (s t : Triangle) → Proper s → Proper t → NoSide s t → NoSide t s → Some (inside s ∩ inside t)
+meets : (s t : Triangle) → Proper s → Proper t → NoSide s t → NoSide t s → Inhabited (inside s ∩ inside t)
 meets s t hs ht h k =
     families-meet (half (side (s .a) (s .b))) (half (side (s .b) (s .c))) (half (side (s .c) (s .a)))
     (half (side (t .a) (t .b))) (half (side (t .b) (t .c)) ∷ half (side (t .c) (t .a)) ∷ [])
     (some-inside s hs)
-    (near s _ hs (k .0), (near s _ hs (k .1 .0), near s _ hs (k .1 .1)))
-    (swapped _ _ (near t _ ht (h .0)))
-    (swapped _ _ (near t _ ht (h .1 .0)))
-    (swapped _ _ (near t _ ht (h .1 .1)))
+    (near-corner s _ hs (k .0), (near-corner s _ hs (k .1 .0), near-corner s _ hs (k .1 .1)))
+    (swapped _ _ (near-corner t _ ht (h .0)))
+    (swapped _ _ (near-corner t _ ht (h .1 .0)))
+    (swapped _ _ (near-corner t _ ht (h .1 .1)))
 
-common : (s t : Triangle) → Some (inside s ∩ inside t) → CommonInterior s t
+common : (s t : Triangle) → Inhabited (inside s ∩ inside t) → CommonInterior s t
 common s t z = record {
   point = fraction (z .point);
   above = z .above;

@@ -17,7 +17,7 @@ use Rattle.plane.specs.Box.{Box, sideBox, sideMeets, triangleMeets}
 use Rattle.plane.proofs.Difference.{diff-unique}
 use Rattle.lists.proofs.ListsLaws.{every-cons}
 use Rattle.separation.proofs.Radon.{Triple}
-use Rattle.separation.proofs.Cone.{Some, _∩_, halfClosed, _•_}
+use Rattle.separation.proofs.Cone.{Inhabited, _∩_, halfClosed, _•_}
 use Rattle.separation.proofs.Sides.{side, side-difference, at, fraction, closed, closed-reflects, proper-reflects, corners-closed}
 use Rattle.separation.proofs.Boxes.{InBox, inBox-iff, NotEmpty, rectangle}
 use Rattle.separation.proofs.Meets.{holdsAt-meets}
@@ -42,7 +42,7 @@ zero-iff p q z =
       λ h. diff-unique d (record { at = omega arith }),
     )
 
-sidePoint : (d : Side) (b : Box) → Some (segment d ∩ rectangle b) → SidePoint d b
+sidePoint : (d : Side) (b : Box) → Inhabited (segment d ∩ rectangle b) → SidePoint d b
 sidePoint d b s =
     let z = s .point in
     let g = s .has .0 in
@@ -58,7 +58,7 @@ natural : {n : ℕ} (z : ℤ) → pos n ≤ℤ z → z ≡ pos (natAbs z)
 natural (pos m) h = refl
 natural (negsuc m) h = absurd (h .le)
 
-common : (d : Side) (b : Box) → SidePoint d b → Some (segment d ∩ rectangle b)
+common : (d : Side) (b : Box) → SidePoint d b → Inhabited (segment d ∩ rectangle b)
 common d b c =
     let p = c .point in
     let z : Triple = record { x = natAbs (p .X); y = natAbs (p .Y); w = p .W } in

@@ -10,7 +10,7 @@ use lib.Dec.{T}
 use Rattle.plane.specs.declared.Point.{Point}
 use Rattle.plane.specs.Triangle.{Side}
 use Rattle.plane.specs.Box.{Box, sideBox, sideMeets}
-use Rattle.separation.proofs.Cone.{Cone, Some, _∩_, halfClosed, _•_}
+use Rattle.separation.proofs.Cone.{Cone, Inhabited, _∩_, halfClosed, _•_}
 use Rattle.separation.proofs.Helly.{families-meet}
 use Rattle.separation.proofs.Sides.{side, at, SomeCorner}
 use Rattle.separation.proofs.Boxes.{NotEmpty, rectangle, others, fromLeft, toRight, fromTop, toBottom, at-largest}
@@ -28,10 +28,10 @@ either-end d c P f (inl (inl i)) = f (d .end) (ends-in d .1) i
 either-end d c P f (inl (inr i)) = f (d .start) (ends-in d .0) i
 either-end d c P f (inr i) = f (d .end) (ends-in d .1) i
 
-end-in : (d : Side) (c : Cone) → SomeCorner c (flat d) → Some (segment d ∩ c)
+end-in : (d : Side) (c : Cone) → SomeCorner c (flat d) → Inhabited (segment d ∩ c)
 end-in d c = either-end d c _ (λ p i j. record { point = at p; above = omega arith; has = (i, j) })
 
-boxes-meet : (d : Side) (b : Box) → NotEmpty b → Touch (flat d) b → Some (rectangle (sideBox d) ∩ rectangle b)
+boxes-meet : (d : Side) (b : Box) → NotEmpty b → Touch (flat d) b → Inhabited (rectangle (sideBox d) ∩ rectangle b)
 unfolding sideBox _•_
 boxes-meet d b h i =
     let e = i .0 .0 .0 in
@@ -46,7 +46,7 @@ boxes-meet d b h i =
       has = omega arith;
     }
 
-meets : (d : Side) (b : Box) → NotEmpty b → Touch (flat d) b → Some (segment d ∩ rectangle b)
+meets : (d : Side) (b : Box) → NotEmpty b → Touch (flat d) b → Inhabited (segment d ∩ rectangle b)
 meets d b h i =
     let e = i .0 .0 .0 in
     families-meet _ _ _ (halfClosed (fromLeft (b .left))) (others b)
@@ -58,7 +58,7 @@ meets d b h i =
 
 -- ---- from a point to the test
 
-touches : (d : Side) (b : Box) (s : Some (segment d ∩ rectangle b)) → Touch (flat d) b
+touches : (d : Side) (b : Box) (s : Inhabited (segment d ∩ rectangle b)) → Touch (flat d) b
 unfolding side _•_
 touches d b s =
     let z = s .point in
@@ -74,7 +74,7 @@ touches d b s =
     )
 
 -- A side and a box that has points have a common point exactly where the test `sideMeets` passes.
-pub side-touch-iff : (d : Side) (b : Box) → NotEmpty b → Some (segment d ∩ rectangle b) ↔ T (sideMeets d b)
+pub side-touch-iff : (d : Side) (b : Box) → NotEmpty b → Inhabited (segment d ∩ rectangle b) ↔ T (sideMeets d b)
 side-touch-iff d b h =
     let r = touch-reflects (flat d) b h in
     rw (← sideMeets-flat d b) (λ s. r .from (touches d b s), λ m. meets d b h (r .to m))

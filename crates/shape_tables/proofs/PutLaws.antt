@@ -16,10 +16,6 @@ use Rattle.chart_spec.specs.Table.{triangleAt, tableOf}
 use Rattle.chart_laws.proofs.TableLaws.{tableOf-length, tableOf-suc}
 use Rattle.shapes.specs.Shape.{sideShape, boxShape, shapeOf, sideOffset, offsetsOf, packedPoint, cornersOf}
 
--- a triangle by its corners
-abbrev pub triangle : Point → Point → Point → Triangle
-triangle a b c = record { a = a; b = b; c = c }
-
 -- three sides and a box, each stored where the one before it ends
 pub put-shape : (l s₁ s₂ s₃ s₄ : List ℕ) (k : ℕ) (a b c : Point)
     → s₁ ≡ sets l k (sideShape a b)
@@ -37,13 +33,13 @@ put-shape l s₁ s₂ s₃ s₄ k a b c e₁ e₂ e₃ e₄ =
 
 -- three offsets
 pub put-offsets : (l : List ℕ) (k u v w : ℕ) (a b c : Point) → u ≡ sideOffset a b → v ≡ sideOffset b c → w ≡ sideOffset c a
-    → set (set (set l k u) (k + 1) v) (k + 2) w ≡ sets l k (offsetsOf (triangle a b c))
+    → set (set (set l k u) (k + 1) v) (k + 2) w ≡ sets l k (offsetsOf (record { a = a; b = b; c = c }))
 unfolding offsetsOf
 put-offsets l k u v w a b c e f g = cc (add-one k, add-two k)
 
 -- three corners
 pub put-corners : (l : List ℕ) (k u v w : ℕ) (a b c : Point) → u ≡ packedPoint a → v ≡ packedPoint b → w ≡ packedPoint c
-    → set (set (set l k u) (k + 1) v) (k + 2) w ≡ sets l k (cornersOf (triangle a b c))
+    → set (set (set l k u) (k + 1) v) (k + 2) w ≡ sets l k (cornersOf (record { a = a; b = b; c = c }))
 unfolding cornersOf
 put-corners l k u v w a b c e f g = cc (add-one k, add-two k)
 

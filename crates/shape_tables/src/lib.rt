@@ -106,7 +106,7 @@ fn put_corners(corners: &mut [u32], k: usize, a: Point, b: Point, c: Point)
 }
 
 // Triangle i of the table, from its six numbers.
-fn put_triangle(
+fn prepare_triangle(
     table: &[u16],
     i: usize,
     shape: &mut [u16],
@@ -135,7 +135,7 @@ pub fn prepare(table: &[u16], n: usize, shape: &mut [u16], offsets: &mut [u64], 
 {
     let mut i = 0;
     while i < n {
-        put_triangle(table, i, shape, offsets, corners);
+        prepare_triangle(table, i, shape, offsets, corners);
         i += 1;
     }
 }

@@ -11,11 +11,11 @@ use lib.Dec.{T}
 use Rattle.lists.specs.Lists.{filter}
 use Rattle.lists.proofs.ListsLaws.{Every, Some}
 use Rattle.orthtree.specs.Morton.{lowestBits, mortonKey}
-use Rattle.orthtree.specs.Entries.{emptyMark, span, covers, chain}
+use Rattle.orthtree.specs.Entries.{emptyMark, span, covers, chain, entry}
 use Rattle.orthtree.proofs.RangeLaws.{Within}
 use Rattle.orthtree.proofs.TilingLaws.{Tiles, tiles-cover, tiles-apart}
 use Rattle.orthtree.proofs.LeavesLaws.{leavesOf, leaves-tile, leaves-nodes}
-use Rattle.orthtree.proofs.ChainTilingLaws.{Listing, entry, entriesFrom, tiling-chain}
+use Rattle.orthtree.proofs.ChainTilingLaws.{Listing, entriesFrom, tiling-chain}
 use Rattle.orthtree.proofs.ChainCellLaws.{cell-of-key}
 use Rattle.plane.specs.declared.Point.{Point}
 use Rattle.squares.specs.declared.Square.{Square}

@@ -13,24 +13,6 @@ ghost use Rattle.chart_spec.specs.Cells.{maxEntries};
 // The bytes of a triangle.
 const TRIANGLE_BYTES: usize = 2 * tables::TRIANGLE_NUMBERS;
 
-// Number k of a list of bytes, low byte first.
-fn number_at(bytes: &[u8], k: usize) -> u16
-    requires { ⌜ 2 * k + 2 ≤ length (now bytes) ⌝ }
-{
-    bytes[2 * k] as u16 + 256 * bytes[2 * k + 1] as u16
-}
-
-// The first n numbers of a list of bytes.
-fn decode(bytes: &[u8], n: usize, table: &mut [u16])
-    requires { ⌜ (2 * n ≤ length (now bytes)) × (n ≤ length (now table)) ⌝ }
-{
-    let mut k = 0;
-    while k < n {
-        table[k] = number_at(bytes, k);
-        k += 1;
-    }
-}
-
 // The digits of x from place `at` of a line on, and a byte after them; answers the place after it.
 fn put_number(line: &mut [u8], at: usize, x: u64, after: u8) -> usize
     requires { ⌜ at + 21 ≤ length (now line) ⌝ }
@@ -109,7 +91,7 @@ fn next_table(keys: &mut [u32], levels: &mut [u8], items: &mut [u16]) -> bool
     if io::read_full(STDIN_FILENO, &mut count) < 2 {
         return false;
     }
-    let n = number_at(&count, 0) as usize;
+    let n = test_support::short_at(&count, 0) as usize;
     if n > tables::MOST_TRIANGLES {
         io::write_all(STDOUT_FILENO, b"refused\n");
         return false;
@@ -121,7 +103,7 @@ fn next_table(keys: &mut [u32], levels: &mut [u8], items: &mut [u16]) -> bool
     }
     let mut table = [0u16; tables::TABLE_NUMBERS];
     let numbers = tables::TRIANGLE_NUMBERS * n;
-    decode(&bytes, numbers, &mut table);
+    test_support::decode(&bytes, numbers, &mut table);
     build_and_print(&table[..numbers], keys, levels, items);
     true
 }

@@ -8,13 +8,13 @@ use Rattle.lists.proofs.IndexLaws.{all-below-none, all-below-fails, all-below-p
 use Rattle.plane.specs.Triangle.{triangleOf, cornerAt, corners}
 use Rattle.plane.specs.Interior.{interiorsMeet}
 use Rattle.chart_spec.specs.Table.{triangleAt}
-use Rattle.chart_laws.proofs.SoundLaws.{apart}
+use Rattle.chart_laws.proofs.SoundLaws.{trianglesApart}
 use Rattle.apart.proofs.each_apart.Statement.{statement}
 use Rattle.apart.proofs.each_apart.Tie as tie
 
 abbrev Inv-loop : tie.InvT-loop
 Inv-loop table i s k₀ k =
-    ((k ≤ i) × (all (λ n. apart table i n) (upTo k) ≡ true)) × (s ≡ corners (triangleAt table i))
+    ((k ≤ i) × (all (λ n. trianglesApart table i n) (upTo k) ≡ true)) × (s ≡ corners (triangleAt table i))
 
 abbrev μ-loop : tie.MeasureT-loop
 μ-loop table i s k₀ k = i - k
@@ -25,7 +25,7 @@ triangle-at-requires c κs = search needs
 loop-holds : tie.Need-loop-holds Inv-loop μ-loop
 loop-holds c =
     let a = c .before .before .args in
-    ((omega arith, all-below-none (λ n. apart (a .table .now) (a .i) n)), c .triangle-at .ensures)
+    ((omega arith, all-below-none (λ n. trianglesApart (a .table .now) (a .i) n)), c .triangle-at .ensures)
 
 triangle-at-requires-2 : tie.Need-triangle-at-requires-2 Inv-loop μ-loop
 triangle-at-requires-2 c κs = omega arith
@@ -40,7 +40,7 @@ returns c =
     let l = c .before .before .before .before .loop in
     let meet = c .before .interiors-meet .ensures
     ∙ ap₂ (λ s t. interiorsMeet (triangleOf s) (triangleOf t)) (l .inv .1) (c .before .before .triangle-at2 .ensures) in
-    all-below-fails (λ n. apart (a .table .now) (a .i) n) (a .i) (l .k) (omega arith) (ap not (sym meet ∙ c .if1 .taken))
+    all-below-fails (λ n. trianglesApart (a .table .now) (a .i) n) (a .i) (l .k) (omega arith) (ap not (sym meet ∙ c .if1 .taken))
 
 add-k : tie.Need-add-k Inv-loop μ-loop
 add-k c = search needs
@@ -57,7 +57,7 @@ loop-again c =
     ∙ ap₂ (λ s t. interiorsMeet (triangleOf s) (triangleOf t)) (l .inv .1) (c .before .before .triangle-at2 .ensures) in (
       (
         omega arith,
-        all-below-passes (λ n. apart (a .table .now) (a .i) n) (l .k) (l .inv .0 .1) (ap not (sym meet ∙ c .if1 .left)),
+        all-below-passes (λ n. trianglesApart (a .table .now) (a .i) n) (l .k) (l .inv .0 .1) (ap not (sym meet ∙ c .if1 .left)),
       ),
       l .inv .1,
     )
@@ -66,7 +66,7 @@ returns-2 : tie.Need-returns-2 Inv-loop μ-loop
 returns-2 c =
     let a = c .before .before .before .before .args in
     let l = c .before .loop in
-    sym (l .inv .0 .1) ∙ ap (λ k. all (λ n. apart (a .table .now) (a .i) n) (upTo k)) (omega arith)
+    sym (l .inv .0 .1) ∙ ap (λ k. all (λ n. trianglesApart (a .table .now) (a .i) n) (upTo k)) (omega arith)
 
 pub each-apart-spec : {M : Type 1} → statement M
 each-apart-spec =

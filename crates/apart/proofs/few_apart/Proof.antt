@@ -6,18 +6,18 @@ use borrow.Author.Needs.{needs}
 use borrow.Author.Tests.{not-true, not-false}
 use Rattle.lists.specs.Lists.{all, upTo}
 use Rattle.lists.proofs.IndexLaws.{all-below-none, all-below-fails, all-below-passes}
-use Rattle.chart_laws.proofs.SoundLaws.{apart, sound-below}
+use Rattle.chart_laws.proofs.SoundLaws.{trianglesApart, sound-below}
 use Rattle.apart.proofs.few_apart.Statement.{statement}
 use Rattle.apart.proofs.few_apart.Tie as tie
 
 abbrev Inv-loop : tie.InvT-loop
-Inv-loop table n i₀ i = (i ≤ n) × (all (λ k. all (λ j. apart table k j) (upTo k)) (upTo i) ≡ true)
+Inv-loop table n i₀ i = (i ≤ n) × (all (λ k. all (λ j. trianglesApart table k j) (upTo k)) (upTo i) ≡ true)
 
 abbrev μ-loop : tie.MeasureT-loop
 μ-loop table n i₀ i = n - i
 
 loop-holds : tie.Need-loop-holds Inv-loop μ-loop
-loop-holds c = let table = c .before .args .table .now in (omega arith, all-below-none (λ i. all (λ j. apart table i j) (upTo i)))
+loop-holds c = let table = c .before .args .table .now in (omega arith, all-below-none (λ i. all (λ j. trianglesApart table i j) (upTo i)))
 
 each-apart-requires : tie.Need-each-apart-requires Inv-loop μ-loop
 each-apart-requires c κs = omega arith
@@ -27,7 +27,7 @@ returns c =
     let a = c .before .before .before .before .before .args in
     let table = a .table .now in
     let call = c .before .each-apart in
-    all-below-fails (λ i. all (λ j. apart table i j) (upTo i)) (a .n) (c .before .before .before .loop .i) (omega arith)
+    all-below-fails (λ i. all (λ j. trianglesApart table i j) (upTo i)) (a .n) (c .before .before .before .loop .i) (omega arith)
     (sym (call .ensures) ∙ not-true (call .result) (c .if1 .taken))
     ∙ sound-below table (a .n)
 
@@ -43,7 +43,7 @@ loop-again c =
     let l = c .before .before .before .loop in
     let call = c .before .each-apart in (
       omega arith,
-      all-below-passes (λ i. all (λ j. apart table i j) (upTo i)) (l .i) (l .inv .1)
+      all-below-passes (λ i. all (λ j. trianglesApart table i j) (upTo i)) (l .i) (l .inv .1)
           (sym (call .ensures) ∙ not-false (call .result) (c .if1 .left)),
     )
 
@@ -51,7 +51,7 @@ returns-2 : tie.Need-returns-2 Inv-loop μ-loop
 returns-2 c =
     let a = c .before .before .before .args in
     let table = a .table .now in
-    sym (c .before .loop .inv .1) ∙ ap (λ k. all (λ i. all (λ j. apart table i j) (upTo i)) (upTo k)) (omega arith)
+    sym (c .before .loop .inv .1) ∙ ap (λ k. all (λ i. all (λ j. trianglesApart table i j) (upTo i)) (upTo k)) (omega arith)
     ∙ sound-below table (a .n)
 
 pub few-apart-spec : {M : Type 1} → statement M

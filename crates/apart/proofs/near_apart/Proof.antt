@@ -9,13 +9,13 @@ use Rattle.lists.proofs.IndexLaws.{all-below-none, all-below-fails, all-below-p
 use Rattle.plane.specs.Triangle.{triangleOf, cornerAt, corners}
 use Rattle.plane.specs.Interior.{interiorsMeet}
 use Rattle.chart_spec.specs.Table.{triangleAt}
-use Rattle.chart_laws.proofs.SoundLaws.{apart}
+use Rattle.chart_laws.proofs.SoundLaws.{trianglesApart}
 use Rattle.apart.proofs.near_apart.Statement.{statement}
 use Rattle.apart.proofs.near_apart.Tie as tie
 
 abbrev Inv-loop : tie.InvT-loop
 Inv-loop table near i c s k₀ k =
-    ((k ≤ c) × (all (λ n. apart table i (getD near n 0)) (upTo k) ≡ true)) × (s ≡ corners (triangleAt table i))
+    ((k ≤ c) × (all (λ n. trianglesApart table i (getD near n 0)) (upTo k) ≡ true)) × (s ≡ corners (triangleAt table i))
 
 abbrev μ-loop : tie.MeasureT-loop
 μ-loop table near i c s k₀ k = c - k
@@ -26,7 +26,7 @@ triangle-at-requires c κs = search needs
 loop-holds : tie.Need-loop-holds Inv-loop μ-loop
 loop-holds c =
     let a = c .before .before .before .args in
-    ((omega arith, all-below-none (λ n. apart (a .table .now) (a .i) (getD (a .near .now) n 0))), c .triangle-at .ensures)
+    ((omega arith, all-below-none (λ n. trianglesApart (a .table .now) (a .i) (getD (a .near .now) n 0))), c .triangle-at .ensures)
 
 mul-triangle-at : tie.Need-mul-triangle-at Inv-loop μ-loop
 mul-triangle-at c = search needs
@@ -50,7 +50,7 @@ returns c =
     let l = c .before .before .before .before .before .loop in
     let meet = c .before .interiors-meet .ensures
     ∙ ap₂ (λ s t. interiorsMeet (triangleOf s) (triangleOf t)) (l .inv .1) (c .before .before .triangle-at2 .ensures) in
-    all-below-fails (λ n. apart (a .table .now) (a .i) (getD (a .near .now) n 0)) (a .c) (l .k) (omega arith)
+    all-below-fails (λ n. trianglesApart (a .table .now) (a .i) (getD (a .near .now) n 0)) (a .c) (l .k) (omega arith)
     (ap not (sym meet ∙ c .if1 .taken))
 
 add-k : tie.Need-add-k Inv-loop μ-loop
@@ -68,7 +68,7 @@ loop-again c =
     ∙ ap₂ (λ s t. interiorsMeet (triangleOf s) (triangleOf t)) (l .inv .1) (c .before .before .triangle-at2 .ensures) in (
       (
         omega arith,
-        all-below-passes (λ n. apart (a .table .now) (a .i) (getD (a .near .now) n 0)) (l .k) (l .inv .0 .1)
+        all-below-passes (λ n. trianglesApart (a .table .now) (a .i) (getD (a .near .now) n 0)) (l .k) (l .inv .0 .1)
             (ap not (sym meet ∙ c .if1 .left)),
       ),
       l .inv .1,
@@ -78,7 +78,7 @@ returns-2 : tie.Need-returns-2 Inv-loop μ-loop
 returns-2 c =
     let a = c .before .before .before .before .before .args in
     let l = c .before .loop in
-    sym (l .inv .0 .1) ∙ ap (λ k. all (λ n. apart (a .table .now) (a .i) (getD (a .near .now) n 0)) (upTo k)) (omega arith)
+    sym (l .inv .0 .1) ∙ ap (λ k. all (λ n. trianglesApart (a .table .now) (a .i) (getD (a .near .now) n 0)) (upTo k)) (omega arith)
 
 pub near-apart-spec : {M : Type 1} → statement M
 near-apart-spec =

@@ -7,14 +7,14 @@ use borrow.Author.Tests.{not-true, not-false}
 use lib.ListN.{length}
 use Rattle.lists.specs.Lists.{all, upTo}
 use Rattle.lists.proofs.IndexLaws.{all-below-none, all-below-fails, all-below-passes}
-use Rattle.chart_laws.proofs.SoundLaws.{apart, sound-below}
+use Rattle.chart_laws.proofs.SoundLaws.{trianglesApart, sound-below}
 use Rattle.boxes.proofs.BoxesLaws.{boxed-fewer}
 use Rattle.apart.proofs.pairs_apart.Statement.{statement}
 use Rattle.apart.proofs.pairs_apart.Tie as tie
 
 abbrev Inv-loop : tie.InvT-loop
 Inv-loop table lefts tops rights bottoms near₀ n i₀ near i =
-    ((i ≤ n) × (length near ≡ length near₀)) × (all (λ k. all (λ j. apart table k j) (upTo k)) (upTo i) ≡ true)
+    ((i ≤ n) × (length near ≡ length near₀)) × (all (λ k. all (λ j. trianglesApart table k j) (upTo k)) (upTo i) ≡ true)
 
 abbrev μ-loop : tie.MeasureT-loop
 μ-loop table lefts tops rights bottoms near₀ n i₀ near i = n - i
@@ -22,7 +22,7 @@ abbrev μ-loop : tie.MeasureT-loop
 loop-holds : tie.Need-loop-holds Inv-loop μ-loop
 loop-holds c =
     let table = c .before .before .before .before .before .before .args .table .now in
-    ((omega arith, refl), all-below-none (λ i. all (λ j. apart table i j) (upTo i)))
+    ((omega arith, refl), all-below-none (λ i. all (λ j. trianglesApart table i j) (upTo i)))
 
 is-apart-requires : tie.Need-is-apart-requires Inv-loop μ-loop
 is-apart-requires c κs =
@@ -41,7 +41,7 @@ returns c =
     let a = c .before .before .before .before .before .before .before .before .before .before .before .before .before .args in
     let table = a .table .now in
     let call = c .before .before .before .is-apart in
-    all-below-fails (λ i. all (λ j. apart table i j) (upTo i)) (a .n) (c .before .before .before .before .before .before .loop .i) (omega arith)
+    all-below-fails (λ i. all (λ j. trianglesApart table i j) (upTo i)) (a .n) (c .before .before .before .before .before .before .loop .i) (omega arith)
     (sym (call .ensures .0) ∙ not-true (call .result) (c .if1 .taken))
     ∙ sound-below table (a .n)
 
@@ -57,7 +57,7 @@ loop-again c =
     let l = c .before .before .before .before .before .before .loop in
     let call = c .before .before .before .is-apart in (
       (omega arith, call .ensures .1 ∙ l .inv .0 .1),
-      all-below-passes (λ i. all (λ j. apart table i j) (upTo i)) (l .i) (l .inv .1)
+      all-below-passes (λ i. all (λ j. trianglesApart table i j) (upTo i)) (l .i) (l .inv .1)
           (sym (call .ensures .0) ∙ not-false (call .result) (c .if1 .left)),
     )
 
@@ -68,7 +68,7 @@ returns-2 : tie.Need-returns-2 Inv-loop μ-loop
 returns-2 c =
     let a = c .before .before .before .before .before .before .before .before .args in
     let table = a .table .now in
-    sym (c .before .loop .inv .1) ∙ ap (λ k. all (λ i. all (λ j. apart table i j) (upTo i)) (upTo k)) (omega arith)
+    sym (c .before .loop .inv .1) ∙ ap (λ k. all (λ i. all (λ j. trianglesApart table i j) (upTo i)) (upTo k)) (omega arith)
     ∙ sound-below table (a .n)
 
 pub pairs-apart-spec : {M : Type 1} → statement M

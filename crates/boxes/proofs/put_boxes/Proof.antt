@@ -25,8 +25,8 @@ loop-holds c =
     let a = c .before .before .before .before .before .args in
     ((omega arith, ((refl, refl), (refl, refl))), boxes-none (a .table .now) (a .lefts .now) (a .tops .now) (a .rights .now) (a .bottoms .now))
 
-put-box-requires : tie.Need-put-box-requires Inv-loop μ-loop
-put-box-requires c κs =
+put-bounds-requires : tie.Need-put-bounds-requires Inv-loop μ-loop
+put-bounds-requires c κs =
     let top = c .before .before .before .before .before .before .before .before .before .before .before in
     let a = top .args in
     let l = c .before .before .before .before .before .loop in
@@ -48,7 +48,7 @@ loop-again c =
     let a = top .args in
     let l = c .before .before .before .before .before .before .before .before .before .before .before .before .before .before .loop in
     let s = l .inv .0 .1 in
-    let e = c .before .before .before .before .before .before .before .before .put-box .ensures in
+    let e = c .before .before .before .before .before .before .before .before .put-bounds .ensures in
     let d = triangleBox (triangleAt (a .table .now) (l .i)) in
     let room = places-fewer _ _ _ _ (l .i + 1) (a .n) (omega arith)
     (places-kept (a .lefts .now) (a .tops .now) (a .rights .now) (a .bottoms .now) (l .lefts) (l .tops) (l .rights) (l .bottoms) (a .n) (s .0 .0) (s .0 .1) (s .1 .0) (s .1 .1) (top .pre .1)) in (
@@ -84,7 +84,7 @@ put-boxes-spec =
     Inv-loop
     μ-loop
     loop-holds
-    put-box-requires
+    put-bounds-requires
     add-i
     loop-less
     loop-again

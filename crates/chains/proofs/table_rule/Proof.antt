@@ -1,5 +1,5 @@
 use native.Mathlib.Omega.{arith}
-use Rattle.call_laws.proofs.BufferLaws.{table-many, table-proper}
+use Rattle.call_laws.proofs.BufferLaws.{table-many, table-ruled}
 use Rattle.chains.proofs.table_rule.Statement.{statement}
 use Rattle.chains.proofs.table_rule.Tie as tie
 
@@ -12,7 +12,7 @@ all-proper-requires c κs = omega arith
 returns-2 : tie.Need-returns-2
 returns-2 c =
     let a = c .before .before .before .args in
-    table-proper (a .table .now) (a .count) (omega arith) (c .all-proper .ensures)
+    table-ruled (a .table .now) (a .count) (omega arith) (c .all-proper .ensures)
 
 pub table-rule-spec : {M : Type 1} → statement M
 table-rule-spec = tie.close (tie.spec returns all-proper-requires returns-2)

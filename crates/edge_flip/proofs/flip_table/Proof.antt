@@ -7,7 +7,7 @@ use Rattle.lists.specs.Lists.{first}
 use Rattle.plane.specs.Triangle.{triangleOf}
 use Rattle.chart_spec.specs.Table.{tableOf}
 use Rattle.chart_spec.specs.Edits.{rotations, sharesSide, flipAs}
-use Rattle.edge_flip.proofs.FlipSteps.{Tried, tried-start, tried-hit, tried-next, tried-end, both-below, flip-beyond, flip-begun}
+use Rattle.edge_flip.proofs.FlipSteps.{Tried, tried-start, tried-hit, tried-next, tried-end, neither-over, flip-beyond, flip-begun}
 use Rattle.edge_flip.proofs.flip_table.Statement.{statement}
 use Rattle.edge_flip.proofs.flip_table.Tie as tie
 
@@ -25,12 +25,12 @@ returns c =
 triangle-at-requires : tie.Need-triangle-at-requires Inv-loop μ-loop
 triangle-at-requires c κs =
     let a = c .before .before .before .args in
-    omega (arith, both-below (a .n) (a .i) (a .j) (c .if1 .left), c .before .before .before .pre)
+    omega (arith, neither-over (a .n) (a .i) (a .j) (c .if1 .left), c .before .before .before .pre)
 
 triangle-at-requires-2 : tie.Need-triangle-at-requires-2 Inv-loop μ-loop
 triangle-at-requires-2 c κs =
     let a = c .before .before .before .before .args in
-    omega (arith, both-below (a .n) (a .i) (a .j) (c .before .if1 .left), c .before .before .before .before .pre)
+    omega (arith, neither-over (a .n) (a .i) (a .j) (c .before .if1 .left), c .before .before .before .before .pre)
 
 loop-holds : tie.Need-loop-holds Inv-loop μ-loop
 loop-holds c =
@@ -50,7 +50,7 @@ flip-as-requires : tie.Need-flip-as-requires Inv-loop μ-loop
 flip-as-requires c κs =
     let a = c .before .before .before .before .before .before .before .before .before .before .before .before .args in
     let pre = c .before .before .before .before .before .before .before .before .before .before .before .before .pre in
-    (both-below (a .n) (a .i) (a .j) (c .before .before .before .before .before .before .before .before .before .if1 .left), (pre .0, (pre .1 .0, omega (arith, c .before .before .before .before .before .before .loop .inv .0, pre .1 .1))))
+    (neither-over (a .n) (a .i) (a .j) (c .before .before .before .before .before .before .before .before .before .if1 .left), (pre .0, (pre .1 .0, omega (arith, c .before .before .before .before .before .before .loop .inv .0, pre .1 .1))))
 
 same-length : tie.Need-same-length Inv-loop μ-loop
 same-length c = omega (arith, c .before .before .before .before .before .before .before .before .before .loop .inv .0)

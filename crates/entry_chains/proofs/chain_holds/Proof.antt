@@ -12,7 +12,7 @@ use Rattle.lists.proofs.IndexLaws.{all-below-at, all-below-fewer}
 use Rattle.squares.specs.Square.{depth}
 use Rattle.call_spec.specs.Buffers.{zipEntries}
 use Rattle.links.specs.Links.{entryAt}
-use Rattle.entry_chains.proofs.PartLaws.{chain-none, chain-stopped, chain-joined}
+use Rattle.entry_chains.proofs.PartLaws.{no-entries, chain-stopped, chain-joined}
 use borrow.Author.Needs.{needs}
 use Rattle.entry_chains.proofs.chain_holds.Statement.{statement}
 use Rattle.entry_chains.proofs.chain_holds.Tie as tie
@@ -20,7 +20,7 @@ use Rattle.entry_chains.proofs.chain_holds.Tie as tie
 returns : tie.Need-returns
 returns c =
     let a = c .before .before .before .before .args in
-    chain-none (a .count) (zipEntries (a .keys .now) (a .levels .now) (a .items .now)) (c .if1 .taken)
+    no-entries (a .count) (zipEntries (a .keys .now) (a .levels .now) (a .items .now)) (c .if1 .taken)
 
 levels-fit-requires : tie.Need-levels-fit-requires
 levels-fit-requires c κs = search needs

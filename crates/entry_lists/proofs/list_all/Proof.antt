@@ -5,16 +5,16 @@ use Rattle.entry_lists.proofs.ListedLaws.{listed-over, listed-fits}
 use Rattle.entry_lists.proofs.list_all.Statement.{statement}
 use Rattle.entry_lists.proofs.list_all.Tie as tie
 
-slice-aggregate-build : tie.Need-slice-aggregate-build
-slice-aggregate-build c = search needs
+slice-aggregate-build-packed : tie.Need-slice-aggregate-build-packed
+slice-aggregate-build-packed c = search needs
 
-build-requires : tie.Need-build-requires
-build-requires c κs = (c .before .before .before .before .before .pre .0, (omega arith, omega arith))
+build-packed-requires : tie.Need-build-packed-requires
+build-packed-requires c κs = (c .before .before .before .before .before .pre .0, (omega arith, omega arith))
 
 returns : tie.Need-returns
 returns c =
     let a = c .before .before .before .before .before .before .before .before .args in
-    listed-over (c .before .before .build .ensures) (a .keys .now) (a .levels .now) (a .items .now) (omega (arith, c .if1 .taken))
+    listed-over (c .before .before .build-packed .ensures) (a .keys .now) (a .levels .now) (a .items .now) (omega (arith, c .if1 .taken))
 
 slice-aggregate-put-lists : tie.Need-slice-aggregate-put-lists
 slice-aggregate-put-lists c = search needs
@@ -35,14 +35,14 @@ returns-2 : tie.Need-returns-2
 returns-2 c =
     let a = c .before .before .before .before .before .before .before .before .before .before .before .before .before .before .before .before .before .before .before .args in
     let w = c .before .before .before .before .before .before .put-lists .ensures in
-    listed-fits (c .before .before .before .before .before .before .before .before .before .before .before .before .before .build .ensures) (entries-packable (a .table .now) (a .n) (c .before .before .before .before .before .before .before .before .before .before .before .before .before .before .before .before .before .before .before .pre .0 .0 .0)) (omega (arith, c .before .before .before .before .before .before .before .before .before .before .before .if1 .left)) (w .0) (w .1 .0) (w .1 .1)
+    listed-fits (c .before .before .before .before .before .before .before .before .before .before .before .before .before .build-packed .ensures) (entries-packable (a .table .now) (a .n) (c .before .before .before .before .before .before .before .before .before .before .before .before .before .before .before .before .before .before .before .pre .0 .0 .0)) (omega (arith, c .before .before .before .before .before .before .before .before .before .before .before .if1 .left)) (w .0) (w .1 .0) (w .1 .1)
 
 pub list-all-spec : {M : Type 1} → statement M
 list-all-spec =
     tie.close
     (tie.spec
-    slice-aggregate-build
-    build-requires
+    slice-aggregate-build-packed
+    build-packed-requires
     returns
     slice-aggregate-put-lists
     put-lists-requires

@@ -34,8 +34,8 @@ loop-holds c =
       ),
     )
 
-put-triangle-requires : tie.Need-put-triangle-requires Inv-loop μ-loop
-put-triangle-requires c κs =
+prepare-triangle-requires : tie.Need-prepare-triangle-requires Inv-loop μ-loop
+prepare-triangle-requires c κs =
     let l = c .before .before .before .before .loop in
     let v = l .inv in
     let a = c .before .before .before .before .before .before .before .before .before .args in
@@ -55,7 +55,7 @@ loop-again c =
     let a = c .before .before .before .before .before .before .before .before .before .before .before .before .before .before .before .before .args in
     let l = c .before .before .before .before .before .before .before .before .before .before .before .loop in
     let v = l .inv in
-    let p = c .before .before .before .before .before .before .put-triangle .ensures in (
+    let p = c .before .before .before .before .before .before .prepare-triangle .ensures in (
       omega arith,
       (
         stored-next (λ t. shapeOf t) 28 shape-length (a .shape .now) _ _ (a .table .now) (l .i) (v .1 .0) (p .0),
@@ -94,7 +94,7 @@ prepare-spec =
     Inv-loop
     μ-loop
     loop-holds
-    put-triangle-requires
+    prepare-triangle-requires
     add-i
     loop-less
     loop-again

@@ -9,16 +9,16 @@ use Rattle.test_quadtree.proofs.next_table.Statement.{statement}
 use Rattle.test_quadtree.proofs.next_table.Tie as tie
 
 slice-aggregate-read-full-2 : tie.Need-slice-aggregate-read-full-2
-slice-aggregate-read-full-2 c = lent-length (12 * c .before .before .number-at .result) 6144 (omega arith)
+slice-aggregate-read-full-2 c = lent-length (12 * c .before .before .short-at .result) 6144 (omega arith)
 
 slice-aggregate-decode : tie.Need-slice-aggregate-decode
-slice-aggregate-decode c = back-length (12 * c .before .before .before .before .before .before .number-at .result) 6144 (c .before .before .before .read-full2 .last .1 .0) (omega arith) (c .before .before .before .read-full2 .kept .1 .0)
+slice-aggregate-decode c = back-length (12 * c .before .before .before .before .before .before .short-at .result) 6144 (c .before .before .before .read-full2 .last .1 .0) (omega arith) (c .before .before .before .read-full2 .kept .1 .0)
 
 decode-requires : tie.Need-decode-requires
-decode-requires c κs = let b = back-length (12 * c .before .before .before .before .before .before .before .number-at .result) 6144 (c .before .before .before .before .read-full2 .last .1 .0) (omega arith) (c .before .before .before .before .read-full2 .kept .1 .0) in (omega (arith, b), omega arith)
+decode-requires c κs = let b = back-length (12 * c .before .before .before .before .before .before .before .short-at .result) 6144 (c .before .before .before .before .read-full2 .last .1 .0) (omega arith) (c .before .before .before .before .read-full2 .kept .1 .0) in (omega (arith, b), omega arith)
 
 slice-aggregate-build-and-print : tie.Need-slice-aggregate-build-and-print
-slice-aggregate-build-and-print c = sym (length-take-le (numbersPerTriangle * c .before .before .before .before .before .before .before .before .before .before .number-at .result) (c .before .before .decode .last .1 .1 .0) (omega arith))
+slice-aggregate-build-and-print c = sym (length-take-le (numbersPerTriangle * c .before .before .before .before .before .before .before .before .before .before .short-at .result) (c .before .before .decode .last .1 .1 .0) (omega arith))
 
 pub next-table-spec : {M : Type 1} → statement M
 next-table-spec =

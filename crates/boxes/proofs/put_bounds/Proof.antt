@@ -1,8 +1,8 @@
 use mathlib.Core.Path.{ap}
 use borrow.Author.Needs.{needs}
 use lib.ListN.{set}
-use Rattle.boxes.proofs.put_box.Statement.{statement}
-use Rattle.boxes.proofs.put_box.Tie as tie
+use Rattle.boxes.proofs.put_bounds.Statement.{statement}
+use Rattle.boxes.proofs.put_bounds.Tie as tie
 
 returns : tie.Need-returns
 returns c =
@@ -15,8 +15,8 @@ returns c =
       ),
     )
 
-pub put-box-spec : {M : Type 1} → statement M
-put-box-spec =
+pub put-bounds-spec : {M : Type 1} → statement M
+put-bounds-spec =
     tie.close
     (tie.spec
     (λ c κs. search needs)
