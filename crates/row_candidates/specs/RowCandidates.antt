@@ -13,7 +13,7 @@ use Rattle.bitsets.specs.Bits.{hasBit}
 abbrev pub markedAt : List ℕ → ℕ → ℕ → Bool
 markedAt rows i j = hasBit rows (maxTriangles * i + j)
 
--- triangle j may have a common interior point with triangle i, whose box is b: it is marked, and its box overlaps b
+-- triangle j may have a common interior point with triangle i, whose box is b: it is marked, its box overlaps b, and it is one of m
 abbrev pub isNear : Box → (ℕ → Box) → List ℕ → ℕ → ℕ → ℕ → Bool
 isNear b box rows m i j = markedAt rows i j && boxesOverlap b box j && ltb j m
 
