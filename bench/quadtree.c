@@ -6,7 +6,7 @@
 #include <string.h>
 #include <time.h>
 
-/* The proved engine (crates/build_export); a slice is a pointer and a length. */
+/* The proved engine (crates/bench_build); a slice is a pointer and a length. */
 size_t build_table(const uint16_t *table, size_t table_length, uint32_t *keys, size_t keys_length, uint8_t *levels,
                   size_t levels_length, uint16_t *items, size_t items_length);
 

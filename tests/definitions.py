@@ -1,5 +1,5 @@
 #!/usr/bin/env python3
-"""Runs the definitions of document 01 (crates/call_spec, crates/log_spec and below) inside the proof checker on generated input and holds
+"""Runs the definitions of document 01 (crates/spec_calls, crates/spec_log and below) inside the proof checker on generated input and holds
 what they compute to what the reference model (model/) answers.
 
 usage: definitions.py SEED COUNT
@@ -23,7 +23,7 @@ ROOT = os.path.dirname(os.path.dirname(os.path.abspath(__file__)))
 MODEL = os.path.join(ROOT, "target", "model", "model")
 SCRATCH = os.path.join(ROOT, "target", "definitions")
 TRIALS = ["trial", "trial_worked"]  # the crates of the cases, checked side by side: the worked streams take as long as all others
-CRATES = ["lists", "plane", "separation", "orthtree", "squares", "chart_spec", "call_spec", "log_spec"]
+CRATES = ["theory_lists", "spec_plane", "laws_separation", "theory_orthtree", "spec_squares", "spec_charts", "spec_calls", "spec_log"]
 
 
 def model(mode, data):
@@ -410,15 +410,15 @@ use mathlib.Core.Bool.{Bool, true, false}
 use mathlib.Core.List.{List, [], _∷_, _++_}
 use Prim.Native.Nat.{ℕ, _-_}
 use lib.ListN.{length, take, replicate}
-use Rattle.plane.specs.declared.Point.{Point}
-use Rattle.chart_spec.specs.Cells.{entriesOf}
-use Rattle.chart_spec.specs.Edits.{triangle, givenTable, load, split, takeOut, flip, eventOn}
-use Rattle.call_spec.specs.Buffers.{Chart, padded}
-use Rattle.call_spec.specs.Calls.{Changed, Located, Soundness, Area, Overlaid, loadCall, splitCall, takeOutCall, flipCall, locateCall, listingCall, soundCall, areaCall, overlayCall}
-use Rattle.log_spec.specs.Log.{logOf}
-use Rattle.call_spec.proofs.Evaluate.{evaluate}
-use Rattle.log_spec.proofs.Evaluate.{evaluate as logging}
-use Rattle.chart_spec.proofs.Written.{at, entryNumbers, foundNumbers, outcomeNumbers, overlaid}
+use Rattle.spec_plane.specs.declared.Point.{Point}
+use Rattle.spec_charts.specs.Cells.{entriesOf}
+use Rattle.spec_charts.specs.Edits.{triangle, givenTable, load, split, takeOut, flip, eventOn}
+use Rattle.spec_calls.specs.Buffers.{Chart, padded}
+use Rattle.spec_calls.specs.Calls.{Changed, Located, Soundness, Area, Overlaid, loadCall, splitCall, takeOutCall, flipCall, locateCall, listingCall, soundCall, areaCall, overlayCall}
+use Rattle.spec_log.specs.Log.{logOf}
+use Rattle.spec_calls.proofs.Evaluate.{evaluate}
+use Rattle.spec_log.proofs.Evaluate.{evaluate as logging}
+use Rattle.spec_charts.proofs.Written.{at, entryNumbers, foundNumbers, outcomeNumbers, overlaid}
 
 abbrev buffer : ℕ → ℕ → List ℕ → List ℕ
 buffer pad n used = used ++ replicate (n - length used) pad

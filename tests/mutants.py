@@ -10,7 +10,7 @@ places. It is judged in these steps:
  1. on the examples of its crate that name the definition, many mutants in one check; then on its whole crate. An error in
     specs/ itself: invalid, it is no definition. Any other refusal: killed.
  2. what passes is tried on the crates above whose texts name the definition, or one that is made of it, in the order of
-    crates.txt, until one refuses it; programs are left out, which state nothing of their own. After log_spec, the last crate
+    crates.txt, until one refuses it; programs are left out, which state nothing of their own. After spec_log, the last crate
     of definitions, come the executed cases: those that tests/definitions.py draws, as crates of their own.
 In step 1 a check may take 4 times the processor time that the right definition takes, at least 20 s; in step 2 it may take
 900 s; and 4 GB. A check of many mutants that takes more is done again for each of them. A mutant whose check alone takes more
@@ -22,7 +22,7 @@ tests/mutants-same.tsv (file, definition, mutant, why) and is not run; a row tha
 
 The work goes on in copies below a temporary folder; the repository is only read. FILE.tsv gets a row for each mutant as the
 run goes on; with --resume those that it has as refused or invalid are not judged again. --only looks at 'file definition'.
---max takes a part, drawn at random. --list prints the mutants and stops. With make: make mutants OPTIONS="--crates plane".
+--max takes a part, drawn at random. --list prints the mutants and stops. With make: make mutants OPTIONS="--crates spec_plane".
 Exit status: 0 when no survivor is left among the mutants judged, 1 otherwise."""
 
 import argparse
@@ -390,6 +390,15 @@ def crates_of(text):
     return {name.strip(): rest.split() for name, rest in lines}
 
 
+def below(crates, name):
+    """What a crate depends on, by any way."""
+    found, more = set(), {name}
+    while more:
+        more = {d for c in more for d in crates.get(c, ())} - found
+        found |= more
+    return found
+
+
 class Reach:
     """Which crates name a definition, or a definition that is made of it."""
 
@@ -404,7 +413,7 @@ class Reach:
         while more:
             more = {d for d, ws in self.made_of.items() if d not in known and ws & more}
             known |= more
-        return [c for c in self.crates if crate in self.crates[c] and self.named[c] & known]
+        return [c for c in self.crates if crate in below(self.crates, c) and self.named[c] & known]
 
 
 def words_of(text):
@@ -704,7 +713,7 @@ def main():
         for p in places if left else ():
             built = os.listdir(os.path.join(p.root, "target", "rlib"))
             p.prove([c for c in crates if c + ".rlib" not in built])
-        cut = order.index("log_spec") + 1
+        cut = order.index("spec_log") + 1
         for step, some in [("crates above", order[:cut]), ("executed cases", TRIALS), ("crates above", order[cut:])]:
             if step == "executed cases" and any(not m.verdict and m.crate in order[:cut] for m in left) and time.time() < run.until:
                 run.say("preparing the executed cases")

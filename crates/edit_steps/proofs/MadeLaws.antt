@@ -10,37 +10,37 @@ use lib.Dec.{T}
 use lib.ListN.{length, set}
 use types.Run.{OneOf}
 use denote.Enum.Declared.{tagOf}
-use Rattle.lists.specs.Lists.{all, upTo, countFrom}
-use Rattle.lists.proofs.Reflects.{reflects-test, test-true}
-use Rattle.lists.proofs.ListsLaws.{Every, every-cons, all-reflects}
-use Rattle.lists.proofs.EveryLaws.{every-nil, every-append}
-use Rattle.lists.proofs.EditedLists.{every-set}
-use Rattle.plane.specs.declared.Point.{Point}
-use Rattle.plane.specs.Triangle.{proper}
-use Rattle.chart_spec.specs.Table.{Table, numbered, tableOf, maxTriangles, numbersPerTriangle, tableLength}
-use Rattle.chart_spec.specs.Refusals.{Outcome, done, andThen, outcomeNumber, outcomeValue}
-use Rattle.chart_spec.specs.Edits.{splitAt, splitTable, takeOutTable, flipTable, withinLimit}
-use Rattle.chart_laws.proofs.TriangleLaws.{inside-parts}
-use Rattle.chart_laws.proofs.EditLaws.{split-done, takeOut-done}
-use Rattle.chart_laws.proofs.FlipLaws.{flip-done}
-use Rattle.chart_laws.proofs.MergeLaws.{taken-sum, merge-every}
-use Rattle.call_spec.specs.Buffers.{Chart, chartTable, chainRule}
-use Rattle.call_spec.specs.Calls.{changedBy, ifIndexed, editCall}
-use Rattle.call_laws.proofs.BufferLaws.{ruled}
-use Rattle.call_laws.proofs.EditCalls.{edit-refused}
-use Rattle.answers.proofs.Judged as judged
-use Rattle.answers.proofs.AnswerLaws.{answered, other-tag}
-use Rattle.answers.specs.declared.Judged.{Judged}
-use Rattle.answers.specs.declared.Judged.the-variants.{Fine, ShortBuffer, BrokenChain, StaleEntries}
-use Rattle.answers.specs.Outcomes.{judgedOutcome}
-use Rattle.table_edits.proofs.Edited as edited
-use Rattle.table_edits.specs.declared.Edited.{Edited}
-use Rattle.table_edits.specs.declared.Edited.the-variants.{Made, NoSuchTriangle, NotInside, NotThreeAround, NoFlip, TableFull}
-use Rattle.table_edits.specs.Edited.{editedOutcome, editedCount}
+use Rattle.theory_lists.specs.Lists.{all, upTo, countFrom}
+use Rattle.theory_lists.proofs.Reflects.{reflects-test, test-true}
+use Rattle.theory_lists.proofs.ListsLaws.{Every, every-cons, all-reflects}
+use Rattle.theory_lists.proofs.EveryLaws.{every-nil, every-append}
+use Rattle.theory_lists.proofs.EditedLists.{every-set}
+use Rattle.spec_plane.specs.declared.Point.{Point}
+use Rattle.spec_plane.specs.Triangle.{proper}
+use Rattle.spec_charts.specs.Table.{Table, numbered, tableOf, maxTriangles, numbersPerTriangle, tableLength}
+use Rattle.spec_charts.specs.Refusals.{Outcome, done, andThen, outcomeNumber, outcomeValue}
+use Rattle.spec_charts.specs.Edits.{splitAt, splitTable, takeOutTable, flipTable, withinLimit}
+use Rattle.laws_charts.proofs.TriangleLaws.{inside-parts}
+use Rattle.laws_charts.proofs.EditLaws.{split-done, takeOut-done}
+use Rattle.laws_charts.proofs.FlipLaws.{flip-done}
+use Rattle.laws_charts.proofs.MergeLaws.{taken-sum, merge-every}
+use Rattle.spec_calls.specs.Buffers.{Chart, chartTable, chainRule}
+use Rattle.spec_calls.specs.Calls.{changedBy, ifIndexed, editCall}
+use Rattle.laws_calls.proofs.BufferLaws.{ruled}
+use Rattle.laws_calls.proofs.EditCalls.{edit-refused}
+use Rattle.base_answers.proofs.Judged as judged
+use Rattle.base_answers.proofs.AnswerLaws.{answered, other-tag}
+use Rattle.base_answers.specs.declared.Judged.{Judged}
+use Rattle.base_answers.specs.declared.Judged.the-variants.{Fine, ShortBuffer, BrokenChain, StaleEntries}
+use Rattle.base_answers.specs.Outcomes.{judgedOutcome}
+use Rattle.edit_rows.proofs.Edited as edited
+use Rattle.edit_rows.specs.declared.Edited.{Edited}
+use Rattle.edit_rows.specs.declared.Edited.the-variants.{Made, NoSuchTriangle, NotInside, NotThreeAround, NoFlip, TableFull}
+use Rattle.edit_rows.specs.Edited.{editedOutcome, editedCount}
 use Rattle.edit_steps.specs.declared.Edit.{Edit}
 use Rattle.edit_steps.specs.declared.Edit.the-variants.{Split, TakeOut, Flip}
 use Rattle.edit_steps.specs.Edit.{tableEdit}
-use Rattle.edit_answers.specs.ChangeOf.{judgedChange, editedChange}
+use Rattle.edit_steps.specs.ChangeOf.{judgedChange, editedChange}
 
 -- each triangle has D > 0
 abbrev pub Oriented : Table → Type 0

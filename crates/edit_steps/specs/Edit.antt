@@ -1,8 +1,8 @@
 -- The edits of a chart: what each makes of its table.
 -- Assumes nothing.
-use Rattle.chart_spec.specs.Table.{Table}
-use Rattle.chart_spec.specs.Refusals.{Outcome}
-use Rattle.chart_spec.specs.Edits.{splitTable, takeOutTable, flipTable}
+use Rattle.spec_charts.specs.Table.{Table}
+use Rattle.spec_charts.specs.Refusals.{Outcome}
+use Rattle.spec_charts.specs.Edits.{splitTable, takeOutTable, flipTable}
 use Rattle.edit_steps.specs.declared.Edit.{Edit}
 use Rattle.edit_steps.specs.declared.Edit.the-variants.{Split, TakeOut, Flip}
 

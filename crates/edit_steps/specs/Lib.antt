@@ -1,1 +1,2 @@
+pub mod ChangeOf
 pub mod Edit

@@ -1,24 +1,26 @@
 // The steps of an edit of a chart: what the edit makes of the plain table, and its result stored or answered as a refusal.
 
-use answers::Change;
-use answers::Changed;
-use plane::Point;
-use table_edits::Edited;
+pub mod edit_answers;
+
+use base_answers::Change;
+use base_answers::Changed;
+use edit_rows::Edited;
+use spec_plane::Point;
 ghost use mathlib.Core.Path.{_≡_};
 ghost use mathlib.Core.Bool.{true, false};
 ghost use Prim.Native.Nat.{_*_, _≤_};
 ghost use lib.ListN.{length};
-ghost use Rattle.lists.specs.Lists.{all};
-ghost use Rattle.plane.specs.Triangle.{proper};
-ghost use Rattle.chart_spec.specs.Table.{numbersPerTriangle, maxTriangles, tableLength, tableOf};
-ghost use Rattle.chart_spec.specs.Refusals.{andThen};
-ghost use Rattle.chart_spec.specs.Edits.{withinLimit};
-ghost use Rattle.call_spec.specs.Buffers.{chartOf, tooShort};
-ghost use Rattle.call_spec.specs.Calls.{changedBy};
-ghost use Rattle.call_spec.specs.Calls.{Changed as Calls·Changed};
-ghost use Rattle.answers.specs.declared.Changed.{Changed as Answers·Changed};
-ghost use Rattle.answers.specs.Outcomes.{changedOf};
-ghost use Rattle.table_edits.specs.Edited.{editedOutcome, editedCount};
+ghost use Rattle.theory_lists.specs.Lists.{all};
+ghost use Rattle.spec_plane.specs.Triangle.{proper};
+ghost use Rattle.spec_charts.specs.Table.{numbersPerTriangle, maxTriangles, tableLength, tableOf};
+ghost use Rattle.spec_charts.specs.Refusals.{andThen};
+ghost use Rattle.spec_charts.specs.Edits.{withinLimit};
+ghost use Rattle.spec_calls.specs.Buffers.{chartOf, tooShort};
+ghost use Rattle.spec_calls.specs.Calls.{changedBy};
+ghost use Rattle.spec_calls.specs.Calls.{Changed as Calls·Changed};
+ghost use Rattle.base_answers.specs.declared.Changed.{Changed as Answers·Changed};
+ghost use Rattle.base_answers.specs.Outcomes.{changedOf};
+ghost use Rattle.edit_rows.specs.Edited.{editedOutcome, editedCount};
 ghost use Rattle.edit_steps.specs.Edit.{tableEdit};
 
 // An edit of a chart.
@@ -46,9 +48,9 @@ pub fn edit_table(edit: Edit, table: &[u16], n: usize, scratch: &mut [u16]) -> E
     ensures { λ r. ⌜ editedCount r ≤ maxTriangles ⌝ }
 {
     match edit {
-        Edit::Split(i, p) => vertex_insertion::split_table(table, n, i, p, scratch),
-        Edit::TakeOut(p) => vertex_removal::take_out_table(table, n, p, scratch),
-        Edit::Flip(i, j) => edge_flip::flip_table(table, n, i, j, scratch),
+        Edit::Split(i, p) => edit_split::split_table(table, n, i, p, scratch),
+        Edit::TakeOut(p) => edit_take_out::take_out_table(table, n, p, scratch),
+        Edit::Flip(i, j) => edit_flip::flip_table(table, n, i, j, scratch),
     }
 }
 
@@ -68,7 +70,7 @@ pub fn finish(
     ensures { λ r. ⌜ _≡_ {A = Calls·Changed} (changedOf r (now (table .exit)) (now (keys .exit)) (now (levels .exit)) (now (items .exit))) (changedBy (chartOf (now (table .entry)) (now (keys .entry)) (now (levels .entry)) (now (items .entry)) triangles entries) (andThen (editedOutcome made (now (scratch .entry))) (λ t. withinLimit t))) ⌝ }
 {
     if let Edited::Made(n) = made {
-        return changes::store(scratch, n, table, keys, levels, items, triangles, entries);
+        return chart_store::store(scratch, n, table, keys, levels, items, triangles, entries);
     }
     refused(edit_answers::edited_change(made), triangles, entries)
 }

@@ -4,13 +4,13 @@ use mathlib.Core.Path.{_≡_}
 use mathlib.Core.List.{List, [], _∷_}
 use Prim.Native.Nat.{ℕ, _<_}
 use lib.ListN.{getD}
-use Rattle.chart_spec.specs.Edits.{load}
-use Rattle.call_spec.specs.Buffers.{Chart}
-use Rattle.call_spec.specs.Calls.{Overlaid, overlayCall}
-use Rattle.call_spec.specs.History.{chartAfter}
-use Rattle.history.proofs.Demand3.{demand-3}
-use Rattle.call_encoding.specs.Encoding.{decode}
-use Rattle.call_encoding.proofs.EncodingLaws.{decode-words}
+use Rattle.spec_charts.specs.Edits.{load}
+use Rattle.spec_calls.specs.Buffers.{Chart}
+use Rattle.spec_calls.specs.Calls.{Overlaid, overlayCall}
+use Rattle.spec_calls.specs.History.{chartAfter}
+use Rattle.laws_histories.proofs.Demand3.{demand-3}
+use Rattle.replay_calls.specs.Encoding.{decode}
+use Rattle.replay_calls.proofs.EncodingLaws.{decode-words}
 use Rattle.replay.specs.Replay.{Replayed}
 
 module _ {c d : Chart} {before ms ns : List ℕ} (u : (i : ℕ) → getD ms i 0 < 65536) (v : (i : ℕ) → getD ns i 0 < 65536) where

@@ -5,12 +5,12 @@ use mathlib.Core.Bool.{false}
 use mathlib.Core.List.{List, [], _∷_}
 use Prim.Native.Nat.{ℕ, _≤_}
 use lib.ListN.{length}
-use Rattle.chart_spec.specs.Edits.{load}
-use Rattle.call_spec.specs.Buffers.{Chart, tooShort, pairsLength}
-use Rattle.call_spec.specs.Calls.{Overlaid, overlayCall}
-use Rattle.call_spec.specs.History.{chartAfter}
-use Rattle.history.specs.Histories.{HistoriesOverlaid}
-use Rattle.call_encoding.specs.Encoding.{decode}
+use Rattle.spec_charts.specs.Edits.{load}
+use Rattle.spec_calls.specs.Buffers.{Chart, tooShort, pairsLength}
+use Rattle.spec_calls.specs.Calls.{Overlaid, overlayCall}
+use Rattle.spec_calls.specs.History.{chartAfter}
+use Rattle.laws_histories.specs.Histories.{HistoriesOverlaid}
+use Rattle.replay_calls.specs.Encoding.{decode}
 
 -- charts c and d and a pairs list came to charts c' and d' and to the overlay's answer o by the calls ms and ns. Whatever the buffers
 -- and counts were, each chart has had its calls, one after another, and the overlay after them. And where the buffers are long enough,

@@ -1,9 +1,10 @@
 // The calls that change a chart, made by the test program of calls in the buffers of two charts.
 
-use answers::Changed;
+use base_answers::Changed;
 use libc::STDIN_FILENO;
-use plane::Point;
+use spec_plane::Point;
 use test_support::Lent;
+use test_support::test_prints;
 ghost use Prim.Native.Nat.{_≤_};
 
 pub fn point(x: u32, y: u32) -> Point {
@@ -27,15 +28,15 @@ fn change(
     m: usize,
 ) -> Changed {
     if what == 1 {
-        return load::load(given, t, k, v, i, n, m);
+        return call_load::load(given, t, k, v, i, n, m);
     }
     if what == 10 {
-        return edits::split(t, k, v, i, n, m, b as usize, point(c, c / 65536));
+        return call_edits::split(t, k, v, i, n, m, b as usize, point(c, c / 65536));
     }
     if what == 11 {
-        return edits::take_out(t, k, v, i, n, m, point(b, c));
+        return call_edits::take_out(t, k, v, i, n, m, point(b, c));
     }
-    edits::flip(t, k, v, i, n, m, b as usize, c as usize)
+    call_edits::flip(t, k, v, i, n, m, b as usize, c as usize)
 }
 
 // The same of a chart in the buffers of both.

@@ -8,10 +8,10 @@ use libc::STDIN_FILENO;
 use libc::STDOUT_FILENO;
 ghost use Prim.Native.Nat.{_+_, _*_, _≤_};
 ghost use lib.ListN.{length};
-ghost use Rattle.chart_spec.specs.Cells.{maxEntries};
+ghost use Rattle.spec_charts.specs.Cells.{maxEntries};
 
 // The bytes of a triangle.
-const TRIANGLE_BYTES: usize = 2 * tables::TRIANGLE_NUMBERS;
+const TRIANGLE_BYTES: usize = 2 * base_tables::TRIANGLE_NUMBERS;
 
 // The digits of x from place `at` of a line on, and a byte after them; answers the place after it.
 fn put_number(line: &mut [u8], at: usize, x: u64, after: u8) -> usize
@@ -55,7 +55,7 @@ fn rest_is_zero(keys: &[u32], levels: &[u8], items: &[u16], n: usize) -> bool
 {
     let mut zero = true;
     let mut i = n;
-    while i < tables::MOST_ENTRIES {
+    while i < base_tables::MOST_ENTRIES {
         zero = zero & (keys[i] == 0) & (levels[i] == 0) & (items[i] == 0);
         i += 1;
     }
@@ -66,12 +66,12 @@ fn rest_is_zero(keys: &[u32], levels: &[u8], items: &[u16], n: usize) -> bool
 fn build_and_print(table: &[u16], keys: &mut [u32], levels: &mut [u8], items: &mut [u16])
     requires { ⌜ (maxEntries ≤ length (now keys)) × ((maxEntries ≤ length (now levels)) × (maxEntries ≤ length (now items))) ⌝ }
 {
-    let m = build_export::build_table(table, keys, levels, items);
+    let m = bench_build::build_table(table, keys, levels, items);
     if m > 16385 {
         io::write_all(STDOUT_FILENO, b"refused\n");
         return;
     }
-    if m > tables::MOST_ENTRIES {
+    if m > base_tables::MOST_ENTRIES {
         io::write_all(STDOUT_FILENO, b"over\n");
         return;
     }
@@ -92,17 +92,17 @@ fn next_table(keys: &mut [u32], levels: &mut [u8], items: &mut [u16]) -> bool
         return false;
     }
     let n = test_support::short_at(&count, 0) as usize;
-    if n > tables::MOST_TRIANGLES {
+    if n > base_tables::MOST_TRIANGLES {
         io::write_all(STDOUT_FILENO, b"refused\n");
         return false;
     }
-    let mut bytes = [0u8; TRIANGLE_BYTES * tables::MOST_TRIANGLES];
+    let mut bytes = [0u8; TRIANGLE_BYTES * base_tables::MOST_TRIANGLES];
     let length = TRIANGLE_BYTES * n;
     if io::read_full(STDIN_FILENO, &mut bytes[..length]) < length {
         return false;
     }
-    let mut table = [0u16; tables::TABLE_NUMBERS];
-    let numbers = tables::TRIANGLE_NUMBERS * n;
+    let mut table = [0u16; base_tables::TABLE_NUMBERS];
+    let numbers = base_tables::TRIANGLE_NUMBERS * n;
     test_support::decode(&bytes, numbers, &mut table);
     build_and_print(&table[..numbers], keys, levels, items);
     true
@@ -119,8 +119,8 @@ fn build_all(keys: &mut [u32], levels: &mut [u8], items: &mut [u16])
 }
 
 fn main() {
-    let mut keys = [7u32; tables::MOST_ENTRIES];
-    let mut levels = [7u8; tables::MOST_ENTRIES];
-    let mut items = [7u16; tables::MOST_ENTRIES];
+    let mut keys = [7u32; base_tables::MOST_ENTRIES];
+    let mut levels = [7u8; base_tables::MOST_ENTRIES];
+    let mut items = [7u16; base_tables::MOST_ENTRIES];
     build_all(&mut keys, &mut levels, &mut items);
 }

@@ -1,29 +1,30 @@
 // The calls that read charts, made by the test program of calls in the buffers of two charts.
 
-use answers::Overlaid;
-use plane::Point;
+use base_answers::Overlaid;
+use spec_plane::Point;
 use test_support::Lent;
 use test_support::State;
+use test_support::test_prints;
 
 // A call that reads the chart of lent buffers with n triangles and m entries.
 fn answer(what: u8, t: &[u16], k: &[u32], v: &[u8], i: &[u16], n: usize, m: usize, p: Point) {
     if what == 2 {
         test_prints::say(b"locate");
-        test_prints::print_located(locating::locate(t, k, v, i, n, m, p));
+        test_prints::print_located(call_locate::locate(t, k, v, i, n, m, p));
         return;
     }
     if what == 3 {
         test_prints::say(b"listing");
-        test_prints::print_list(locating::cell_listing(t, k, v, i, n, m, p));
+        test_prints::print_list(call_locate::cell_listing(t, k, v, i, n, m, p));
         return;
     }
     if what == 4 {
         test_prints::say(b"sound");
-        test_prints::print_soundness(soundness::soundness(t, k, v, i, n, m));
+        test_prints::print_soundness(call_soundness::soundness(t, k, v, i, n, m));
         return;
     }
     test_prints::say(b"area");
-    test_prints::print_area(areas::doubled_area(t, k, v, i, n, m));
+    test_prints::print_area(call_area::doubled_area(t, k, v, i, n, m));
 }
 
 // The same of a chart in the buffers of both, and its line.
@@ -57,7 +58,7 @@ fn overlay_of(
     items: &[u16],
     pairs: &mut [u16],
 ) -> Overlaid {
-    overlay::overlay(
+    call_overlay::overlay(
         test_support::lent_shorts(table, i, test_support::TABLE, a.table),
         test_support::lent_keys(keys, i, a.keys),
         test_support::lent_levels(levels, i, a.levels),

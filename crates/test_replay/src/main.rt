@@ -1,13 +1,14 @@
 // Runs lists of calls on two charts and the overlay after them, by `replay`, whose contract is demand 3.
 //
 // Reads cases until the input ends: the length of list 0, list 0, the length of list 1, list 1, all as 16-bit numbers, low byte first;
-// crates/call_encoding/specs/Encoding.antt says how calls are written. A list that is cut or has over 4,096 numbers ends the program.
+// crates/replay_calls/specs/Encoding.antt says how calls are written. A list that is cut or has over 4,096 numbers ends the program.
 // The buffers of each case are longer than asked and hold something other than 0, and the counts are those of no chart. A case
 // prints a line: `replay`, the overlay's number, its pairs and meetings, the triangles and entries of chart 0 and of chart 1, and a
 // checksum of all places of chart 0, of chart 1 and of the pairs.
 
 use libc::STDIN_FILENO;
 use replay::ReplayAnswer;
+use test_support::test_prints;
 ghost use Prim.Native.Nat.{_≤_};
 ghost use lib.ListN.{length};
 
@@ -20,7 +21,7 @@ fn print_answer(r: ReplayAnswer) {
     let first = r.first;
     let second = r.second;
     test_prints::say(b"replay");
-    test_prints::print(answers::overlay_number(overlay) as u64);
+    test_prints::print(base_answers::overlay_number(overlay) as u64);
     test_prints::print(overlaid.pairs as u64);
     test_prints::print(overlaid.meetings as u64);
     test_prints::print(first.triangles as u64);

@@ -2,6 +2,8 @@
 //
 // Chart 0 has the first places of each buffer, chart 1 those from TABLE (the table) or LIST (the three lists) on.
 
+pub mod test_prints;
+
 ghost use Prim.Native.Nat.{_+_, _*_, _≤_, _<_};
 ghost use lib.ListN.{length};
 

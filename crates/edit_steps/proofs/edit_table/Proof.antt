@@ -1,5 +1,5 @@
 use mathlib.Core.Path.{sym, _∙_, ap}
-use Rattle.chart_spec.specs.Table.{Table, tableOf}
+use Rattle.spec_charts.specs.Table.{Table, tableOf}
 use Rattle.edit_steps.specs.Edit.{tableEdit}
 use borrow.Author.Needs.{needs}
 use Rattle.edit_steps.proofs.edit_table.Statement.{statement}

@@ -1,13 +1,13 @@
 use mathlib.Core.Path.{sym, _∙_, ap}
-use Rattle.chart_spec.specs.Refusals.{andThen}
-use Rattle.chart_spec.specs.Edits.{withinLimit}
-use Rattle.call_spec.specs.Buffers.{Chart, chartOf}
-use Rattle.call_spec.specs.Calls.{changedBy}
-use Rattle.call_spec.specs.Calls.{Changed as Calls·Changed}
-use Rattle.answers.specs.declared.Changed.{Changed}
-use Rattle.answers.specs.Outcomes.{changedOf}
-use Rattle.table_edits.specs.Edited.{editedOutcome}
-use Rattle.answers.proofs.AnswerLaws.{answered}
+use Rattle.spec_charts.specs.Refusals.{andThen}
+use Rattle.spec_charts.specs.Edits.{withinLimit}
+use Rattle.spec_calls.specs.Buffers.{Chart, chartOf}
+use Rattle.spec_calls.specs.Calls.{changedBy}
+use Rattle.spec_calls.specs.Calls.{Changed as Calls·Changed}
+use Rattle.base_answers.specs.declared.Changed.{Changed}
+use Rattle.base_answers.specs.Outcomes.{changedOf}
+use Rattle.edit_rows.specs.Edited.{editedOutcome}
+use Rattle.base_answers.proofs.AnswerLaws.{answered}
 use Rattle.edit_steps.proofs.MadeLaws.{made-stored, edited-refused}
 use borrow.Author.Needs.{needs}
 use Rattle.edit_steps.proofs.finish.Statement.{statement}

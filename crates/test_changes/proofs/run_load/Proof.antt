@@ -1,5 +1,5 @@
 use Prim.Native.Nat.{_*_}
-use Rattle.lists.proofs.LentLaws.{lent-length, back-length}
+use Rattle.theory_lists.proofs.LentLaws.{lent-length, back-length}
 use borrow.Author.Needs.{needs}
 use lib.Seq.{length-take-le}
 use mathlib.Core.Path.{sym}

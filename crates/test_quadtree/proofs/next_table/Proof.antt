@@ -2,8 +2,8 @@ use mathlib.Core.Path.{sym}
 use Prim.Native.Nat.{_*_}
 use native.Mathlib.Omega.{arith}
 use lib.Seq.{length-take-le}
-use Rattle.chart_spec.specs.Table.{numbersPerTriangle}
-use Rattle.lists.proofs.LentLaws.{lent-length, back-length}
+use Rattle.spec_charts.specs.Table.{numbersPerTriangle}
+use Rattle.theory_lists.proofs.LentLaws.{lent-length, back-length}
 use borrow.Author.Needs.{needs}
 use Rattle.test_quadtree.proofs.next_table.Statement.{statement}
 use Rattle.test_quadtree.proofs.next_table.Tie as tie

@@ -1,6 +1,6 @@
 use Prim.Native.Nat.{_*_}
 use native.Mathlib.Omega.{arith}
-use Rattle.lists.proofs.LentLaws.{lent-length, back-length}
+use Rattle.theory_lists.proofs.LentLaws.{lent-length, back-length}
 use borrow.Author.Needs.{needs}
 use Rattle.test_replay.proofs.read_list.Statement.{statement}
 use Rattle.test_replay.proofs.read_list.Tie as tie

@@ -1,0 +1,3 @@
+pub mod BoxesLaws
+pub mod KeepLaws
+pub mod NearLaws

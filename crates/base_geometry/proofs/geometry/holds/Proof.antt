@@ -1,0 +1,25 @@
+use mathlib.Core.Path.{ap₂}
+use mathlib.Core.Bool.{_&&_}
+use Rattle.spec_plane.specs.Triangle.{holds, triangleOf, cornerAt}
+use borrow.Author.Needs.{needs}
+use Rattle.base_geometry.proofs.geometry.holds.Statement.{statement}
+use Rattle.base_geometry.proofs.geometry.holds.Tie as tie
+
+returns : tie.Need-returns
+unfolding holds triangleOf cornerAt
+returns c = ap₂ _&&_ (ap₂ _&&_ (c .before .before .before .before .before .before .is-not-outer .ensures) (c .before .before .before .is-not-outer2 .ensures)) (c .is-not-outer3 .ensures)
+
+pub holds-spec : {M : Type 1} → statement M
+holds-spec =
+    tie.close
+    (tie.spec
+    (λ c. search needs)
+    (λ c. search needs)
+    (λ c κs. search needs)
+    (λ c. search needs)
+    (λ c. search needs)
+    (λ c κs. search needs)
+    (λ c. search needs)
+    (λ c. search needs)
+    (λ c κs. search needs)
+    returns)

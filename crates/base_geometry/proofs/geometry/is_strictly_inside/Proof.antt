@@ -1,0 +1,25 @@
+use mathlib.Core.Path.{ap₂}
+use mathlib.Core.Bool.{_&&_}
+use Rattle.spec_plane.specs.Triangle.{strictlyInside, triangleOf, cornerAt}
+use borrow.Author.Needs.{needs}
+use Rattle.base_geometry.proofs.geometry.is_strictly_inside.Statement.{statement}
+use Rattle.base_geometry.proofs.geometry.is_strictly_inside.Tie as tie
+
+returns : tie.Need-returns
+unfolding strictlyInside triangleOf cornerAt
+returns c = ap₂ _&&_ (ap₂ _&&_ (c .before .before .before .before .before .before .is-inner .ensures) (c .before .before .before .is-inner2 .ensures)) (c .is-inner3 .ensures)
+
+pub is-strictly-inside-spec : {M : Type 1} → statement M
+is-strictly-inside-spec =
+    tie.close
+    (tie.spec
+    (λ c. search needs)
+    (λ c. search needs)
+    (λ c κs. search needs)
+    (λ c. search needs)
+    (λ c. search needs)
+    (λ c κs. search needs)
+    (λ c. search needs)
+    (λ c. search needs)
+    (λ c κs. search needs)
+    returns)

@@ -1,0 +1,35 @@
+use mathlib.Core.Path.{_≡_, sym, _∙_, ap, ap₂}
+use mathlib.Core.Bool.{Bool, false, _&&_}
+use borrow.Author.Needs.{needs}
+use borrow.Author.Tests.{not-true, not-false}
+use Rattle.spec_plane.specs.Triangle.{triangleOf}
+use Rattle.spec_plane.specs.Interior.{noSideSeparates, interiorsMeet}
+use Rattle.base_geometry.proofs.interiors.interiors_meet.Statement.{statement}
+use Rattle.base_geometry.proofs.interiors.interiors_meet.Tie as tie
+
+-- "and" fails at its first
+first-fails : {x : Bool} (y : Bool) → false ≡ x → false ≡ x && y
+first-fails y e = ap (λ b. b && y) e
+
+no-side-separates-requires : tie.Need-no-side-separates-requires
+no-side-separates-requires c κs = search needs
+
+returns : tie.Need-returns
+unfolding interiorsMeet
+returns c =
+    let a = c .before .before .args in
+    let first = c .before .no-side-separates in
+    first-fails (noSideSeparates (triangleOf (a .t)) (triangleOf (a .s))) (sym (not-true (first .result) (c .if1 .taken)) ∙ first .ensures)
+
+no-side-separates-requires-2 : tie.Need-no-side-separates-requires-2
+no-side-separates-requires-2 c κs = search needs
+
+returns-2 : tie.Need-returns-2
+unfolding interiorsMeet
+returns-2 c =
+    let first = c .before .before .no-side-separates in
+    ap₂ _&&_ (sym (not-false (first .result) (c .before .if1 .left)) ∙ first .ensures) (c .no-side-separates2 .ensures)
+
+pub interiors-meet-spec : {M : Type 1} → statement M
+interiors-meet-spec =
+    tie.close (tie.spec no-side-separates-requires returns no-side-separates-requires-2 returns-2)

@@ -1,2 +1,0 @@
-pub mod BoxesLaws
-pub mod KeepLaws

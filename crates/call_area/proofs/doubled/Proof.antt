@@ -1,0 +1,45 @@
+use native.Mathlib.Omega.{arith}
+use borrow.Author.Needs.{needs}
+use Rattle.spec_plane.specs.Triangle.{triangleOf, cornerAt}
+use Rattle.call_area.proofs.AreaLaws.{doubledArea-value}
+use Rattle.call_area.proofs.doubled.Statement.{statement}
+use Rattle.call_area.proofs.doubled.Tie as tie
+
+array-copy-out-orientation : tie.Need-array-copy-out-orientation
+array-copy-out-orientation c = search needs
+
+array-copy-out-orientation-2 : tie.Need-array-copy-out-orientation-2
+array-copy-out-orientation-2 c = search needs
+
+array-copy-out-orientation-3 : tie.Need-array-copy-out-orientation-3
+array-copy-out-orientation-3 c = search needs
+
+orientation-requires : tie.Need-orientation-requires
+orientation-requires c κs = search needs
+
+sub-result : tie.Need-sub-result
+unfolding triangleOf cornerAt
+sub-result c =
+    let top = c .before .before .before .before .before in
+    let d = c .before .orientation in
+    let v = doubledArea-value (triangleOf (top .args .t1)) (d .result .high) (d .result .low) (d .ensures .0) (top .pre) in
+    omega arith
+
+returns : tie.Need-returns
+unfolding triangleOf cornerAt
+returns c =
+    let top = c .before .before .before .before .before in
+    let d = c .before .orientation in
+    let v = doubledArea-value (triangleOf (top .args .t1)) (d .result .high) (d .result .low) (d .ensures .0) (top .pre) in
+    (v .1, omega arith)
+
+pub doubled-spec : {M : Type 1} → statement M
+doubled-spec =
+    tie.close
+    (tie.spec
+    array-copy-out-orientation
+    array-copy-out-orientation-2
+    array-copy-out-orientation-3
+    orientation-requires
+    sub-result
+    returns)

@@ -1,0 +1,68 @@
+use mathlib.Core.Path.{_≡_, sym, _∙_, ap, ap₂}
+use Prim.Native.Nat.{_+_, _*_, _≤_, _-_}
+use native.Mathlib.Omega.{arith}
+use borrow.Author.Needs.{needs}
+use Rattle.spec_plane.specs.Triangle.{triangleOf, cornerAt, proper, doubledArea}
+use Rattle.spec_charts.specs.Table.{tableOf}
+use Rattle.spec_charts.specs.Reading.{totalArea}
+use Rattle.laws_charts.proofs.ProperLaws.{proper-at}
+use Rattle.laws_charts.proofs.AreaLaws.{totalArea-none, totalArea-more}
+use Rattle.call_area.proofs.sum.Statement.{statement}
+use Rattle.call_area.proofs.sum.Tie as tie
+
+abbrev Inv-loop : tie.InvT-loop
+Inv-loop table n s₀ i₀ s i = ((i ≤ n) × (s ≤ 17179869184 * i)) × (s ≡ totalArea (tableOf table i))
+
+abbrev μ-loop : tie.MeasureT-loop
+μ-loop table n s₀ i₀ s i = n - i
+
+loop-holds : tie.Need-loop-holds Inv-loop μ-loop
+loop-holds c = (search needs, totalArea-none (c .before .args .table .now))
+
+triangle-at-requires : tie.Need-triangle-at-requires Inv-loop μ-loop
+triangle-at-requires c κs = omega arith
+
+doubled-requires : tie.Need-doubled-requires Inv-loop μ-loop
+unfolding triangleOf cornerAt
+doubled-requires c κs =
+    let top = c .before .before .before .before in
+    let a = top .args in
+    let i = c .before .before .loop .i in
+    ap (λ t. proper (triangleOf t)) (c .triangle-at .ensures) ∙ proper-at (a .table .now) (a .n) i (top .pre .1) (omega arith)
+
+add-s : tie.Need-add-s Inv-loop μ-loop
+add-s c = omega arith
+
+add-i : tie.Need-add-i Inv-loop μ-loop
+add-i c = search needs
+
+loop-less : tie.Need-loop-less Inv-loop μ-loop
+loop-less c = search needs
+
+loop-again : tie.Need-loop-again Inv-loop μ-loop
+unfolding triangleOf cornerAt
+loop-again c =
+    let table = c .before .before .before .before .before .args .table .now in
+    let l = c .before .before .before .loop in
+    let area = c .doubled .ensures .0 ∙ ap (λ t. doubledArea (triangleOf t)) (c .before .triangle-at .ensures) in
+    (omega arith, ap₂ _+_ (l .inv .1) area ∙ sym (totalArea-more table (l .i)))
+
+returns : tie.Need-returns Inv-loop μ-loop
+returns c =
+    let table = c .before .before .before .args .table .now in
+    c .before .loop .inv .1 ∙ ap (λ k. totalArea (tableOf table k)) (omega arith)
+
+pub sum-spec : {M : Type 1} → statement M
+sum-spec =
+    tie.close
+    (tie.spec
+    Inv-loop
+    μ-loop
+    loop-holds
+    triangle-at-requires
+    doubled-requires
+    add-s
+    add-i
+    loop-less
+    loop-again
+    returns)

@@ -1,0 +1,13 @@
+use Rattle.spec_calls.specs.Calls.{flipCall}
+use borrow.Author.Needs.{needs}
+use Rattle.call_edits.proofs.flip.Statement.{statement}
+use Rattle.call_edits.proofs.flip.Tie as tie
+
+returns : tie.Need-returns
+unfolding flipCall
+returns c = c .before .before .before .before .before .before .before .before .edit-chart .ensures
+
+pub flip-spec : {M : Type 1} → statement M
+flip-spec =
+    tie.close
+    (tie.spec (λ c κs. search needs) (λ c. search needs) (λ c. search needs) (λ c. search needs) (λ c. search needs) returns)

@@ -1,0 +1,13 @@
+use Rattle.spec_calls.specs.Calls.{splitCall}
+use borrow.Author.Needs.{needs}
+use Rattle.call_edits.proofs.split.Statement.{statement}
+use Rattle.call_edits.proofs.split.Tie as tie
+
+returns : tie.Need-returns
+unfolding splitCall
+returns c = c .before .before .before .before .before .before .before .before .edit-chart .ensures
+
+pub split-spec : {M : Type 1} → statement M
+split-spec =
+    tie.close
+    (tie.spec (λ c κs. search needs) (λ c. search needs) (λ c. search needs) (λ c. search needs) (λ c. search needs) returns)

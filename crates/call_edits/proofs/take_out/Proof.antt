@@ -1,0 +1,13 @@
+use Rattle.spec_calls.specs.Calls.{takeOutCall}
+use borrow.Author.Needs.{needs}
+use Rattle.call_edits.proofs.take_out.Statement.{statement}
+use Rattle.call_edits.proofs.take_out.Tie as tie
+
+returns : tie.Need-returns
+unfolding takeOutCall
+returns c = c .before .before .before .before .before .before .before .before .edit-chart .ensures
+
+pub take-out-spec : {M : Type 1} → statement M
+take-out-spec =
+    tie.close
+    (tie.spec (λ c κs. search needs) (λ c. search needs) (λ c. search needs) (λ c. search needs) (λ c. search needs) returns)

@@ -1,0 +1,84 @@
+// The public calls split, take-out and flip of a chart. Each answers how it went and the counts that the chart has now; a refusal
+// leaves lists and counts as they were.
+
+mod chart_edit;
+
+use base_answers::Changed;
+use edit_steps::Edit;
+use spec_plane::Point;
+ghost use mathlib.Core.Path.{_≡_};
+ghost use Rattle.spec_calls.specs.Buffers.{chartOf};
+ghost use Rattle.spec_calls.specs.Calls.{splitCall, takeOutCall, flipCall};
+ghost use Rattle.spec_calls.specs.Calls.{Changed as Calls·Changed};
+ghost use Rattle.base_answers.specs.Outcomes.{changedOf};
+
+// Split: triangle i at p.
+pub fn split(
+    table: &mut [u16],
+    keys: &mut [u32],
+    levels: &mut [u8],
+    items: &mut [u16],
+    triangles: usize,
+    entries: usize,
+    i: usize,
+    p: Point,
+) -> Changed
+    ensures { λ r. ⌜ _≡_ {A = Calls·Changed} (changedOf r (now (table .exit)) (now (keys .exit)) (now (levels .exit)) (now (items .exit))) (splitCall i p (chartOf (now (table .entry)) (now (keys .entry)) (now (levels .entry)) (now (items .entry)) triangles entries)) ⌝ }
+{
+    chart_edit::edit_chart(
+        table,
+        keys,
+        levels,
+        items,
+        triangles,
+        entries,
+        Edit::Split(i, p),
+    )
+}
+
+// Take-out: of the point p.
+pub fn take_out(
+    table: &mut [u16],
+    keys: &mut [u32],
+    levels: &mut [u8],
+    items: &mut [u16],
+    triangles: usize,
+    entries: usize,
+    p: Point,
+) -> Changed
+    ensures { λ r. ⌜ _≡_ {A = Calls·Changed} (changedOf r (now (table .exit)) (now (keys .exit)) (now (levels .exit)) (now (items .exit))) (takeOutCall p (chartOf (now (table .entry)) (now (keys .entry)) (now (levels .entry)) (now (items .entry)) triangles entries)) ⌝ }
+{
+    chart_edit::edit_chart(
+        table,
+        keys,
+        levels,
+        items,
+        triangles,
+        entries,
+        Edit::TakeOut(p),
+    )
+}
+
+// Flip: triangles i and j.
+pub fn flip(
+    table: &mut [u16],
+    keys: &mut [u32],
+    levels: &mut [u8],
+    items: &mut [u16],
+    triangles: usize,
+    entries: usize,
+    i: usize,
+    j: usize,
+) -> Changed
+    ensures { λ r. ⌜ _≡_ {A = Calls·Changed} (changedOf r (now (table .exit)) (now (keys .exit)) (now (levels .exit)) (now (items .exit))) (flipCall i j (chartOf (now (table .entry)) (now (keys .entry)) (now (levels .entry)) (now (items .entry)) triangles entries)) ⌝ }
+{
+    chart_edit::edit_chart(
+        table,
+        keys,
+        levels,
+        items,
+        triangles,
+        entries,
+        Edit::Flip(i, j),
+    )
+}

@@ -1,0 +1,4 @@
+pub mod FaultyLaws
+pub mod GivenLaws
+pub mod LoadLaws
+pub mod LoadIndexed

@@ -1,0 +1,95 @@
+-- Judged, then stored: nothing is written before the store.
+use mathlib.Core.Path.{_≡_, sym, _∙_, ap}
+use mathlib.Core.Bool.{true}
+use native.Mathlib.Omega.{arith}
+use borrow.Author.Needs.{needs}
+use Rattle.spec_charts.specs.Refusals.{done}
+use Rattle.spec_charts.specs.Edits.{givenTable}
+use Rattle.spec_calls.specs.Buffers.{Chart, chartOf}
+use Rattle.base_answers.specs.Outcomes.{changeOutcome}
+use Rattle.base_answers.proofs.AnswerLaws.{answered-refused, other-refused}
+use Rattle.call_load.proofs.LoadLaws.{judgedLoad, load-refused, load-judged, load-accepted, load-rest}
+use Rattle.call_load.proofs.load.Statement.{statement}
+use Rattle.call_load.proofs.load.Tie as tie
+
+-- the chart lent
+abbrev chart : tie.Start → Chart
+chart c =
+    let a = c .args in chartOf (a .table .now) (a .keys .now) (a .levels .now) (a .items .now) (a .triangles) (a .entries)
+
+-- nothing is against the load
+judged : (c : tie.After-enum-told) → let top = c .before .before .before .before .before .before .before .before .before .before .before .before in done true ≡ judgedLoad (top .args .given .now) (chart top)
+judged c =
+    let top = c .before .before .before .before .before .before .before .before .before .before .before .before in
+    sym (ap changeOutcome (c .enum-told .given .1)) ∙ c .before .before .judge-load .ensures (top .args .triangles) (top .args .entries)
+
+judge-load-requires : tie.Need-judge-load-requires
+judge-load-requires c κs = search needs
+
+enum-told : tie.Need-enum-told
+enum-told c = search needs
+
+store-requires : tie.Need-store-requires
+unfolding givenTable
+store-requires c κs =
+    let e = c .before .before .before .before in
+    let top = e .before .before .before .before .before .before .before .before .before .before .before .before in
+    let given = load-accepted (top .args .given .now) (chart top) (judged e) in
+    (((omega (arith, given .few), omega arith), given .oriented), load-judged (top .args .given .now) (chart top) (judged e) .0)
+
+same-length : tie.Need-same-length
+same-length c = search needs
+
+same-length-2 : tie.Need-same-length-2
+same-length-2 c = search needs
+
+same-length-3 : tie.Need-same-length-3
+same-length-3 c = search needs
+
+same-length-4 : tie.Need-same-length-4
+same-length-4 c = search needs
+
+returns : tie.Need-returns
+unfolding givenTable
+returns c =
+    let e = c .before .before .before .before .before .before .before .before .before .before .before .before .before in
+    let top = e .before .before .before .before .before .before .before .before .before .before .before .before in
+    c .before .before .before .before .before .before .before .before .store .ensures ∙ load-rest (top .args .given .now) (chart top) (judged e)
+
+same-length-5 : tie.Need-same-length-5
+same-length-5 c = search needs
+
+same-length-6 : tie.Need-same-length-6
+same-length-6 c = search needs
+
+same-length-7 : tie.Need-same-length-7
+same-length-7 c = search needs
+
+same-length-8 : tie.Need-same-length-8
+same-length-8 c = search needs
+
+returns-2 : tie.Need-returns-2
+returns-2 c =
+    let top = c .before .before .before .before .before .before .before .before .before .before .before in
+    let j = c .before .judge-load .result in
+    let r = other-refused j (c .match .keys2) in
+    answered-refused (chart top) j (r .1)
+    ∙ load-refused (top .args .given .now) (chart top) (sym (r .1) ∙ c .before .judge-load .ensures (top .args .triangles) (top .args .entries))
+
+pub load-spec : {M : Type 1} → statement M
+load-spec =
+    tie.close
+    (tie.spec
+    judge-load-requires
+    enum-told
+    store-requires
+    same-length
+    same-length-2
+    same-length-3
+    same-length-4
+    returns
+    same-length-5
+    same-length-6
+    same-length-7
+    same-length-8
+    returns-2)

@@ -1,0 +1,74 @@
+use mathlib.Core.Path.{_≡_, sym, _∙_, ap}
+use mathlib.Core.Bool.{true}
+use Prim.Native.Nat.{ℕ, _≤_, _<_, _-_}
+use native.Mathlib.Omega.{arith}
+use borrow.Author.Needs.{needs}
+use borrow.Author.Count.{below-none, below-more}
+use borrow.Author.Tests.{not-true, not-false}
+use Rattle.spec_plane.specs.Triangle.{proper, triangleOf, cornerAt}
+use Rattle.spec_charts.specs.Table.{triangleAt}
+use Rattle.call_load.proofs.FaultyLaws.{faulty-found}
+use Rattle.call_load.proofs.load_checks.first_faulty.Statement.{statement}
+use Rattle.call_load.proofs.load_checks.first_faulty.Tie as tie
+
+abbrev Inv-loop : tie.InvT-loop
+Inv-loop table n i₀ i = (i ≤ n) × ((k : ℕ) → k < i → proper (triangleAt table k) ≡ true)
+
+abbrev μ-loop : tie.MeasureT-loop
+μ-loop table n i₀ i = n - i
+
+loop-holds : tie.Need-loop-holds Inv-loop μ-loop
+loop-holds c = (search needs, below-none _)
+
+triangle-at-requires : tie.Need-triangle-at-requires Inv-loop μ-loop
+triangle-at-requires c κs = omega arith
+
+is-proper-requires : tie.Need-is-proper-requires Inv-loop μ-loop
+is-proper-requires c κs = search needs
+
+returns : tie.Need-returns Inv-loop μ-loop
+unfolding triangleOf cornerAt
+returns c =
+    let a = c .before .before .before .before .before .before .args in
+    let l = c .before .before .before .before .loop in
+    faulty-found (a .table .now) (a .n) (l .i) (l .inv .0) (l .inv .1) (λ h.
+    sym (c .before .is-proper .ensures ∙ ap (λ t. proper (triangleOf t)) (c .before .before .triangle-at .ensures))
+    ∙ not-true (c .before .is-proper .result) (c .if1 .taken))
+
+add-i : tie.Need-add-i Inv-loop μ-loop
+add-i c = search needs
+
+loop-less : tie.Need-loop-less Inv-loop μ-loop
+loop-less c = search needs
+
+loop-again : tie.Need-loop-again Inv-loop μ-loop
+unfolding triangleOf cornerAt
+loop-again c =
+    let l = c .before .before .before .before .loop in
+    let here =
+    sym (c .before .is-proper .ensures ∙ ap (λ t. proper (triangleOf t)) (c .before .before .triangle-at .ensures))
+    ∙ not-false (c .before .is-proper .result) (c .if1 .left)
+    in
+    (omega arith, below-more _ (l .i) (l .inv .1) here)
+
+returns-2 : tie.Need-returns-2 Inv-loop μ-loop
+returns-2 c =
+    let a = c .before .before .before .args in
+    let l = c .before .loop in
+    let e : a .n ≡ l .i = omega arith in
+    e ∙ faulty-found (a .table .now) (a .n) (l .i) (l .inv .0) (l .inv .1) (λ h. absurd (omega arith))
+
+pub first-faulty-spec : {M : Type 1} → statement M
+first-faulty-spec =
+    tie.close
+    (tie.spec
+    Inv-loop
+    μ-loop
+    loop-holds
+    triangle-at-requires
+    is-proper-requires
+    returns
+    add-i
+    loop-less
+    loop-again
+    returns-2)

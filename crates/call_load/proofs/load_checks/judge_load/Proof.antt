@@ -1,0 +1,23 @@
+use mathlib.Core.Path.{sym, _∙_}
+use borrow.Author.Needs.{needs}
+use Rattle.spec_charts.specs.Refusals.{refuseIf}
+use Rattle.spec_calls.specs.Calls.{ifLong}
+use Rattle.call_load.proofs.load_checks.judge_load.Statement.{statement}
+use Rattle.call_load.proofs.load_checks.judge_load.Tie as tie
+
+too-short-requires : tie.Need-too-short-requires
+too-short-requires c κs = search needs
+
+returns : tie.Need-returns
+unfolding ifLong refuseIf
+returns c count n = rw (sym (c .before .too-short .ensures count n) ∙ c .if1 .taken)
+
+judge-given-requires : tie.Need-judge-given-requires
+judge-given-requires c κs = search needs
+
+returns-2 : tie.Need-returns-2
+unfolding ifLong refuseIf
+returns-2 c count n = rw (sym (c .before .before .too-short .ensures count n) ∙ c .before .if1 .left) (c .judge-given .ensures)
+
+pub judge-load-spec : {M : Type 1} → statement M
+judge-load-spec = tie.close (tie.spec too-short-requires returns judge-given-requires returns-2)

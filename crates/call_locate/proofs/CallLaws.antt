@@ -1,0 +1,66 @@
+-- The calls locate and cell listing, in the words of the code's answers and of the places in the caller's list.
+-- Assumes nothing.
+use mathlib.Core.Path.{_≡_, refl, sym, _∙_, ap}
+use mathlib.Core.Bool.{true, false}
+use mathlib.Core.List.{List, []}
+use mathlib.Core.Option.{Option, none, some}
+use Prim.Native.Nat.{ℕ, _≤_, _<_}
+use lib.ListN.{length, getD}
+use Rattle.theory_lists.specs.Lists.{first}
+use Rattle.spec_squares.specs.Square.{arity, depth}
+use Rattle.spec_plane.specs.declared.Point.{Point}
+use Rattle.spec_plane.specs.Triangle.{holds}
+use Rattle.spec_charts.specs.Table.{triangleAt}
+use Rattle.spec_charts.specs.Refusals.{Refusal, refused, done, outcomeNumber, doneOr}
+use Rattle.spec_charts.specs.Reading.{listing}
+use Rattle.spec_calls.specs.Buffers.{Chart, tooShort, chainRule, chartEntries}
+use Rattle.spec_calls.specs.Calls as Calls
+use Rattle.spec_calls.specs.Calls.{ifChained, locateCall}
+use Rattle.laws_calls.proofs.BufferLaws.{searchable}
+use Rattle.laws_calls.proofs.ReaderLaws.{reading-refused, reading-done, located-done, located-first}
+use Rattle.read_cells.specs.Passes.{Rises}
+use Rattle.read_cells.specs.Place.{listedPlaces}
+use Rattle.read_cells.proofs.ListingLaws.{ChainLists}
+use Rattle.read_cells.proofs.PointLaws.{keys-rise, first-key}
+use Rattle.base_answers.specs.declared.Located.{Located}
+use Rattle.base_answers.specs.Outcomes.{locatedOf}
+use Rattle.call_locate.specs.Holding.{foundOf}
+use Rattle.call_locate.specs.Places.{placesCall}
+
+-- an answer that is no refusal: the number 0, and the triangle found
+found-of : (o : Option ℕ) → _≡_ {A = Calls.Located} (locatedOf (foundOf o)) (record { number = 0; found = o })
+unfolding outcomeNumber doneOr
+found-of none = refl
+found-of (some i) = refl
+
+module _ (c : Chart) (p : Point) where
+  -- at a refusal there are no places
+  pub places-refused : {r : Refusal} → refused r ≡ ifChained c (done true) → [] ≡ placesCall c p
+  unfolding placesCall doneOr
+  places-refused h = ap (doneOr []) (reading-refused c h (listedPlaces (chartEntries c) p))
+
+  module _ (s : tooShort c ≡ false) (r : chainRule c ≡ true) where
+    -- else those of the cell's entries
+    pub places-done : listedPlaces (chartEntries c) p ≡ placesCall c p
+    unfolding placesCall doneOr
+    places-done = ap (doneOr []) (reading-done c s r (listedPlaces (chartEntries c) p))
+
+    -- its lists have entries, which satisfy the chain rule
+    chained : ChainLists arity depth (c .triangleCount) (c .keys) (c .levels) (c .items) (c .entryCount)
+    chained =
+        let h = searchable c s r in record { keys = h .0 .0; levels = h .0 .1 .0; items = h .0 .1 .1; rule = rw (h .1) tt }
+
+    -- they can be searched
+    pub lists-searchable : ((c .entryCount ≤ length (c .keys)) × (c .entryCount ≤ length (c .items)))
+        × ((0 < c .entryCount) × ((getD (c .keys) 0 0 ≡ 0) × Rises (c .keys) (c .entryCount)))
+    lists-searchable =
+        let h = chained in ((h .keys, h .items), (first-key h .0, (first-key h .1, keys-rise h)))
+
+    -- locate is the first listed triangle that holds the point
+    pub locate-done : {l : List ℕ} → l ≡ listing (chartEntries c) p → {a : Located} → a ≡ foundOf (first (λ i. holds (triangleAt (c .table) i) p) l)
+        → _≡_ {A = Calls.Located} (locatedOf a) (locateCall c p)
+    locate-done e h =
+        ap (λ b. locatedOf b) (h ∙ ap (λ m. foundOf (first (λ i. holds (triangleAt (c .table) i) p) m)) e)
+        ∙ found-of _
+        ∙ ap (λ o. record { number = 0; found = o }) (sym (located-first c s r p))
+        ∙ located-done c s r p

@@ -1,0 +1,93 @@
+use mathlib.Core.Path.{_≡_, refl, sym, _∙_, ap}
+use Prim.Native.Nat.{_-_, _≤_}
+use native.Mathlib.Omega.{arith}
+use lib.ListN.{length, getD, drop}
+use Rattle.theory_lists.specs.Lists.{first}
+use Rattle.spec_plane.specs.Triangle.{holds, triangleOf, cornerAt}
+use Rattle.spec_charts.specs.Table.{triangleAt}
+use Rattle.call_locate.specs.Holding.{foundOf}
+use Rattle.theory_lists.proofs.FirstLaws.{first-over, first-here, first-later}
+use borrow.Author.Needs.{needs}
+use Rattle.call_locate.proofs.first_holding.Statement.{statement}
+use Rattle.call_locate.proofs.first_holding.Tie as tie
+
+abbrev Inv-loop : tie.InvT-loop
+Inv-loop table list p k₀ k =
+    (k ≤ length list) × (first (λ i. holds (triangleAt table i) p) list ≡ first (λ i. holds (triangleAt table i) p) (drop k list))
+
+abbrev μ-loop : tie.MeasureT-loop
+μ-loop table list p k₀ k = length list - k
+
+loop-holds : tie.Need-loop-holds Inv-loop μ-loop
+loop-holds c = (omega arith, refl)
+
+mul-i : tie.Need-mul-i Inv-loop μ-loop
+mul-i c = search needs
+
+shared-slice-read-i : tie.Need-shared-slice-read-i Inv-loop μ-loop
+shared-slice-read-i c = search needs
+
+index-requires : tie.Need-index-requires Inv-loop μ-loop
+index-requires c κs = search needs
+
+triangle-at-requires : tie.Need-triangle-at-requires Inv-loop μ-loop
+triangle-at-requires c κs =
+    let top = c .before .before .before .before .before .before in
+    omega (arith, top .pre (c .before .before .before .loop .k) (c .before .before .loop-test .taken))
+
+holds-requires : tie.Need-holds-requires Inv-loop μ-loop
+holds-requires c κs = search needs
+
+-- the test is that of the listed triangle
+tested : (c : tie.After-holds Inv-loop μ-loop) → let a = c .before .before .before .before .before .before .before .before .args in
+    c .holds .result ≡ holds (triangleAt (a .table .now) (getD (a .list .now) (c .before .before .before .before .before .loop .k) 0)) (a .p)
+unfolding triangleOf cornerAt
+tested c =
+    let a = c .before .before .before .before .before .before .before .before .args in
+    c .holds .ensures
+    ∙ ap (λ t. holds (triangleOf t) (a .p)) (c .before .triangle-at .ensures)
+    ∙ ap (λ i. holds (triangleAt (a .table .now) i) (a .p)) (c .before .before .index .ensures .0)
+
+returns : tie.Need-returns Inv-loop μ-loop
+returns c =
+    let a = c .before .before .before .before .before .before .before .before .before .args in
+    let l = c .before .before .before .before .before .before .loop in
+    sym (ap (λ o. foundOf o) (l .inv .1 ∙ first-here (λ i. holds (triangleAt (a .table .now) i) (a .p)) (a .list .now) (l .k) (omega arith) (sym (tested (c .before)) ∙ c .if1 .taken)))
+
+add-k : tie.Need-add-k Inv-loop μ-loop
+add-k c = search needs
+
+loop-less : tie.Need-loop-less Inv-loop μ-loop
+loop-less c = search needs
+
+loop-again : tie.Need-loop-again Inv-loop μ-loop
+loop-again c =
+    let a = c .before .before .before .before .before .before .before .before .before .args in
+    let l = c .before .before .before .before .before .before .loop in (
+      omega arith,
+      l .inv .1 ∙ first-later (λ i. holds (triangleAt (a .table .now) i) (a .p)) (a .list .now) (l .k) (omega arith) (sym (tested (c .before)) ∙ c .if1 .left),
+    )
+
+returns-2 : tie.Need-returns-2 Inv-loop μ-loop
+returns-2 c =
+    let a = c .before .before .before .before .args in
+    let l = c .before .loop in
+    sym (ap (λ o. foundOf o) (l .inv .1 ∙ first-over (λ i. holds (triangleAt (a .table .now) i) (a .p)) (a .list .now) (l .k) (omega arith)))
+
+pub first-holding-spec : {M : Type 1} → statement M
+first-holding-spec =
+    tie.close
+    (tie.spec
+    Inv-loop
+    μ-loop
+    loop-holds
+    mul-i
+    shared-slice-read-i
+    index-requires
+    triangle-at-requires
+    holds-requires
+    returns
+    add-k
+    loop-less
+    loop-again
+    returns-2)

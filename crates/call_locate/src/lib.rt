@@ -1,0 +1,77 @@
+// Locate and cell listing.
+
+use base_answers::Judged;
+use base_answers::Located;
+use base_geometry::geometry;
+use base_geometry::numbers;
+use spec_plane::Point;
+ghost use mathlib.Core.Path.{_≡_};
+ghost use Prim.Native.Nat.{ℕ, _+_, _*_, _≤_, _<_};
+ghost use lib.ListN.{length, getD};
+ghost use Rattle.theory_lists.specs.Lists.{first};
+ghost use Rattle.spec_plane.specs.Triangle.{holds};
+ghost use Rattle.spec_charts.specs.Table.{numbersPerTriangle, triangleAt};
+ghost use Rattle.spec_calls.specs.Buffers.{chartOf};
+ghost use Rattle.spec_calls.specs.Calls.{locateCall, listingCall};
+ghost use Rattle.spec_calls.specs.Calls.{Located as Calls·Located};
+ghost use Rattle.read_cells.specs.Place.{OwnPart};
+ghost use Rattle.base_answers.specs.Outcomes.{locatedOf};
+ghost use Rattle.call_locate.specs.Holding.{foundOf};
+ghost use Rattle.call_locate.specs.Places.{placesCall};
+
+// The first of the listed triangles that holds p.
+fn first_holding(table: &[u16], list: &[u16], p: Point) -> Located
+    requires { ⌜ ((k : ℕ) → k < length (now list) → numbersPerTriangle * (getD (now list) k 0 + 1) ≤ length (now table)) ⌝ }
+    ensures { λ r. ⌜ r ≡ foundOf (first (λ i. holds (triangleAt (now (table .entry)) i) p) (now (list .entry))) ⌝ }
+{
+    let mut k = 0;
+    while k < list.len() {
+        let i = list[k];
+        if geometry::holds(base_tables::triangle_at(table, numbers::index(i)), p) {
+            return Located::At(i);
+        }
+        k += 1;
+    }
+    Located::Nowhere
+}
+
+// Cell listing of p: the triangle numbers of the cell whose key range has Z(p), as a part of the caller's own list; an empty
+// part for the mark and at a refusal.
+pub fn cell_listing<'a, 'b, 'c, 'd>(
+    table: &'b [u16],
+    keys: &'c [u32],
+    levels: &'d [u8],
+    items: &'a [u16],
+    triangles: usize,
+    entries: usize,
+    p: Point,
+) -> &'a [u16]
+    ensures { λ r. ⌜ now r ≡ listingCall (chartOf (now (table .entry)) (now (keys .entry)) (now (levels .entry)) (now (items .entry)) triangles entries) p ⌝ }
+    ensures { λ r. ⌜ OwnPart (items .entry) r (placesCall (chartOf (now (table .entry)) (now (keys .entry)) (now (levels .entry)) (now (items .entry)) triangles entries) p) ⌝ }
+{
+    let Judged::Fine = chart_rule::judge(table, keys, levels, items, triangles, entries) else {
+        return &items[0..0];
+    };
+    read_cells::listing(keys, items, entries, p)
+}
+
+// Locate p: the lowest numbered triangle, among those listed in the cell whose key range has Z(p), that holds p.
+pub fn locate(
+    table: &[u16],
+    keys: &[u32],
+    levels: &[u8],
+    items: &[u16],
+    triangles: usize,
+    entries: usize,
+    p: Point,
+) -> Located
+    ensures { λ r. ⌜ _≡_ {A = Calls·Located} (locatedOf r) (locateCall (chartOf (now (table .entry)) (now (keys .entry)) (now (levels .entry)) (now (items .entry)) triangles entries) p) ⌝ }
+{
+    match chart_rule::judge(table, keys, levels, items, triangles, entries) {
+        Judged::Fine => first_holding(table, read_cells::listing(keys, items, entries, p), p),
+        Judged::ShortBuffer => Located::ShortBuffer,
+        Judged::BrokenChain => Located::BrokenChain,
+        // Never found: `judge` judges 1 and 2.
+        Judged::StaleEntries => Located::BrokenChain,
+    }
+}

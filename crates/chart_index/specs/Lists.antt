@@ -1,0 +1,25 @@
+-- The three entry lists of a chart with the entries of a table.
+-- Assumes nothing.
+use mathlib.Core.Path.{_≡_}
+use mathlib.Core.List.{List, map}
+use Prim.Native.Nat.{ℕ, _+_, _≤_, _<_}
+use lib.ListN.{length}
+use Rattle.theory_orthtree.specs.Entries.{Entry}
+use Rattle.spec_charts.specs.Cells.{maxEntries}
+use Rattle.spec_calls.specs.Buffers.{padded}
+
+-- what building a table with the entries es leaves: their count and the three lists, "0 after its last used place", or most + 1
+-- where they are more than `most`, and the lists as they were
+pub record ListedWithin (most : ℕ) (es : List Entry) (r : ℕ) (keys keys′ levels levels′ items items′ : List ℕ) : Type 0 where
+  pub fits : length es ≤ most → r ≡ length es
+  pub fitsKeys : length es ≤ most → keys′ ≡ padded maxEntries (map (λ e. e .key) es) keys
+  pub fitsLevels : length es ≤ most → levels′ ≡ padded maxEntries (map (λ e. e .level) es) levels
+  pub fitsItems : length es ≤ most → items′ ≡ padded maxEntries (map (λ e. e .item) es) items
+  pub over : most < length es → r ≡ most + 1
+  pub overKeys : most < length es → keys′ ≡ keys
+  pub overLevels : most < length es → levels′ ≡ levels
+  pub overItems : most < length es → items′ ≡ items
+
+-- the same with the limit of a chart
+abbrev pub Listed : List Entry → ℕ → List ℕ → List ℕ → List ℕ → List ℕ → List ℕ → List ℕ → Type 0
+Listed es r keys keys′ levels levels′ items items′ = ListedWithin maxEntries es r keys keys′ levels levels′ items items′

@@ -1,0 +1,22 @@
+use mathlib.Core.Path.{refl}
+use native.Mathlib.Omega.{arith}
+use borrow.Author.Tests.{eq-eqb, ne-eqb}
+use borrow.Author.Needs.{needs}
+use Rattle.chart_judge.proofs.entry_checks.same_entries.Statement.{statement}
+use Rattle.chart_judge.proofs.entry_checks.same_entries.Tie as tie
+
+returns : tie.Need-returns
+returns c =
+    let a = c .before .before .before .before .before .args in
+    rw (ne-eqb (a .r) (a .m) (λ e. omega (arith, c .if1 .taken))) refl
+
+differences-requires : tie.Need-differences-requires
+differences-requires c κs = search needs
+
+returns-2 : tie.Need-returns-2
+returns-2 c =
+    let a = c .before .before .before .before .before .before .args in
+    rw (eq-eqb (a .r) (a .m) (omega (arith, c .before .if1 .left))) (c .differences .ensures)
+
+pub same-entries-spec : {M : Type 1} → statement M
+same-entries-spec = tie.close (tie.spec returns differences-requires returns-2)

@@ -1,0 +1,17 @@
+use native.Mathlib.Omega.{arith}
+use Rattle.chart_links.proofs.ItemLaws.{item-count, mark-count}
+use borrow.Author.Needs.{needs}
+use Rattle.chart_links.proofs.count_for.Statement.{statement}
+use Rattle.chart_links.proofs.count_for.Tie as tie
+
+add-result : tie.Need-add-result
+add-result c = search needs
+
+returns : tie.Need-returns
+returns c = λ count. mark-count (c .before .args .item) _ count (c .if1 .taken) (omega arith)
+
+returns-2 : tie.Need-returns-2
+returns-2 c = λ count. item-count (c .before .args .item) _ count (c .if1 .left) (omega arith)
+
+pub count-for-spec : {M : Type 1} → statement M
+count-for-spec = tie.close (tie.spec add-result returns returns-2)

@@ -1,0 +1,13 @@
+use Rattle.chart_links.proofs.LinkLaws.{last-ends}
+use borrow.Author.Needs.{needs}
+use Rattle.chart_links.proofs.ends_tree.Statement.{statement}
+use Rattle.chart_links.proofs.ends_tree.Tie as tie
+
+returns : tie.Need-returns
+returns c =
+    let a = c .before .args in
+    let m = c .low-bits in
+    λ item. last-ends (a .key) (a .level) item (m .result) (c .before .pre) (m .ensures)
+
+pub ends-tree-spec : {M : Type 1} → statement M
+ends-tree-spec = tie.close (tie.spec (λ c κs. search needs) (λ c. search needs) (λ c. search needs) returns)

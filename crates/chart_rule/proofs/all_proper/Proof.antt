@@ -1,0 +1,64 @@
+use mathlib.Core.Path.{_≡_, sym, _∙_, ap}
+use Prim.Native.Nat.{_≤_, _-_}
+use native.Mathlib.Omega.{arith}
+use borrow.Author.Needs.{needs}
+use Rattle.theory_lists.specs.Lists.{all, upTo}
+use Rattle.theory_lists.proofs.IndexLaws.{all-below-none, all-below-step, all-map}
+use Rattle.spec_plane.specs.Triangle.{proper, triangleOf, cornerAt}
+use Rattle.spec_charts.specs.Table.{tableOf, triangleAt}
+use Rattle.chart_rule.proofs.all_proper.Statement.{statement}
+use Rattle.chart_rule.proofs.all_proper.Tie as tie
+
+abbrev Inv-loop : tie.InvT-loop
+Inv-loop table n ok₀ i₀ ok i = (i ≤ n) × (ok ≡ all (λ k. proper (triangleAt table k)) (upTo i))
+
+abbrev μ-loop : tie.MeasureT-loop
+μ-loop table n ok₀ i₀ ok i = n - i
+
+loop-holds : tie.Need-loop-holds Inv-loop μ-loop
+loop-holds c = (search needs, sym (all-below-none (λ k. proper (triangleAt (c .before .args .table .now) k))))
+
+triangle-at-requires : tie.Need-triangle-at-requires Inv-loop μ-loop
+triangle-at-requires c κs = omega arith
+
+is-proper-requires : tie.Need-is-proper-requires Inv-loop μ-loop
+is-proper-requires c κs = search needs
+
+add-i : tie.Need-add-i Inv-loop μ-loop
+add-i c = search needs
+
+loop-less : tie.Need-loop-less Inv-loop μ-loop
+loop-less c = search needs
+
+loop-again : tie.Need-loop-again Inv-loop μ-loop
+unfolding triangleOf cornerAt
+loop-again c =
+    let table = c .before .before .before .before .before .args .table .now in
+    let l = c .before .before .before .loop in (
+      omega arith,
+      all-below-step (λ k. proper (triangleAt table k)) (l .i) (l .inv .1)
+          (c .is-proper .ensures ∙ ap (λ t. proper (triangleOf t)) (c .before .triangle-at .ensures)),
+    )
+
+returns : tie.Need-returns Inv-loop μ-loop
+unfolding tableOf
+returns c =
+    let table = c .before .before .before .args .table .now in
+    let n = c .before .before .before .args .n in
+    let l = c .before .loop in
+    l .inv .1 ∙ ap (λ k. all (λ j. proper (triangleAt table j)) (upTo k)) (omega arith)
+    ∙ sym (all-map (λ t. proper t) (λ j. triangleAt table j) (upTo n))
+
+pub all-proper-spec : {M : Type 1} → statement M
+all-proper-spec =
+    tie.close
+    (tie.spec
+    Inv-loop
+    μ-loop
+    loop-holds
+    triangle-at-requires
+    is-proper-requires
+    add-i
+    loop-less
+    loop-again
+    returns)

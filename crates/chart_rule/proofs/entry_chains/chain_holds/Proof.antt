@@ -1,0 +1,140 @@
+-- The chain rule, taken apart list by list: levels and items have loops of their own, and each entry is linked to the next by lending
+-- the same lists shifted by one. `chain-joined` puts the parts together; no entry, or a level above 16, ends the test before.
+use mathlib.Core.Path.{_≡_, sym, _∙_}
+use mathlib.Core.Bool.{true}
+use Prim.Native.Nat.{_-_}
+use native.Mathlib.Omega.{arith}
+use borrow.Author.Tests.{not-true, not-false}
+use lib.Dec.{leb, leb→le}
+use lib.ListN.{getD, length-take, length-drop}
+use Rattle.theory_lists.specs.Lists.{all, upTo}
+use Rattle.theory_lists.proofs.IndexLaws.{all-below-at, all-below-fewer}
+use Rattle.spec_squares.specs.Square.{depth}
+use Rattle.spec_calls.specs.Buffers.{zipEntries}
+use Rattle.chart_links.specs.Links.{entryAt}
+use Rattle.chart_rule.proofs.PartLaws.{no-entries, chain-stopped, chain-joined}
+use borrow.Author.Needs.{needs}
+use Rattle.chart_rule.proofs.entry_chains.chain_holds.Statement.{statement}
+use Rattle.chart_rule.proofs.entry_chains.chain_holds.Tie as tie
+
+returns : tie.Need-returns
+returns c =
+    let a = c .before .before .before .before .args in
+    no-entries (a .count) (zipEntries (a .keys .now) (a .levels .now) (a .items .now)) (c .if1 .taken)
+
+levels-fit-requires : tie.Need-levels-fit-requires
+levels-fit-requires c κs = search needs
+
+returns-2 : tie.Need-returns-2
+returns-2 c =
+    let top = c .before .before .before .before .before .before in
+    let a = top .args in
+    let fit = c .before .levels-fit in
+    chain-stopped (a .count) (a .keys .now) (a .levels .now) (a .items .now) (a .n) (a .n - 1) (omega arith) (top .pre .0) (top .pre .1 .0) (top .pre .1 .1)
+    (sym (fit .ensures) ∙ not-true (fit .result) (c .if2 .taken))
+
+-- from here on every level fits
+levels-ok : (c : tie.Else2) → let a = c .before .before .before .before .before .before .args in all (λ i. leb (getD (a .levels .now) i 0) depth) (upTo (a .n)) ≡ true
+levels-ok c = let fit = c .before .levels-fit in sym (fit .ensures) ∙ not-false (fit .result) (c .if2 .left)
+
+sub-last : tie.Need-sub-last
+sub-last c = search needs
+
+count-for-all-requires : tie.Need-count-for-all-requires
+count-for-all-requires c κs = search needs
+
+cast-most : tie.Need-cast-most
+cast-most c = search needs
+
+sub-faults : tie.Need-sub-faults
+sub-faults c = search needs
+
+part-faults-start : tie.Need-part-faults-start
+part-faults-start c = search needs
+
+part-faults-end : tie.Need-part-faults-end
+part-faults-end c = search needs
+
+sub-faults-2 : tie.Need-sub-faults-2
+sub-faults-2 c = search needs
+
+part-faults-start-2 : tie.Need-part-faults-start-2
+part-faults-start-2 c = search needs
+
+part-faults-end-2 : tie.Need-part-faults-end-2
+part-faults-end-2 c = search needs
+
+sub-faults-3 : tie.Need-sub-faults-3
+sub-faults-3 c = search needs
+
+part-faults-start-3 : tie.Need-part-faults-start-3
+part-faults-start-3 c = search needs
+
+part-faults-end-3 : tie.Need-part-faults-end-3
+part-faults-end-3 c = search needs
+
+faults-requires : tie.Need-faults-requires
+faults-requires c κs =
+    let top = c .before .before .before .before .before .before .before .before .before .before in
+    let levels = top .args .levels .now in (
+      omega arith,
+      (
+        simp (length-take, length-drop) (omega arith),
+        all-below-fewer (λ i. leb (getD levels i 0) depth) (omega arith) (levels-ok (c .before .before .before .before)),
+      ),
+    )
+
+shared-slice-read-result : tie.Need-shared-slice-read-result
+shared-slice-read-result c = search needs
+
+mul-ends-tree : tie.Need-mul-ends-tree
+mul-ends-tree c = search needs
+
+shared-slice-read-ends-tree : tie.Need-shared-slice-read-ends-tree
+shared-slice-read-ends-tree c = search needs
+
+shared-slice-read-ends-tree-2 : tie.Need-shared-slice-read-ends-tree-2
+shared-slice-read-ends-tree-2 c = search needs
+
+ends-tree-requires : tie.Need-ends-tree-requires
+ends-tree-requires c κs =
+    let top = c .before .before .before .before .before .before .before .before .before .before .before .before .before .before in
+    let levels = top .args .levels .now in
+    leb→le (getD levels (top .args .n - 1) 0) depth
+    (all-below-at (λ i. leb (getD levels i 0) depth) (levels-ok (c .before .before .before .before .before .before .before .before)) (omega arith))
+
+returns-3 : tie.Need-returns-3
+unfolding entryAt
+returns-3 c =
+    let top = c .before .before .before .before .before .before .before .before .before .before .before .before .before .before .before in
+    let a = top .args in
+    chain-joined (a .count) (a .keys .now) (a .levels .now) (a .items .now) (a .n) (a .n - 1) (omega arith) (top .pre .0) (top .pre .1 .0) (top .pre .1 .1)
+    (levels-ok (c .before .before .before .before .before .before .before .before .before))
+    (c .before .before .before .before .before .before .before .before .count-for-all .ensures (a .count)) (c .before .before .before .before .faults .ensures) (c .ends-tree .ensures (getD (a .items .now) (a .n - 1) 0))
+
+pub chain-holds-spec : {M : Type 1} → statement M
+chain-holds-spec =
+    tie.close
+    (tie.spec
+    returns
+    levels-fit-requires
+    returns-2
+    sub-last
+    count-for-all-requires
+    cast-most
+    sub-faults
+    part-faults-start
+    part-faults-end
+    sub-faults-2
+    part-faults-start-2
+    part-faults-end-2
+    sub-faults-3
+    part-faults-start-3
+    part-faults-end-3
+    faults-requires
+    shared-slice-read-result
+    mul-ends-tree
+    shared-slice-read-ends-tree
+    shared-slice-read-ends-tree-2
+    ends-tree-requires
+    returns-3)

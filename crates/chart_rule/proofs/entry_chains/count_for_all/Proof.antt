@@ -1,0 +1,70 @@
+use mathlib.Core.Path.{_≡_, sym, _∙_, ap}
+use Prim.Native.Nat.{ℕ, _≤_, _-_}
+use native.Mathlib.Omega.{arith}
+use borrow.Author.Needs.{needs}
+use lib.Dec.{leb, leb·zero}
+use lib.ListN.{getD}
+use Rattle.theory_lists.specs.Lists.{all, upTo}
+use Rattle.theory_lists.proofs.IndexLaws.{all-below-none, all-below-step}
+use Rattle.chart_links.specs.Links.{itemFits}
+use Rattle.theory_lists.proofs.TestLaws.{leb-max}
+use Rattle.chart_rule.proofs.entry_chains.count_for_all.Statement.{statement}
+use Rattle.chart_rule.proofs.entry_chains.count_for_all.Tie as tie
+
+abbrev Inv-loop : tie.InvT-loop
+Inv-loop items n most₀ i₀ most i = (i ≤ n) × ((count : ℕ) → leb most count ≡ all (λ k. itemFits count (getD items k 0)) (upTo i))
+
+abbrev μ-loop : tie.MeasureT-loop
+μ-loop items n most₀ i₀ most i = n - i
+
+loop-holds : tie.Need-loop-holds Inv-loop μ-loop
+loop-holds c = (search needs, λ count. leb·zero count ∙ sym (all-below-none (λ k. itemFits count (getD (c .before .args .items .now) k 0))))
+
+mul-count-for : tie.Need-mul-count-for Inv-loop μ-loop
+mul-count-for c = search needs
+
+shared-slice-read-count-for : tie.Need-shared-slice-read-count-for Inv-loop μ-loop
+shared-slice-read-count-for c = search needs
+
+count-for-requires : tie.Need-count-for-requires Inv-loop μ-loop
+count-for-requires c κs = search needs
+
+larger-requires : tie.Need-larger-requires Inv-loop μ-loop
+larger-requires c κs = search needs
+
+add-i : tie.Need-add-i Inv-loop μ-loop
+add-i c = search needs
+
+loop-less : tie.Need-loop-less Inv-loop μ-loop
+loop-less c = search needs
+
+loop-again : tie.Need-loop-again Inv-loop μ-loop
+loop-again c =
+    let items = c .before .before .before .before .before .before .args .items .now in
+    let l = c .before .before .before .before .loop in
+    let one = c .before .count-for in (
+      omega arith,
+      λ count. ap (λ m. leb m count) (c .larger .ensures) ∙ leb-max (l .most) (one .result) count ∙ all-below-step (λ k. itemFits count (getD items k 0)) (l .i) (l .inv .1 count) (one .ensures count),
+    )
+
+returns : tie.Need-returns Inv-loop μ-loop
+returns c =
+    let items = c .before .before .before .args .items .now in
+    let l = c .before .loop in
+    λ count. l .inv .1 count ∙ ap (λ k. all (λ j. itemFits count (getD items j 0)) (upTo k)) (omega arith)
+
+pub count-for-all-spec : {M : Type 1} → statement M
+count-for-all-spec =
+    tie.close
+    (tie.spec
+    Inv-loop
+    μ-loop
+    loop-holds
+    mul-count-for
+    shared-slice-read-count-for
+    count-for-requires
+    larger-requires
+    add-i
+    loop-less
+    loop-again
+    returns)

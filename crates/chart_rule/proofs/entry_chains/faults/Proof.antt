@@ -1,0 +1,111 @@
+use mathlib.Core.Path.{_≡_, sym, _∙_, ap}
+use Prim.Native.Nat.{_≤_, _-_}
+use native.Mathlib.Omega.{arith}
+use borrow.Author.Needs.{needs}
+use lib.Dec.{leb, eqb, leb→le}
+use lib.ListN.{getD}
+use Rattle.theory_lists.specs.Lists.{all, upTo}
+use Rattle.theory_lists.proofs.IndexLaws.{all-below-none, all-below-step, all-below-at}
+use Rattle.spec_squares.specs.Square.{depth}
+use Rattle.chart_links.specs.Links.{linkedAt, entryAt}
+use Rattle.base_geometry.proofs.BitLaws.{or-zero}
+use Rattle.chart_rule.proofs.entry_chains.faults.Statement.{statement}
+use Rattle.chart_rule.proofs.entry_chains.faults.Tie as tie
+
+abbrev Inv-loop : tie.InvT-loop
+Inv-loop keys levels items next-keys next-levels next-items n found₀ i₀ found i =
+    (i ≤ n)
+    × (eqb found 0 ≡ all (λ k. linkedAt keys levels items next-keys next-levels next-items k) (upTo i))
+
+abbrev μ-loop : tie.MeasureT-loop
+μ-loop keys levels items next-keys next-levels next-items n found₀ i₀ found i = n - i
+
+loop-holds : tie.Need-loop-holds Inv-loop μ-loop
+loop-holds c =
+    let a = c .before .before .before .before .before .before .args in
+    (search needs, sym (all-below-none (λ k. linkedAt (a .keys .now) (a .levels .now) (a .items .now) (a .next-keys .now) (a .next-levels .now) (a .next-items .now) k)))
+
+mul-fault : tie.Need-mul-fault Inv-loop μ-loop
+mul-fault c = search needs
+
+shared-slice-read-fault : tie.Need-shared-slice-read-fault Inv-loop μ-loop
+shared-slice-read-fault c = search needs
+
+shared-slice-read-fault-2 : tie.Need-shared-slice-read-fault-2 Inv-loop μ-loop
+shared-slice-read-fault-2 c = search needs
+
+mul-fault-2 : tie.Need-mul-fault-2 Inv-loop μ-loop
+mul-fault-2 c = search needs
+
+shared-slice-read-fault-3 : tie.Need-shared-slice-read-fault-3 Inv-loop μ-loop
+shared-slice-read-fault-3 c = search needs
+
+mul-fault-3 : tie.Need-mul-fault-3 Inv-loop μ-loop
+mul-fault-3 c = search needs
+
+shared-slice-read-fault-4 : tie.Need-shared-slice-read-fault-4 Inv-loop μ-loop
+shared-slice-read-fault-4 c = search needs
+
+shared-slice-read-fault-5 : tie.Need-shared-slice-read-fault-5 Inv-loop μ-loop
+shared-slice-read-fault-5 c = search needs
+
+mul-fault-4 : tie.Need-mul-fault-4 Inv-loop μ-loop
+mul-fault-4 c = search needs
+
+shared-slice-read-fault-6 : tie.Need-shared-slice-read-fault-6 Inv-loop μ-loop
+shared-slice-read-fault-6 c = search needs
+
+fault-requires : tie.Need-fault-requires Inv-loop μ-loop
+fault-requires c κs =
+    let top = c .before .before .before .before .before .before .before .before .before .before .before .before .before .before in
+    let levels = top .args .levels .now in
+    let i = c .before .before .before .before .before .before .before .loop .i in
+    leb→le (getD levels i 0) depth (all-below-at (λ k. leb (getD levels k 0) depth) (top .pre .1 .1) (c .before .before .before .before .before .before .loop-test .taken))
+
+add-i : tie.Need-add-i Inv-loop μ-loop
+add-i c = search needs
+
+loop-less : tie.Need-loop-less Inv-loop μ-loop
+loop-less c = search needs
+
+loop-again : tie.Need-loop-again Inv-loop μ-loop
+unfolding entryAt
+loop-again c =
+    let a = c .before .before .before .before .before .before .before .before .before .before .before .before .before .before .before .args in
+    let l = c .before .before .before .before .before .before .before .before .loop in (
+      omega arith,
+      or-zero (l .found) (c .fault .result)
+          ∙ all-below-step
+          (λ k. linkedAt (a .keys .now) (a .levels .now) (a .items .now) (a .next-keys .now) (a .next-levels .now) (a .next-items .now) k)
+          (l .i) (l .inv .1) (c .fault .ensures),
+    )
+
+returns : tie.Need-returns Inv-loop μ-loop
+returns c =
+    let a = c .before .before .before .before .before .before .before .before .args in
+    let l = c .before .loop in
+    l .inv .1
+    ∙ ap (λ m. all (λ k. linkedAt (a .keys .now) (a .levels .now) (a .items .now) (a .next-keys .now) (a .next-levels .now) (a .next-items .now) k) (upTo m)) (omega arith)
+
+pub faults-spec : {M : Type 1} → statement M
+faults-spec =
+    tie.close
+    (tie.spec
+    Inv-loop
+    μ-loop
+    loop-holds
+    mul-fault
+    shared-slice-read-fault
+    shared-slice-read-fault-2
+    mul-fault-2
+    shared-slice-read-fault-3
+    mul-fault-3
+    shared-slice-read-fault-4
+    shared-slice-read-fault-5
+    mul-fault-4
+    shared-slice-read-fault-6
+    fault-requires
+    add-i
+    loop-less
+    loop-again
+    returns)

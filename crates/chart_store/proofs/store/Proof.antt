@@ -1,0 +1,79 @@
+-- The entries are built first, and the table is written only where they fit: a refusal leaves all as it was.
+use native.Mathlib.Omega.{arith}
+use borrow.Author.Needs.{needs}
+use Rattle.spec_charts.specs.Refusals.{outcomeNumber, outcomeValue}
+use Rattle.spec_calls.specs.Buffers.{Chart, chartOf}
+use Rattle.spec_calls.specs.Calls.{changedBy}
+use Rattle.laws_calls.proofs.BufferLaws.{long-enough}
+use Rattle.chart_store.proofs.StoreLaws.{store-many, store-done}
+use Rattle.chart_store.proofs.store.Statement.{statement}
+use Rattle.chart_store.proofs.store.Tie as tie
+
+-- the chart lent
+abbrev chart : tie.Start → Chart
+chart c =
+    let a = c .args in chartOf (a .table .now) (a .keys .now) (a .levels .now) (a .items .now) (a .triangles) (a .entries)
+
+build-into-requires : tie.Need-build-into-requires
+build-into-requires c κs =
+    let top = c .before .before .before .before .before .before .before .before in
+    let long = long-enough (chart top) (top .pre .1) in (top .pre .0, (long .keys, (long .levels, long .items)))
+
+same-length : tie.Need-same-length
+same-length c = search needs
+
+same-length-2 : tie.Need-same-length-2
+same-length-2 c = search needs
+
+same-length-3 : tie.Need-same-length-3
+same-length-3 c = search needs
+
+returns : tie.Need-returns
+unfolding changedBy outcomeNumber outcomeValue
+returns c =
+    let top = c .before .before .before .before .before .before .before .before .before .before .before .before .before .before .before .before in
+    store-many (top .args .proposed .now) (top .args .n) (top .pre .0 .0 .1) (chart top) (c .before .before .before .before .before .before .before .build-into .ensures) (omega (arith, c .if1 .taken))
+
+mul-put-table : tie.Need-mul-put-table
+mul-put-table c = search needs
+
+put-table-requires : tie.Need-put-table-requires
+put-table-requires c κs =
+    let top = c .before .before .before .before .before .before .before .before .before .before .before .before .before .before .before .before .before in
+    (omega (arith, top .pre .0 .0 .1), (omega (arith, top .pre .0 .0 .0), long-enough (chart top) (top .pre .1) .table))
+
+same-length-4 : tie.Need-same-length-4
+same-length-4 c = search needs
+
+same-length-5 : tie.Need-same-length-5
+same-length-5 c = search needs
+
+same-length-6 : tie.Need-same-length-6
+same-length-6 c = search needs
+
+same-length-7 : tie.Need-same-length-7
+same-length-7 c = search needs
+
+returns-2 : tie.Need-returns-2
+unfolding changedBy outcomeNumber outcomeValue
+returns-2 c =
+    let top = c .before .before .before .before .before .before .before .before .before .before .before .before .before .before .before .before .before .before .before .before in
+    store-done (top .args .proposed .now) (top .args .n) (top .pre .0 .0 .1) (chart top) (c .before .before .before .before .before .before .before .before .before .before .before .build-into .ensures)
+    (omega (arith, c .before .before .before .before .if1 .left)) (c .before .before .put-table .ensures)
+
+pub store-spec : {M : Type 1} → statement M
+store-spec =
+    tie.close
+    (tie.spec
+    build-into-requires
+    same-length
+    same-length-2
+    same-length-3
+    returns
+    mul-put-table
+    put-table-requires
+    same-length-4
+    same-length-5
+    same-length-6
+    same-length-7
+    returns-2)

@@ -1,0 +1,118 @@
+-- What a flip comes to, by its tests; and the table that its rows make.
+-- Assumes nothing.
+use mathlib.Core.Path.{_≡_, refl, sym, _∙_, ap, ap₂}
+use mathlib.Core.Bool.{true, false, _&&_, _||_}
+use mathlib.Core.List.{List, _∷_}
+use mathlib.Core.Logic.{inl, inr}
+use mathlib.Core.Option.{none, some}
+use Prim.Native.Nat.{ℕ, _+_, _*_, _≤_, _<_}
+use native.Mathlib.Omega.{arith}
+use lib.Dec.{T, leb}
+use lib.ListN.{length, set, drop}
+use Rattle.theory_lists.specs.Lists.{first}
+use Rattle.theory_lists.proofs.Reflects.{reflects-or, reflects-leb}
+use Rattle.spec_plane.specs.declared.Point.{Point}
+use Rattle.spec_plane.specs.Triangle.{Triangle, triangleOf, corners, rotated, proper}
+use Rattle.spec_charts.specs.Table.{numbersPerTriangle, Table, triangleAt, tableOf}
+use Rattle.spec_charts.specs.Refusals.{refused, done, refuseIf, noSuchTriangle, noFlip}
+use Rattle.spec_charts.specs.Edits.{triangle, rotations, sharesSide, flipAs, flipWith, flipAmong, flipTable}
+use Rattle.laws_charts.proofs.TableLaws.{tableOf-length, numbered-at}
+use Rattle.edit_rows.proofs.RowLaws.{withRow, rows-set}
+use Rattle.edit_rows.proofs.CopyLaws.{triangle-read}
+use Rattle.edit_flip.proofs.RotationSteps.{rotation-cons, rotations-end}
+
+-- ---- flip
+
+module _ (table : Table) (i j : ℕ) (us : List Triangle) where
+  -- the first rotation shares a side
+  shared : (x u : Triangle) (l : List Triangle) → first (λ v. sharesSide x v) us ≡ some u
+      → flipAmong table i j us (x ∷ l) ≡ flipAs table i j x u
+  unfolding flipAmong flipWith
+  shared x u l e = rw e
+
+  -- the first rotation shares none
+  unshared : (x : Triangle) (l : List Triangle) → first (λ v. sharesSide x v) us ≡ none
+      → flipAmong table i j us (x ∷ l) ≡ flipAmong table i j us l
+  unfolding flipAmong flipWith
+  unshared x l e = rw e
+
+  -- rotations before number k share no side with the other triangle
+  pub record Tried (t : List Point) (k : ℕ) : Type 0 where
+    pub high : k ≤ 3
+    pub same : flipAmong table i j us (rotations (triangleOf t)) ≡ flipAmong table i j us (drop k (rotations (triangleOf t)))
+
+  module _ (t : List Point) where
+    -- none is tried yet
+    pub tried-start : Tried t 0
+    tried-start = record { high = omega arith; same = refl }
+
+    -- rotation k shares one
+    pub tried-hit : (k : ℕ) (u : Triangle) → Tried t k → k < 3 → first (λ v. sharesSide (triangleOf (rotated t k)) v) us ≡ some u
+        → flipAmong table i j us (rotations (triangleOf t)) ≡ flipAs table i j (triangleOf (rotated t k)) u
+    tried-hit k u m h e =
+        m .same ∙ ap (flipAmong table i j us) (rotation-cons t k h)
+        ∙ shared (triangleOf (rotated t k)) u (drop (k + 1) (rotations (triangleOf t))) e
+
+    -- rotation k shares none
+    pub tried-next : (k : ℕ) → Tried t k → k < 3 → first (λ v. sharesSide (triangleOf (rotated t k)) v) us ≡ none → Tried t (k + 1)
+    tried-next k m h e =
+        record {
+          high = omega arith;
+          same =
+              m .same ∙ ap (flipAmong table i j us) (rotation-cons t k h)
+              ∙ unshared (triangleOf (rotated t k)) (drop (k + 1) (rotations (triangleOf t))) e;
+        }
+
+    -- no rotation does
+    pub tried-end : (k : ℕ) → Tried t k → 3 ≤ k → flipAmong table i j us (rotations (triangleOf t)) ≡ refused noFlip
+    unfolding flipAmong
+    tried-end k m h = m .same ∙ ap (flipAmong table i j us) (rotations-end (triangleOf t) k h (m .high))
+
+-- both triangles are there
+pub neither-over : (n i j : ℕ) → leb n i || leb n j ≡ false → (i < n) × (j < n)
+neither-over n i j e =
+    let b = reflects-or (reflects-leb n i) (reflects-leb n j) in
+    let none : T (leb n i || leb n j) → ⊥ = λ t. rw e at t in
+    let bi : n ≤ i → ⊥ = λ h. none (b .from (inl h)) in
+    let bj : n ≤ j → ⊥ = λ h. none (b .from (inr h)) in
+    (omega arith, omega arith)
+
+module _ (ns : List ℕ) (n i j : ℕ) where
+  -- refusal 6
+  pub flip-beyond : leb n i || leb n j ≡ true → flipTable i j (tableOf ns n) ≡ refused noSuchTriangle
+  unfolding flipTable refuseIf
+  flip-beyond e = rw (tableOf-length ns n, e)
+
+  -- the triangles by their rotations
+  pub flip-within : leb n i || leb n j ≡ false
+      → flipTable i j (tableOf ns n) ≡ flipAmong (tableOf ns n) i j (rotations (triangleAt ns j)) (rotations (triangleAt ns i))
+  unfolding flipTable refuseIf
+  flip-within e =
+      let b = neither-over n i j e in rw (tableOf-length ns n, e, numbered-at ns n i (b .0), numbered-at ns n j (b .1))
+
+-- the same, of the arrays of corners that code reads
+pub flip-begun : (ns : List ℕ) (n i j : ℕ) {s u : List Point} → s ≡ corners (triangleAt ns i) → u ≡ corners (triangleAt ns j)
+    → leb n i || leb n j ≡ false
+    → flipTable i j (tableOf ns n) ≡ flipAmong (tableOf ns n) i j (rotations (triangleOf u)) (rotations (triangleOf s))
+flip-begun ns n i j es eu e =
+    flip-within ns n i j e
+    ∙ ap₂ (λ v t. flipAmong (tableOf ns n) i j (rotations v) (rotations t)) (sym (triangle-read (triangleAt ns j) eu))
+    (sym (triangle-read (triangleAt ns i) es))
+
+-- refusal 9, at a shared side
+pub as-refused : (table : Table) (i j : ℕ) (t u : Triangle)
+    → proper (triangle (t .a) (u .c) (t .c)) && proper (triangle (u .c) (t .b) (t .c)) ≡ false → flipAs table i j t u ≡ refused noFlip
+unfolding flipAs refuseIf
+as-refused table i j t u e = rw e
+
+-- done
+pub as-made : (table : Table) (i j : ℕ) (t u : Triangle)
+    → proper (triangle (t .a) (u .c) (t .c)) && proper (triangle (u .c) (t .b) (t .c)) ≡ true
+    → flipAs table i j t u ≡ done (set (set table i (triangle (t .a) (u .c) (t .c))) j (triangle (u .c) (t .b) (t .c)))
+unfolding flipAs refuseIf
+as-made table i j t u e = rw e
+
+-- the second row of a flip
+pub second-row : (o₁ o₂ : List ℕ) (n j : ℕ) {t : Table} (y : Triangle) → j < n → numbersPerTriangle * n ≤ length o₁ → tableOf o₁ n ≡ t
+    → o₂ ≡ withRow o₁ j y → tableOf o₂ n ≡ set t j y
+second-row o₁ o₂ n j y h room e₁ e₂ = ap (λ l. tableOf l n) e₂ ∙ rows-set o₁ j n y h room ∙ ap (λ l. set l j y) e₁

@@ -1,0 +1,2 @@
+pub mod RotationSteps
+pub mod FlipSteps

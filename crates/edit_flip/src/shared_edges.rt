@@ -1,0 +1,32 @@
+// A side that two triangles share: the test, and the rotation that starts with it.
+
+use base_geometry::geometry;
+use spec_plane::Point;
+ghost use mathlib.Core.Path.{_≡_};
+ghost use mathlib.Core.Option.{none, some};
+ghost use Prim.Native.Nat.{_≤_, _<_};
+ghost use Rattle.theory_lists.specs.Lists.{first as Lists·first};
+ghost use Rattle.spec_plane.specs.Triangle.{triangleOf, rotated as Triangle·rotated};
+ghost use Rattle.spec_charts.specs.Edits.{rotations, sharesSide};
+
+// The side ab of s is the side ba of u.
+fn shares_side(s: [Point; 3], u: [Point; 3]) -> bool
+    ensures { λ o. ⌜ o ≡ sharesSide (triangleOf s) (triangleOf u) ⌝ }
+{
+    edit_rows::same_point(s[0], u[1]) & edit_rows::same_point(s[1], u[0])
+}
+
+// The first rotation of u that shares the side ab of s; 3 if there is none.
+pub fn sharing_rotation(s: [Point; 3], u: [Point; 3]) -> usize
+    ensures { λ r. ⌜ (r < 3 → Lists·first (λ v. sharesSide (triangleOf s) v) (rotations (triangleOf u)) ≡ some (triangleOf (Triangle·rotated u r))) ⌝ }
+    ensures { λ r. ⌜ (3 ≤ r → Lists·first (λ v. sharesSide (triangleOf s) v) (rotations (triangleOf u)) ≡ none) ⌝ }
+{
+    let mut k = 0;
+    while k < 3 {
+        if shares_side(s, geometry::rotated(u, k)) {
+            return k;
+        }
+        k += 1;
+    }
+    3
+}

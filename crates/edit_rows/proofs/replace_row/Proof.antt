@@ -1,0 +1,17 @@
+use native.Mathlib.Omega.{arith}
+use Rattle.spec_plane.specs.Triangle.{triangleOf}
+use Rattle.edit_rows.proofs.CopyLaws.{row-replaced}
+use borrow.Author.Needs.{needs}
+use Rattle.edit_rows.proofs.replace_row.Statement.{statement}
+use Rattle.edit_rows.proofs.replace_row.Tie as tie
+
+returns : tie.Need-returns
+returns c =
+    let top = c .before .before .before .before .before .before .before .before .before .before in
+    let a = top .args in
+    row-replaced (a .table .now) (a .out .now) (c .before .before .before .before .before .before .append-rows .last .1 .1 .1 .0) (c .before .before .put-triangle .last .0) (a .n) (a .i) (triangleOf (a .x)) (top .pre .0 .0) (omega arith)
+    (c .before .before .before .before .before .before .append-rows .ensures) (c .before .before .put-triangle .ensures)
+
+pub replace-row-spec : {M : Type 1} → statement M
+replace-row-spec =
+    tie.close (tie.spec (λ c κs. search needs) (λ c κs. search needs) (λ c. search needs) returns)

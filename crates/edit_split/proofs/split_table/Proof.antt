@@ -1,0 +1,83 @@
+use mathlib.Core.Path.{sym, _∙_, ap}
+use native.Mathlib.Omega.{arith}
+use borrow.Author.Tests.{not-true, not-false}
+use Rattle.spec_plane.specs.Triangle.{strictlyInside}
+use Rattle.spec_charts.specs.Table.{triangleAt, tableOf}
+use Rattle.spec_charts.specs.Refusals.{done}
+use Rattle.spec_charts.specs.Edits.{splitAt}
+use Rattle.edit_rows.proofs.CopyLaws.{triangle-read}
+use Rattle.edit_split.proofs.SplitLaws.{split-beyond, split-outside, split-full, split-made}
+use borrow.Author.Needs.{needs}
+use Rattle.edit_split.proofs.split_table.Statement.{statement}
+use Rattle.edit_split.proofs.split_table.Tie as tie
+
+returns : tie.Need-returns
+returns c =
+    let a = c .before .before .before .args in
+    (sym (split-beyond (a .table .now) (a .n) (a .i) (a .p) (c .if1 .taken)), omega arith)
+
+triangle-at-requires : tie.Need-triangle-at-requires
+triangle-at-requires c κs = search needs
+
+is-strictly-inside-requires : tie.Need-is-strictly-inside-requires
+is-strictly-inside-requires c κs = search needs
+
+returns-2 : tie.Need-returns-2
+returns-2 c =
+    let a = c .before .before .before .before .before .before .args in
+    let t = triangleAt (a .table .now) (a .i) in
+    let test = c .before .is-strictly-inside .ensures ∙ ap (λ u. strictlyInside u (a .p)) (triangle-read t (c .before .before .triangle-at .ensures)) in (
+      sym (split-outside (a .table .now) (a .n) (a .i) (a .p) (omega (arith, c .before .before .before .if1 .left))
+          (sym test ∙ not-true (c .before .is-strictly-inside .result) (c .if2 .taken))),
+      omega arith,
+    )
+
+add-if3 : tie.Need-add-if3
+add-if3 c = search needs
+
+returns-3 : tie.Need-returns-3
+returns-3 c =
+    let a = c .before .before .before .before .before .before .before .args in
+    let t = triangleAt (a .table .now) (a .i) in
+    let test = c .before .before .is-strictly-inside .ensures ∙ ap (λ u. strictlyInside u (a .p)) (triangle-read t (c .before .before .before .triangle-at .ensures)) in (
+      sym (split-full (a .table .now) (a .n) (a .i) (a .p) (omega (arith, c .before .before .before .before .if1 .left))
+          (sym test ∙ not-false (c .before .before .is-strictly-inside .result) (c .before .if2 .left)) (c .if3 .taken)),
+      omega arith,
+    )
+
+put-split-requires : tie.Need-put-split-requires
+put-split-requires c κs = search needs
+
+add-t9 : tie.Need-add-t9
+add-t9 c = search needs
+
+same-length : tie.Need-same-length
+same-length c = search needs
+
+returns-4 : tie.Need-returns-4
+returns-4 c =
+    let a = c .before .before .before .before .before .before .before .before .before .before .before .args in
+    let ns = a .table .now in
+    let t = triangleAt ns (a .i) in
+    let read = triangle-read t (c .before .before .before .before .before .before .before .triangle-at .ensures) in
+    let test = c .before .before .before .before .before .before .is-strictly-inside .ensures ∙ ap (λ u. strictlyInside u (a .p)) read in (
+      ap done (c .before .before .put-split .ensures ∙ ap (λ u. splitAt (tableOf ns (a .n)) (a .i) u (a .p)) read)
+          ∙ sym (split-made ns (a .n) (a .i) (a .p) (omega (arith, c .before .before .before .before .before .before .before .before .if1 .left))
+          (sym test ∙ not-false (c .before .before .before .before .before .before .is-strictly-inside .result) (c .before .before .before .before .before .if2 .left)) (omega (arith, c .before .before .before .before .if3 .left))),
+      omega (arith, c .before .before .before .before .if3 .left),
+    )
+
+pub split-table-spec : {M : Type 1} → statement M
+split-table-spec =
+    tie.close
+    (tie.spec
+    returns
+    triangle-at-requires
+    is-strictly-inside-requires
+    returns-2
+    add-if3
+    returns-3
+    put-split-requires
+    add-t9
+    same-length
+    returns-4)

@@ -1,0 +1,33 @@
+// Split: insertion of a vertex into a triangle of a plain table. The new table is written into a scratch table.
+
+mod triangle_split;
+
+use base_geometry::geometry;
+use edit_rows::Edited;
+use spec_plane::Point;
+ghost use mathlib.Core.Path.{_≡_};
+ghost use Prim.Native.Nat.{_+_, _*_, _≤_};
+ghost use lib.ListN.{length};
+ghost use Rattle.spec_charts.specs.Table.{numbersPerTriangle, maxTriangles, tableLength, tableOf};
+ghost use Rattle.spec_charts.specs.Edits.{splitTable};
+ghost use Rattle.edit_rows.specs.Edited.{editedOutcome, editedCount};
+
+// Split: triangle i at p.
+pub fn split_table(table: &[u16], n: usize, i: usize, p: Point, out: &mut [u16]) -> Edited
+    requires { ⌜ (n ≤ maxTriangles) × ((numbersPerTriangle * n ≤ length (now table)) × (tableLength ≤ length (now out))) ⌝ }
+    ensures { λ r. ⌜ editedOutcome r (now (out .exit)) ≡ splitTable i p (tableOf (now (table .entry)) n) ⌝ }
+    ensures { λ r. ⌜ editedCount r ≤ maxTriangles ⌝ }
+{
+    if i >= n {
+        return Edited::NoSuchTriangle;
+    }
+    let s = base_tables::triangle_at(table, i);
+    if !geometry::is_strictly_inside(s, p) {
+        return Edited::NotInside;
+    }
+    if n + 2 > base_tables::MOST_TRIANGLES {
+        return Edited::TableFull;
+    }
+    triangle_split::put_split(table, n, i, s, p, out);
+    Edited::Made(n + 2)
+}

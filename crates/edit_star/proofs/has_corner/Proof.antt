@@ -1,0 +1,23 @@
+use mathlib.Core.Path.{ap₂}
+use mathlib.Core.Bool.{_||_}
+use Rattle.spec_plane.specs.Triangle.{triangleOf, cornerAt}
+use Rattle.spec_charts.specs.Edits.{hasCorner}
+use borrow.Author.Needs.{needs}
+use Rattle.edit_star.proofs.has_corner.Statement.{statement}
+use Rattle.edit_star.proofs.has_corner.Tie as tie
+
+returns : tie.Need-returns
+unfolding hasCorner triangleOf cornerAt
+returns c = ap₂ _||_ (ap₂ _||_ (c .before .before .before .before .same-point .ensures) (c .before .before .same-point2 .ensures)) (c .same-point3 .ensures)
+
+pub has-corner-spec : {M : Type 1} → statement M
+has-corner-spec =
+    tie.close
+    (tie.spec
+    (λ c. search needs)
+    (λ c κs. search needs)
+    (λ c. search needs)
+    (λ c κs. search needs)
+    (λ c. search needs)
+    (λ c κs. search needs)
+    returns)

@@ -1,0 +1,21 @@
+use mathlib.Core.Path.{_∙_, ap}
+use Rattle.spec_charts.specs.Table.{triangleAt}
+use Rattle.spec_charts.specs.Edits.{endingIn}
+use Rattle.edit_rows.proofs.CopyLaws.{triangle-read}
+use borrow.Author.Needs.{needs}
+use Rattle.edit_star.proofs.row_ending_in.Statement.{statement}
+use Rattle.edit_star.proofs.row_ending_in.Tie as tie
+
+triangle-at-requires : tie.Need-triangle-at-requires
+triangle-at-requires c κs = search needs
+
+ending-in-requires : tie.Need-ending-in-requires
+ending-in-requires c κs = search needs
+
+returns : tie.Need-returns
+returns c =
+    let a = c .before .before .before .args in
+    c .ending-in .ensures ∙ ap (endingIn (a .p)) (triangle-read (triangleAt (a .table .now) (a .i)) (c .before .triangle-at .ensures))
+
+pub row-ending-in-spec : {M : Type 1} → statement M
+row-ending-in-spec = tie.close (tie.spec triangle-at-requires ending-in-requires returns)

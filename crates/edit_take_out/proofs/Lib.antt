@@ -1,0 +1,2 @@
+pub mod MergeRows
+pub mod TakeOutSteps

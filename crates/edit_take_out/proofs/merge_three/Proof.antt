@@ -1,0 +1,67 @@
+use mathlib.Core.Path.{sym, _∙_, ap, ap₂}
+use mathlib.Core.Bool.{cond, _||_}
+use native.Mathlib.Omega.{arith}
+use borrow.Author.Tests.{not-true, not-false}
+use Rattle.spec_plane.specs.Triangle.{triangleOf}
+use Rattle.spec_charts.specs.Table.{tableOf}
+use Rattle.spec_charts.specs.Refusals.{done}
+use Rattle.spec_charts.specs.Edits.{triangle, mergeAround}
+use Rattle.edit_take_out.proofs.MergeRows.{merge-made, merge-refused}
+use borrow.Author.Needs.{needs}
+use Rattle.edit_take_out.proofs.merge_three.Statement.{statement}
+use Rattle.edit_take_out.proofs.merge_three.Tie as tie
+
+closes-round-requires : tie.Need-closes-round-requires
+closes-round-requires c κs = search needs
+
+closes-round-requires-2 : tie.Need-closes-round-requires-2
+closes-round-requires-2 c κs = search needs
+
+returns : tie.Need-returns
+returns c =
+    let a = c .before .before .before .before .before .args in
+    let either = ap₂ _||_ (c .before .before .closes-round .ensures) (c .before .closes-round2 .ensures) in (
+      sym (merge-refused (tableOf (a .table .now) (a .n)) (a .i) (a .j) (a .k) (triangleOf (a .s)) (triangleOf (a .u)) (triangleOf (a .v))
+          (sym either ∙ not-true (c .before .before .closes-round .result || c .before .closes-round2 .result) (c .if1 .taken))),
+      omega arith,
+    )
+
+merged-requires : tie.Need-merged-requires
+merged-requires c κs = search needs
+
+put-merged-requires : tie.Need-put-merged-requires
+put-merged-requires c κs = search needs
+
+sub-t18 : tie.Need-sub-t18
+sub-t18 c = search needs
+
+same-length : tie.Need-same-length
+same-length c = search needs
+
+returns-2 : tie.Need-returns-2
+returns-2 c =
+    let a = c .before .before .before .before .before .before .before .before .before .before .args in
+    let table = tableOf (a .table .now) (a .n) in
+    let s = triangleOf (a .s) in
+    let u = triangleOf (a .u) in
+    let v = triangleOf (a .v) in
+    let either = ap₂ _||_ (c .before .before .before .before .before .before .before .closes-round .ensures) (c .before .before .before .before .before .before .closes-round2 .ensures) in
+    let merged = c .before .before .before .before .merged .ensures ∙ ap (λ z. triangle (s .a) (s .b) (cond z (u .b) (v .b))) (c .before .before .before .before .before .before .before .closes-round .ensures) in (
+      ap done (c .before .before .put-merged .ensures ∙ ap (mergeAround table (a .i) (a .j) (a .k)) merged)
+          ∙ sym (merge-made table (a .i) (a .j) (a .k) s u v
+          (sym either ∙ not-false (c .before .before .before .before .before .before .before .closes-round .result || c .before .before .before .before .before .before .closes-round2 .result) (c .before .before .before .before .before .if1 .left))),
+      omega (arith, c .before .before .before .before .before .before .before .before .before .before .pre .1 .0),
+    )
+
+pub merge-three-spec : {M : Type 1} → statement M
+merge-three-spec =
+    tie.close
+    (tie.spec
+    closes-round-requires
+    closes-round-requires-2
+    returns
+    merged-requires
+    put-merged-requires
+    sub-t18
+    same-length
+    returns-2)

@@ -1,0 +1,26 @@
+use mathlib.Core.Path.{ap₂}
+use mathlib.Core.Bool.{_&&_}
+use Rattle.spec_plane.specs.Triangle.{triangleOf, cornerAt}
+use Rattle.spec_charts.specs.Edits.{closesRound}
+use borrow.Author.Needs.{needs}
+use Rattle.edit_take_out.proofs.triangle_merge.closes_round.Statement.{statement}
+use Rattle.edit_take_out.proofs.triangle_merge.closes_round.Tie as tie
+
+returns : tie.Need-returns
+unfolding closesRound triangleOf cornerAt
+returns c = ap₂ _&&_ (ap₂ _&&_ (c .before .before .before .before .before .before .same-point .ensures) (c .before .before .before .same-point2 .ensures)) (c .same-point3 .ensures)
+
+pub closes-round-spec : {M : Type 1} → statement M
+closes-round-spec =
+    tie.close
+    (tie.spec
+    (λ c. search needs)
+    (λ c. search needs)
+    (λ c κs. search needs)
+    (λ c. search needs)
+    (λ c. search needs)
+    (λ c κs. search needs)
+    (λ c. search needs)
+    (λ c. search needs)
+    (λ c κs. search needs)
+    returns)

@@ -1,0 +1,138 @@
+-- An accepted event leaves a table of document 01: at most 512 triangles, each with D > 0 and of 16-bit numbers. So the plain
+-- table is one after any list of events.
+-- The idea: the parts of a split and of a flip are tested, three triangles around a point make one with their areas' sum, and
+-- no edit makes a coordinate, but for a split's point, which is inside a triangle.
+-- Assumes nothing.
+use mathlib.Core.Path.{_≡_, refl, subst}
+use mathlib.Core.List.{List, [], _∷_}
+use mathlib.Core.Logic.{inl, inr}
+use Prim.Native.Nat.{ℕ, _<_}
+use native.Mathlib.Omega.{arith}
+use lib.Dec.{T, ltb}
+use lib.ListN.{length, set, length-append, length-set}
+use Rattle.theory_lists.specs.Lists.{all}
+use Rattle.theory_lists.proofs.Reflects.{reflects-test}
+use Rattle.theory_lists.proofs.ListsLaws.{Every, every-cons, every-uncons, all-reflects, getD-member}
+use Rattle.theory_lists.proofs.EveryLaws.{every-nil, every-append}
+use Rattle.theory_lists.proofs.EditedLists.{every-set}
+use Rattle.spec_plane.specs.declared.Point.{Point}
+use Rattle.spec_plane.specs.Triangle.{Triangle, proper}
+use Rattle.spec_plane.proofs.ExtremeLaws.{OnGrid}
+use Rattle.spec_charts.specs.Table.{Table, IsTable, numbered, noTriangle}
+use Rattle.spec_charts.specs.Cells.{entriesOf, maxEntries}
+use Rattle.spec_charts.specs.Refusals.{Outcome, refused, done, andThen, doneOr, tooManyEntries}
+use Rattle.spec_charts.specs.Edits.{Event, load, split, takeOut, flip, triangle, rotations, hasCorner, splitAt, endingIn, sixteenBitEvent, proposed, limited, withinLimit, eventOn, afterEvent, afterEvents, plainTable}
+use Rattle.laws_charts.proofs.TriangleLaws.{proper-rotate, inside-parts}
+use Rattle.laws_charts.proofs.RotationLaws.{rotations-every, endingIn-rotation}
+use Rattle.laws_charts.proofs.LoadTable.{load-table}
+use Rattle.laws_charts.proofs.MergeLaws.{taken-sum, merge-length, merge-every}
+use Rattle.laws_charts.proofs.GridLaws.{IsTriangle, table-proper, table-triangles, triangles-table, inside-grid}
+use Rattle.laws_charts.proofs.OutcomeLaws.{refused-done, refuseIf-done}
+use Rattle.laws_charts.proofs.EditLaws.{Split, split-done, mergedTriangle, TakenOut, takeOut-done}
+use Rattle.laws_charts.proofs.FlipLaws.{Flipped, flip-done}
+
+-- ---- triangles that edits make
+
+turn : (p q r : Point) → IsTriangle (triangle p q r) → IsTriangle (triangle q r p)
+unfolding triangle
+turn p q r h = record { oriented = rw (proper-rotate p q r) (h .oriented); a = h .b; b = h .c; c = h .a }
+
+-- a rotation of a triangle with D > 0 on the grid is one too
+rotation : (t : Triangle) → IsTriangle t → Every IsTriangle (rotations t)
+rotation t h = rotations-every IsTriangle turn t h
+
+made : (p q r : Point) → T (proper (triangle p q r)) → OnGrid p → OnGrid q → OnGrid r → IsTriangle (triangle p q r)
+unfolding triangle
+made p q r d a b c = record { oriented = d; a = a; b = b; c = c }
+
+module _ {table : Table} (h : IsTable table) where
+  good : Every IsTriangle table
+  good = table-triangles h
+
+  at : (i : ℕ) → i < length table → IsTriangle (numbered table i)
+  unfolding numbered
+  at i l = good _ (getD-member table i noTriangle l)
+
+  split-table : {next : Table} (t : ℕ) (p : Point) → Split t p table next → IsTable next
+  unfolding splitAt
+  split-table t p s =
+      let g = at t (s .below) in
+      let d = inside-parts (numbered table t) p (s .inside) in
+      let on = inside-grid (numbered table t) p g (s .inside) in
+      let room = s .room in
+      rw (s .is) (triangles-table (simp (length-append, length-set) (omega arith))
+      (every-append (set table t _) (every-set table t good (made _ _ p (d .0) (g .a) (g .b) on))
+      (every-cons (made _ _ p (d .1 .0) (g .b) (g .c) on, every-cons (made _ _ p (d .1 .1) (g .c) (g .a) on, every-nil IsTriangle)))))
+
+  ends : (p : Point) (i : ℕ) → i < length table → T (hasCorner p (numbered table i)) → IsTriangle (endingIn p (numbered table i))
+  ends p i l c = rotation (numbered table i) (at i l) _ (endingIn-rotation p (numbered table i) c .0)
+
+  takeOut-table : {next : Table} (p : Point) → TakenOut p table next → IsTable next
+  takeOut-table p s =
+      let ij = s .ij in
+      let jk = s .jk in
+      let below = s .below in
+      let t = ends p (s .i) (omega arith) (s .cornerI) in
+      let u = ends p (s .j) (omega arith) (s .cornerJ) in
+      let v = ends p (s .k) below (s .cornerK) in
+      let c : OnGrid (s .c) = elim (s .closed) [ inl e ↦ subst OnGrid (e .uc) (u .b) | inr e ↦ subst OnGrid (e .uc) (v .b) ] in
+      let m = made _ _ (s .c) (taken-sum s (table-proper h) .oriented) (t .a) (t .b) c in
+      let few = h .few in
+      let n = merge-length table (s .i) (s .j) (s .k) (mergedTriangle p (numbered table (s .i)) (s .c)) ij jk below in
+      rw (s .is) (triangles-table (omega arith) (merge-every table (s .i) (s .j) (s .k) _ ij jk below good m))
+
+  flip-table : {next : Table} (i j : ℕ) → Flipped i j table next → IsTable next
+  flip-table i j s =
+      let t = rotation (numbered table i) (at i (s .belowI)) (s .t) (s .rotationI) in
+      let u = rotation (numbered table j) (at j (s .belowJ)) (s .u) (s .rotationJ) in
+      let few = h .few in
+      rw (s .is) (triangles-table (simp length-set few)
+      (every-set (set table i _) j (every-set table i good (made _ _ _ (s .properI) (t .a) (u .c) (t .c)))
+      (made _ _ _ (s .properJ) (u .c) (t .b) (t .c))))
+
+-- ---- events
+
+-- the table that an event makes, before its entries are counted, is a table
+pub proposed-table : (e : Event) (table next : Table) → T (sixteenBitEvent e) → IsTable table → proposed e table ≡ done next → IsTable next
+unfolding sixteenBitEvent proposed
+proposed-table (load ns) table next w h e = load-table ns next w e
+proposed-table (split t p) table next w h e = split-table h t p (split-done t p table next e)
+proposed-table (takeOut p) table next w h e = takeOut-table h p (takeOut-done p table next e)
+proposed-table (flip i j) table next w h e = flip-table h i j (flip-done i j table next e)
+
+-- the table that an accepted event leaves is the one proposed
+pub event-proposed : (e : Event) (table next : Table) → eventOn e table ≡ done next → proposed e table ≡ done next
+unfolding eventOn andThen withinLimit limited
+event-proposed e table next h = go (proposed e table) h
+  where
+    go : (o : Outcome Table) → andThen o (λ t. withinLimit t) ≡ done next → o ≡ done next
+    go (refused r) h = absurd (refused-done h)
+    go (done t) h = refuseIf-done (ltb maxEntries (length (entriesOf t))) tooManyEntries h .1
+
+-- an accepted event leaves a table
+pub event-table : (e : Event) (table next : Table) → T (sixteenBitEvent e) → IsTable table → eventOn e table ≡ done next → IsTable next
+event-table e table next w h d = proposed-table e table next w h (event-proposed e table next d)
+
+-- a refused event changes nothing, so any event leaves a table
+pub after-event-table : (e : Event) (table : Table) → T (sixteenBitEvent e) → IsTable table → IsTable (afterEvent e table)
+unfolding afterEvent doneOr
+after-event-table e table w h = go (eventOn e table) (λ next d. event-table e table next w h d)
+  where
+    go : (o : Outcome Table) → ((next : Table) → o ≡ done next → IsTable next) → IsTable (doneOr table o)
+    go (refused r) f = h
+    go (done next) f = f next refl
+
+-- so does any list of events
+pub after-events-table : (es : List Event) (table : Table) → T (all (λ e. sixteenBitEvent e) es) → IsTable table → IsTable (afterEvents es table)
+unfolding afterEvents
+after-events-table [] table w h = h
+after-events-table (e ∷ es) table w h =
+    let g = every-uncons (all-reflects (λ e. sixteenBitEvent e) (λ e. reflects-test (sixteenBitEvent e)) (e ∷ es) .to w) in
+    after-events-table es (afterEvent e table)
+    (all-reflects (λ e. sixteenBitEvent e) (λ e. reflects-test (sixteenBitEvent e)) es .from (g .1))
+    (after-event-table e table (g .0) h)
+
+-- the plain table, which starts empty, is a table after any events
+pub plain-table : (es : List Event) → T (all (λ e. sixteenBitEvent e) es) → IsTable (plainTable es)
+unfolding plainTable
+plain-table es w = after-events-table es [] w (triangles-table (omega arith) (every-nil IsTriangle))

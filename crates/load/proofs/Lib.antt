@@ -1,2 +1,0 @@
-pub mod LoadLaws
-pub mod LoadIndexed

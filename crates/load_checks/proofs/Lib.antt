@@ -1,2 +1,0 @@
-pub mod FaultyLaws
-pub mod GivenLaws

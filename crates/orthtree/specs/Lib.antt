@@ -1,3 +1,0 @@
-pub mod Morton
-pub mod Leaves
-pub mod Entries

@@ -1,0 +1,22 @@
+-- The marked places of a row whose boxes overlap.
+-- Assumes nothing.
+use mathlib.Core.Bool.{Bool, _&&_}
+use mathlib.Core.List.{List}
+use Prim.Native.Nat.{ℕ, _+_, _*_}
+use lib.Dec.{ltb}
+use Rattle.spec_plane.specs.Box.{Box}
+use Rattle.spec_charts.specs.Table.{maxTriangles}
+use Rattle.base_boxes.specs.Boxes.{boxesOverlap, Compacted}
+use Rattle.overlay_marks.specs.Bits.{hasBit}
+
+-- triangles i and j are marked
+abbrev pub markedAt : List ℕ → ℕ → ℕ → Bool
+markedAt rows i j = hasBit rows (maxTriangles * i + j)
+
+-- triangle j may have a common interior point with triangle i, whose box is b: it is marked, its box overlaps b, and it is one of m
+abbrev pub isNear : Box → (ℕ → Box) → List ℕ → ℕ → ℕ → ℕ → Bool
+isNear b box rows m i j = markedAt rows i j && boxesOverlap b box j && ltb j m
+
+-- the first c numbers of a list are those below j, of row i
+abbrev pub NearInRow : Box → (ℕ → Box) → List ℕ → ℕ → ℕ → List ℕ → ℕ → ℕ → Type 0
+NearInRow b box rows m i near j c = Compacted (λ k. isNear b box rows m i k) near j c

@@ -1,0 +1,4 @@
+pub mod BitLaws
+pub mod BitsetsExamples
+pub mod SetLaws
+pub mod PairMarksExamples

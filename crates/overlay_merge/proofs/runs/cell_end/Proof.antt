@@ -1,0 +1,68 @@
+use Prim.Native.Nat.{_-_}
+use borrow.Author.Needs.{needs}
+use Rattle.overlay_merge.proofs.WalkLaws.{CellPassed, cell-start, cell-more, cell-met, cell-over}
+use Rattle.overlay_merge.proofs.runs.cell_end.Statement.{statement}
+use Rattle.overlay_merge.proofs.runs.cell_end.Tie as tie
+
+abbrev Inv-loop : tie.InvT-loop
+Inv-loop keys n a key r₀ r = CellPassed keys n a key r
+
+abbrev μ-loop : tie.MeasureT-loop
+μ-loop keys n a key r₀ r = n - r
+
+mul-key : tie.Need-mul-key Inv-loop μ-loop
+mul-key c = search needs
+
+shared-slice-read-key : tie.Need-shared-slice-read-key Inv-loop μ-loop
+shared-slice-read-key c = search needs
+
+add-r : tie.Need-add-r Inv-loop μ-loop
+add-r c = search needs
+
+loop-holds : tie.Need-loop-holds Inv-loop μ-loop
+loop-holds c = let a = c .before .args in cell-start (a .keys .now) (a .n) (a .a) (c .before .pre .0)
+
+mul-if1 : tie.Need-mul-if1 Inv-loop μ-loop
+mul-if1 c = search needs
+
+shared-slice-read-if1 : tie.Need-shared-slice-read-if1 Inv-loop μ-loop
+shared-slice-read-if1 c = search needs
+
+returns : tie.Need-returns Inv-loop μ-loop
+returns c =
+    let a = c .before .before .before .before .before .args in
+    cell-met (a .keys .now) (a .n) (a .a) (c .before .before .before .loop .inv) (c .if1 .taken)
+
+add-r-2 : tie.Need-add-r-2 Inv-loop μ-loop
+add-r-2 c = search needs
+
+loop-less : tie.Need-loop-less Inv-loop μ-loop
+loop-less c = search needs
+
+loop-again : tie.Need-loop-again Inv-loop μ-loop
+loop-again c =
+    let a = c .before .before .before .before .before .args in
+    cell-more (a .keys .now) (a .n) (a .a) (c .before .before .before .loop .inv) (c .before .before .loop-test .taken) (c .if1 .left)
+
+returns-2 : tie.Need-returns-2 Inv-loop μ-loop
+returns-2 c =
+    let a = c .before .before .before .args in
+    cell-over (a .keys .now) (a .n) (a .a) (c .before .loop .inv) (c .loop-test .left)
+
+pub cell-end-spec : {M : Type 1} → statement M
+cell-end-spec =
+    tie.close
+    (tie.spec
+    Inv-loop
+    μ-loop
+    mul-key
+    shared-slice-read-key
+    add-r
+    loop-holds
+    mul-if1
+    shared-slice-read-if1
+    returns
+    add-r-2
+    loop-less
+    loop-again
+    returns-2)

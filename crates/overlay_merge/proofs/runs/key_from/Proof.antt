@@ -1,0 +1,28 @@
+use native.Mathlib.Omega.{arith}
+use borrow.Author.Tests.{lt-ltb, le-ltb}
+use Rattle.theory_orthtree.specs.Entries.{span}
+use Rattle.theory_orthtree.specs.KeyBlocks.{keyFrom}
+use borrow.Author.Needs.{needs}
+use Rattle.overlay_merge.proofs.runs.key_from.Statement.{statement}
+use Rattle.overlay_merge.proofs.runs.key_from.Tie as tie
+
+mul-result : tie.Need-mul-result
+mul-result c = search needs
+
+shared-slice-read-result : tie.Need-shared-slice-read-result
+shared-slice-read-result c = search needs
+
+cast-result : tie.Need-cast-result
+cast-result c = omega (arith, c .shared-slice-known .given (c .before .before .args .i))
+
+returns : tie.Need-returns
+unfolding keyFrom
+returns c = rw (lt-ltb (c .before .before .args .i) (c .before .before .args .n) (c .before .if1 .taken))
+
+returns-2 : tie.Need-returns-2
+unfolding keyFrom span
+returns-2 c = rw (le-ltb (c .before .args .i) (c .before .args .n) (c .if1 .left))
+
+pub key-from-spec : {M : Type 1} → statement M
+key-from-spec =
+    tie.close (tie.spec mul-result shared-slice-read-result cast-result returns returns-2)

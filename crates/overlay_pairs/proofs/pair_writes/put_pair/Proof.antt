@@ -1,0 +1,79 @@
+use mathlib.Core.Path.{sym, subst}
+use Prim.Native.Nat.{_+_, _*_}
+use native.Mathlib.Omega.{arith}
+use borrow.Author.Needs.{needs}
+use borrow.Author.Tests.{not-true, not-false}
+use lib.ListN.{set, length-set}
+use Rattle.spec_charts.specs.Overlay.{maxPairs}
+use Rattle.overlay_pairs.specs.Pairs.{pairIf, Wrote}
+use Rattle.overlay_pairs.proofs.WroteLaws.{wrote-none, wrote-full, wrote-one}
+use Rattle.overlay_pairs.proofs.pair_writes.put_pair.Statement.{statement}
+use Rattle.overlay_pairs.proofs.pair_writes.put_pair.Tie as tie
+
+returns : tie.Need-returns
+returns c =
+    let a = c .before .args in
+    let l = a .pairs .now in
+    subst (λ b. Wrote (pairIf b (a .i) (a .j)) (a .c) (a .c) l l) (sym (not-true (a .meet) (c .if1 .taken))) (wrote-none (a .c) l (c .before .pre .0))
+
+add-result : tie.Need-add-result
+add-result c = search needs
+
+returns-2 : tie.Need-returns-2
+returns-2 c =
+    let a = c .before .before .args in
+    let l = a .pairs .now in
+    subst (λ b. Wrote (pairIf b (a .i) (a .j)) (a .c) (maxPairs + 1) l l) (sym (not-false (a .meet) (c .before .if1 .left)))
+    (wrote-full (record { i = a .i; j = a .j }) (a .c) l (omega arith) (omega arith))
+
+mul-pairs : tie.Need-mul-pairs
+mul-pairs c = search needs
+
+mul-pairs-2 : tie.Need-mul-pairs-2
+mul-pairs-2 c = search needs
+
+slice-write-pairs : tie.Need-slice-write-pairs
+slice-write-pairs c = search needs
+
+mul-pairs-3 : tie.Need-mul-pairs-3
+mul-pairs-3 c = search needs
+
+add-pairs : tie.Need-add-pairs
+add-pairs c = search needs
+
+mul-pairs-4 : tie.Need-mul-pairs-4
+mul-pairs-4 c = search needs
+
+slice-write-pairs-2 : tie.Need-slice-write-pairs-2
+slice-write-pairs-2 c = simp length-set (omega arith)
+
+add-result-2 : tie.Need-add-result-2
+add-result-2 c = search needs
+
+same-length : tie.Need-same-length
+same-length c = search needs
+
+returns-3 : tie.Need-returns-3
+returns-3 c =
+    let a = c .before .before .args in
+    let l = a .pairs .now in
+    subst (λ b. Wrote (pairIf b (a .i) (a .j)) (a .c) (a .c + 1) l (set (set l (2 * a .c) (a .i)) (2 * a .c + 1) (a .j))) (sym (not-false (a .meet) (c .before .if1 .left)))
+    (wrote-one (record { i = a .i; j = a .j }) (a .c) l (omega arith))
+
+pub put-pair-spec : {M : Type 1} → statement M
+put-pair-spec =
+    tie.close
+    (tie.spec
+    returns
+    add-result
+    returns-2
+    mul-pairs
+    mul-pairs-2
+    slice-write-pairs
+    mul-pairs-3
+    add-pairs
+    mul-pairs-4
+    slice-write-pairs-2
+    add-result-2
+    same-length
+    returns-3)

@@ -1,2 +1,0 @@
-pub mod SetLaws
-pub mod Examples

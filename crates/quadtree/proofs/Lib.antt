@@ -1,4 +1,0 @@
-pub mod WalkLaws
-pub mod SquareWalk
-pub mod WholeWalk
-pub mod KeptLaws

@@ -1,0 +1,15 @@
+-- What building a table leaves in a list.
+-- Assumes nothing.
+use mathlib.Core.Path.{_≡_}
+use mathlib.Core.List.{List, map}
+use Prim.Native.Nat.{ℕ, _+_, _≤_, _<_}
+use lib.ListN.{length}
+use lib.Seq.{sets}
+use Rattle.theory_orthtree.specs.Entries.{Entry}
+use Rattle.quadtree_cells.specs.Packed.{packed}
+
+-- building gave the number r and left the packed entries es in a list, or they were more than `most`
+pub record Packed (most : ℕ) (es : List Entry) (r : ℕ) (l l′ : List ℕ) : Type 0 where
+  pub room : most ≤ length l
+  pub fits : length es ≤ most → (r ≡ length es) × (l′ ≡ sets l 0 (map (λ e. packed e) es))
+  pub over : most < length es → r ≡ most + 1

@@ -1,0 +1,4 @@
+pub mod StepLaws
+pub mod StackLaws
+pub mod ReadyLaws
+pub mod LeafLaws

@@ -1,0 +1,46 @@
+-- The key of quarter k is k steps on from the square's.
+use mathlib.Core.Path.{sym, _∙_, ap, ap₂}
+use Prim.Native.Nat.{_+_, _*_, _≤_}
+use native.Mathlib.Nat.{mul-le-mul}
+use native.Mathlib.Omega.{arith}
+use borrow.Author.Needs.{needs}
+use Rattle.spec_squares.specs.Square.{squareKey}
+use Rattle.spec_squares.proofs.SquareLaws.{quarter-key}
+use Rattle.quadtree_cells.proofs.StepLaws.{key-small}
+use Rattle.quadtree_cells.proofs.quarters.keyed_quarter.Statement.{statement}
+use Rattle.quadtree_cells.proofs.quarters.keyed_quarter.Tie as tie
+
+key-step-requires : tie.Need-key-step-requires
+key-step-requires c κs = search needs
+
+quarter-requires : tie.Need-quarter-requires
+quarter-requires c κs =
+    let top = c .before .before in
+    let s = top .pre .0 .0 in
+    (top .pre .1 .1, (top .pre .1 .0, (omega (arith, s .right), omega (arith, s .bottom))))
+
+-- the steps up to the quarter
+steps-small : (c : tie.After-quarter) → c .before .before .before .args .k * c .before .key-step .result ≤ 4 * 1073741824
+steps-small c =
+    mul-le-mul {n₂ = 4} {m₂ = 1073741824} (omega (arith, c .before .before .before .pre .1 .1)) (c .before .key-step .ensures .1)
+
+mul-t7 : tie.Need-mul-t7
+mul-t7 c = omega (arith, steps-small c)
+
+add-t8 : tie.Need-add-t8
+add-t8 c =
+    let top = c .before .before .before .before in
+    omega (arith, steps-small (c .before), top .pre .0 .1, key-small (top .args .s .square))
+
+returns : tie.Need-returns
+returns c =
+    let top = c .before .before .before .before in
+    let a = top .args in
+    let q = c .before .quarter .ensures in (
+      q,
+      ap₂ _+_ (top .pre .0 .1) (ap (λ d. a .k * d) (c .before .before .key-step .ensures .0))
+          ∙ sym (ap squareKey q ∙ quarter-key (a .s .square) (top .pre .0 .0) (top .pre .1 .0) (a .k) (top .pre .1 .1)),
+    )
+
+pub keyed-quarter-spec : {M : Type 1} → statement M
+keyed-quarter-spec = tie.close (tie.spec key-step-requires quarter-requires mul-t7 add-t8 returns)

@@ -1,0 +1,75 @@
+// The entries of a cell, packed into numbers.
+
+use base_geometry::numbers;
+ghost use mathlib.Core.Path.{_≡_};
+ghost use mathlib.Core.List.{map};
+ghost use Prim.Native.Nat.{_+_, _*_, _-_, _≤_, _<_, max};
+ghost use lib.ListN.{length};
+ghost use lib.Seq.{sets};
+ghost use Rattle.spec_charts.specs.Cells.{orMark, maxEntries};
+ghost use Rattle.quadtree_cells.specs.Stack.{part};
+
+// One entry for each candidate from `from` up to `to`.
+fn put_candidates(stack: &[u16], from: usize, to: usize, head: u64, out: &mut [u64], at: usize)
+    requires { ⌜ ((from ≤ to) × (to ≤ length (now stack))) × ((at + (to - from) ≤ length (now out)) × (head ≤ 18446744073709486080)) ⌝ }
+    ensures { λ r. ⌜ now (out .exit) ≡ sets (now (out .entry)) at (map (λ i. head + i) (part from to (now (stack .entry)))) ⌝ }
+{
+    let mut k = from;
+    while k < to {
+        out[at + (k - from)] = head + numbers::wide(stack[k]);
+        k += 1;
+    }
+}
+
+// The entries of a cell: one for each candidate, or the mark where there is none.
+fn put_cell(stack: &[u16], from: usize, to: usize, head: u64, out: &mut [u64], at: usize) -> usize
+    requires { ⌜ ((from ≤ to) × (to ≤ length (now stack))) × ((at + length (orMark (part from to (now stack))) ≤ length (now out)) × (head ≤ 18446744073709486080)) ⌝ }
+    ensures { λ r. ⌜ now (out .exit) ≡ sets (now (out .entry)) at (map (λ i. head + i) (orMark (part from to (now (stack .entry))))) ⌝ }
+    ensures { λ r. ⌜ r ≡ at + length (orMark (part from to (now (stack .entry)))) ⌝ }
+{
+    if from == to {
+        out[at] = head + 65535;
+        return at + 1;
+    }
+    put_candidates(stack, from, to, head, out, at);
+    at + (to - from)
+}
+
+// How many entries a cell has whose triangles stand from `from` up to `to`.
+fn entry_count(from: usize, to: usize) -> usize
+    requires { ⌜ from ≤ to ⌝ }
+    ensures { λ r. ⌜ r ≡ max 1 (to - from) ⌝ }
+{
+    if from == to {
+        return 1;
+    }
+    to - from
+}
+
+// The entries of a cell whose triangles stand from `from` up to `to`, or most + 1 where they do not fit below place `most`.
+pub fn put_leaf(
+    stack: &[u16],
+    from: usize,
+    to: usize,
+    head: u64,
+    out: &mut [u64],
+    at: usize,
+    most: usize,
+) -> usize
+    requires { ⌜ ((from ≤ to) × (to ≤ length (now stack))) × ((most ≤ length (now out)) × ((at ≤ most) × ((head ≤ 18446744073709486080) × (most ≤ maxEntries)))) ⌝ }
+    ensures { λ r. ⌜ (at + length (orMark (part from to (now (stack .entry)))) ≤ most → (r ≡ at + length (orMark (part from to (now (stack .entry))))) × (now (out .exit) ≡ sets (now (out .entry)) at (map (λ i. head + i) (orMark (part from to (now (stack .entry))))))) ⌝ }
+    ensures { λ r. ⌜ (most < at + length (orMark (part from to (now (stack .entry)))) → r ≡ most + 1) ⌝ }
+{
+    if most - at < entry_count(from, to) {
+        return most + 1;
+    }
+    put_cell(stack, from, to, head, out, at)
+}
+
+// Key and level at their places of a packed entry.
+pub fn head_of(key: u64, level: u32) -> u64
+    requires { ⌜ (key < 4294967296) × (level ≤ 16) ⌝ }
+    ensures { λ r. ⌜ (r ≡ key * 4294967296 + level * 65536) × (r ≤ 18446744073709486080) ⌝ }
+{
+    key * 4294967296 + (level as u64) * 65536
+}

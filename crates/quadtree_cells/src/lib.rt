@@ -1,0 +1,5 @@
+// A cell: its square, the triangles that meet it, the entries it leaves.
+
+pub mod candidates;
+pub mod leaves;
+pub mod quarters;

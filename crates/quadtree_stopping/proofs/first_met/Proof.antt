@@ -1,0 +1,84 @@
+use mathlib.Core.Path.{_≡_, _∙_, ap}
+use mathlib.Core.List.{List, []}
+use Prim.Native.Nat.{ℕ, _-_}
+use native.Mathlib.Omega.{arith}
+use lib.ListN.{getD}
+use Rattle.quadtree_shapes.specs.Shape.{boxOf}
+use Rattle.quadtree_shapes.specs.Masks.{maskOf, sidesMet}
+use Rattle.quadtree_stopping.specs.Stopping.{sidesAt, Skipped}
+use Rattle.quadtree_stopping.proofs.EndLaws.{skipped-start, skipped-next, sides-absent}
+use Rattle.quadtree_stopping.proofs.first_met.Statement.{statement}
+use Rattle.quadtree_stopping.proofs.first_met.Tie as tie
+
+abbrev Inv-loop : tie.InvT-loop
+Inv-loop shape offsets stack from to f k₀ k =
+    (table : List ℕ) → Skipped (sidesAt table shape offsets (boxOf f)) stack from to k
+
+abbrev μ-loop : tie.MeasureT-loop
+μ-loop shape offsets stack from to f k₀ k = to - k
+
+loop-holds : tie.Need-loop-holds Inv-loop μ-loop
+loop-holds c =
+    let a = c .before .before .before .args in
+    λ table. skipped-start (sidesAt table (a .shape .now) (a .offsets .now) (boxOf (a .f))) (a .stack .now) (a .from) (a .to) (c .before .before .before .pre .0 .order)
+
+mul-index : tie.Need-mul-index Inv-loop μ-loop
+mul-index c = omega arith
+
+shared-slice-read-index : tie.Need-shared-slice-read-index Inv-loop μ-loop
+shared-slice-read-index c = omega (arith, c .before .before .before .before .before .before .pre .0 .within)
+
+index-requires : tie.Need-index-requires Inv-loop μ-loop
+index-requires c κs = tt
+
+sides-met-requires : tie.Need-sides-met-requires Inv-loop μ-loop
+sides-met-requires c κs =
+    let g = c .before .before .before .before .before .before .before .pre .0 in
+    let h = g .shapes (c .before .before .before .loop .k) (c .before .before .before .loop .inv [] .low) (c .before .before .loop-test .taken) in
+    let o = g .offs (c .before .before .before .loop .k) (c .before .before .before .loop .inv [] .low) (c .before .before .loop-test .taken) in
+    let w = c .index .ensures .0 in
+    ((omega (arith, h), omega (arith, o)), c .before .before .before .before .before .before .before .pre .1)
+
+returns : tie.Need-returns Inv-loop μ-loop
+returns c =
+    let a = c .before .before .before .before .before .before .before .before .before .args in
+    let v = c .before .before .before .before .before .loop .inv in
+    let e = c .before .sides-met .ensures .0 ∙ ap (λ i. maskOf (sidesMet (a .shape .now) (a .offsets .now) (boxOf (a .f)) i)) (c .before .before .index .ensures .0) in
+    (v, λ h. (e, (omega arith, c .before .sides-met .ensures .1)))
+
+add-k : tie.Need-add-k Inv-loop μ-loop
+add-k c = omega arith
+
+loop-less : tie.Need-loop-less Inv-loop μ-loop
+loop-less c = omega arith
+
+loop-again : tie.Need-loop-again Inv-loop μ-loop
+loop-again c =
+    let a = c .before .before .before .before .before .before .before .before .before .args in
+    let v = c .before .before .before .before .before .loop .inv in
+    let e = c .before .sides-met .ensures .0 ∙ ap (λ i. maskOf (sidesMet (a .shape .now) (a .offsets .now) (boxOf (a .f)) i)) (c .before .before .index .ensures .0) in
+    λ table. skipped-next (sidesAt table (a .shape .now) (a .offsets .now) (boxOf (a .f))) (a .stack .now) (a .from) (a .to) (c .before .before .before .before .before .loop .k) (c .before .before .before .before .before .before .before .before .before .pre .0 .within) (v table) (c .before .before .before .before .loop-test .taken)
+    (sides-absent table (a .shape .now) (a .offsets .now) (boxOf (a .f)) (c .before .sides-met .result) (getD (a .stack .now) (c .before .before .before .before .before .loop .k) 0) e (c .if1 .left))
+
+returns-2 : tie.Need-returns-2 Inv-loop μ-loop
+returns-2 c =
+    let v = c .before .loop .inv in
+    let k : c .before .loop .k ≡ c .before .before .before .before .before .args .to = omega (arith, v [] .high) in
+    (rw k at v, λ h. absurd (omega arith))
+
+pub first-met-spec : {M : Type 1} → statement M
+first-met-spec =
+    tie.close
+    (tie.spec
+    Inv-loop
+    μ-loop
+    loop-holds
+    mul-index
+    shared-slice-read-index
+    index-requires
+    sides-met-requires
+    returns
+    add-k
+    loop-less
+    loop-again
+    returns-2)

@@ -1,0 +1,72 @@
+use Prim.Native.Nat.{_+_, _-_, _/_}
+use native.Mathlib.Omega.{arith}
+use Rattle.read_cells.proofs.HalvesLaws.{Bracket, bracket-all, bracket-above, bracket-below, bracket-met}
+use Rattle.read_cells.proofs.search.below.Statement.{statement}
+use Rattle.read_cells.proofs.search.below.Tie as tie
+
+abbrev Inv-loop : tie.InvT-loop
+Inv-loop keys n b low₀ high₀ low high = Bracket keys n b low high
+
+abbrev μ-loop : tie.MeasureT-loop
+μ-loop keys n b low₀ high₀ low high = high - low
+
+loop-holds : tie.Need-loop-holds Inv-loop μ-loop
+loop-holds c = bracket-all (c .args .keys .now) (c .args .n) (c .args .b)
+
+sub-middle : tie.Need-sub-middle Inv-loop μ-loop
+sub-middle c = omega arith
+
+add-middle : tie.Need-add-middle Inv-loop μ-loop
+add-middle c = omega arith
+
+mul-if1 : tie.Need-mul-if1 Inv-loop μ-loop
+mul-if1 c = omega arith
+
+shared-slice-read-if1 : tie.Need-shared-slice-read-if1 Inv-loop μ-loop
+shared-slice-read-if1 c = omega arith
+
+cast-if1 : tie.Need-cast-if1 Inv-loop μ-loop
+cast-if1 c =
+    let l = c .before .before .loop in
+    omega (arith, c .shared-slice-known .given (l .low + (l .high - l .low) / 2))
+
+add-low : tie.Need-add-low Inv-loop μ-loop
+add-low c = omega arith
+
+loop-less : tie.Need-loop-less Inv-loop μ-loop
+loop-less c = omega arith
+
+loop-again : tie.Need-loop-again Inv-loop μ-loop
+loop-again c =
+    let l = c .before .before .before .loop in
+    bracket-above (c .before .before .before .before .pre .1) (l .inv) _ (omega arith) (omega arith) (c .if1 .taken)
+
+loop-less-2 : tie.Need-loop-less-2 Inv-loop μ-loop
+loop-less-2 c = omega arith
+
+loop-again-2 : tie.Need-loop-again-2 Inv-loop μ-loop
+loop-again-2 c =
+    let l = c .before .before .before .loop in
+    bracket-below (c .before .before .before .before .pre .1) (l .inv) _ (omega arith) (omega arith) (c .if1 .left)
+
+returns : tie.Need-returns Inv-loop μ-loop
+returns c = bracket-met (c .before .loop .inv) (c .loop-test .left)
+
+pub below-spec : {M : Type 1} → statement M
+below-spec =
+    tie.close
+    (tie.spec
+    Inv-loop
+    μ-loop
+    loop-holds
+    sub-middle
+    add-middle
+    mul-if1
+    shared-slice-read-if1
+    cast-if1
+    add-low
+    loop-less
+    loop-again
+    loop-less-2
+    loop-again-2
+    returns)

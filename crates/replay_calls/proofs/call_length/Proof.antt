@@ -1,0 +1,30 @@
+use mathlib.Core.Path.{sym, _∙_, ap}
+use Prim.Native.Nat.{_+_}
+use borrow.Author.Needs.{needs}
+use Rattle.replay_calls.proofs.EncodingLaws.{length-load, length-split, length-other, length-none}
+use Rattle.replay_calls.proofs.call_length.Statement.{statement}
+use Rattle.replay_calls.proofs.call_length.Tie as tie
+
+index-requires : tie.Need-index-requires
+index-requires c κs = search needs
+
+add-result : tie.Need-add-result
+add-result c = search needs
+
+returns : tie.Need-returns
+returns c =
+    let a = c .before .before .args in
+    ap (λ k. k + 2) (c .index .ensures .0) ∙ sym (length-load (a .command) (a .n) (c .before .if1 .taken))
+
+returns-2 : tie.Need-returns-2
+returns-2 c = let a = c .before .before .args in sym (length-split (a .command) (a .n) (c .before .if1 .left) (c .if2 .taken))
+
+returns-3 : tie.Need-returns-3
+returns-3 c = let a = c .before .before .before .args in sym (length-other (a .command) (a .n) (c .before .before .if1 .left) (c .before .if2 .left) (c .if3 .taken))
+
+returns-4 : tie.Need-returns-4
+returns-4 c = let a = c .before .before .before .args in sym (length-none (a .command) (a .n) (c .before .before .if1 .left) (c .before .if2 .left) (c .if3 .left))
+
+pub call-length-spec : {M : Type 1} → statement M
+call-length-spec =
+    tie.close (tie.spec index-requires add-result returns returns-2 returns-3 returns-4)

@@ -1,0 +1,57 @@
+-- Lists of calls on one chart, written as 16-bit numbers, one call after another: "2 n" and n numbers is a load of these,
+-- "3 t x y" a split, "4 x y" a take-out and "5 i j" a flip. The commands are those of document 01's command program. The list ends
+-- where the numbers end, or where no whole call stands.
+-- Assumes nothing.
+use mathlib.Core.Path.{_≡_}
+use mathlib.Core.Bool.{true, false, cond, _||_}
+use mathlib.Core.List.{List, [], _∷_, flatMap}
+use Prim.Native.Nat.{ℕ, zero, suc, _+_, _<_}
+use lib.Dec.{leb, eqb}
+use lib.ListN.{length, getD, take, drop}
+use Rattle.spec_charts.specs.Table.{pointAt}
+use Rattle.spec_charts.specs.Edits.{Event, load, split, takeOut, flip}
+
+-- how many numbers a call takes with its command, by the command and the number after it; 0 where the command is another
+unfoldable pub callLength : ℕ → ℕ → ℕ
+callLength command n = cond (eqb command 2) (n + 2) (cond (eqb command 3) 4 (cond (eqb command 4 || eqb command 5) 3 0))
+
+-- how many numbers the call at the start of the list takes; 0 where no whole call stands there
+unfoldable pub wholeCall : List ℕ → ℕ
+wholeCall ns =
+    cond (leb (callLength (getD ns 0 0) (getD ns 1 0)) (length ns)) (callLength (getD ns 0 0) (getD ns 1 0)) 0
+
+-- the numbers of one whole call and no more
+pub record IsCall (ns : List ℕ) : Type 0 where
+  pub some : 0 < length ns
+  pub whole : callLength (getD ns 0 0) (getD ns 1 0) ≡ length ns
+
+-- the event of a whole call
+unfoldable pub callEvent : List ℕ → Event
+callEvent ns =
+    cond (eqb (getD ns 0 0) 2) (load (drop 2 ns))
+    (cond (eqb (getD ns 0 0) 3) (split (getD ns 1 0) (pointAt ns 2))
+    (cond (eqb (getD ns 0 0) 4) (takeOut (pointAt ns 1)) (flip (getD ns 1 0) (getD ns 2 0))))
+
+-- the events of the calls in the list, at most m of them
+unfoldable pub decodeUpTo : ℕ → List ℕ → List Event
+decodeUpTo zero ns = []
+decodeUpTo (suc m) ns =
+    elim (eqb (wholeCall ns) 0) [
+      | true ↦ []
+      | false ↦ callEvent (take (wholeCall ns) ns) ∷ decodeUpTo m (drop (wholeCall ns) ns)
+    ]
+
+-- the events of all calls in the list: each takes a number at least, so there are no more than numbers
+unfoldable pub decode : List ℕ → List Event
+decode ns = decodeUpTo (length ns) ns
+
+-- the numbers of the call of an event
+unfoldable pub callNumbers : Event → List ℕ
+callNumbers (load ns) = 2 ∷ length ns ∷ ns
+callNumbers (split t p) = 3 ∷ t ∷ p .x ∷ p .y ∷ []
+callNumbers (takeOut p) = 4 ∷ p .x ∷ p .y ∷ []
+callNumbers (flip i j) = 5 ∷ i ∷ j ∷ []
+
+-- the numbers of a list of calls
+unfoldable pub encode : List Event → List ℕ
+encode es = flatMap (λ e. callNumbers e) es

@@ -1,0 +1,183 @@
+use mathlib.Core.Path.{_∙_}
+use mathlib.Core.List.{List}
+use Prim.Native.Nat.{ℕ}
+use native.Mathlib.Omega.{arith}
+use borrow.Author.Needs.{needs}
+use Rattle.spec_calls.specs.Buffers.{Chart, chartOf}
+use Rattle.replay_lists.proofs.CallLaws.{load-long, split-long, other-long, load-event, split-event, takeOut-event, flip-event}
+use Rattle.replay_lists.proofs.call_steps.run_call.Statement.{statement}
+use Rattle.replay_lists.proofs.call_steps.run_call.Tie as tie
+
+-- the chart lent
+abbrev chart : tie.Start → Chart
+chart c =
+    let a = c .args in chartOf (a .table .now) (a .keys .now) (a .levels .now) (a .items .now) (a .triangles) (a .entries)
+
+-- the numbers of the call
+abbrev numbers : tie.Start → List ℕ
+numbers c = c .args .call .now
+
+shared-slice-read-if1 : tie.Need-shared-slice-read-if1
+shared-slice-read-if1 c = search needs
+
+sub-given : tie.Need-sub-given
+sub-given c = omega (arith, load-long (numbers (c .before .before .before .before .before .before .before)) (c .before .before .before .before .before .before .before .pre) (c .if1 .taken))
+
+part-given-start : tie.Need-part-given-start
+part-given-start c = omega (arith, load-long (numbers (c .before .before .before .before .before .before .before)) (c .before .before .before .before .before .before .before .pre) (c .if1 .taken))
+
+part-given-end : tie.Need-part-given-end
+part-given-end c = search needs
+
+load-requires : tie.Need-load-requires
+load-requires c κs = search needs
+
+same-length : tie.Need-same-length
+same-length c = search needs
+
+same-length-2 : tie.Need-same-length-2
+same-length-2 c = search needs
+
+same-length-3 : tie.Need-same-length-3
+same-length-3 c = search needs
+
+same-length-4 : tie.Need-same-length-4
+same-length-4 c = search needs
+
+returns : tie.Need-returns
+returns c = let top = c .before .before .before .before .before .before .before .before .before .before .before .before .before .before .before .before .before .before .before .before .before in c .before .before .before .before .before .before .before .before .load .ensures ∙ load-event (numbers top) (chart top) (c .before .before .before .before .before .before .before .before .before .before .before .before .before .before .if1 .taken)
+
+shared-slice-read-if2 : tie.Need-shared-slice-read-if2
+shared-slice-read-if2 c = search needs
+
+shared-slice-read-index : tie.Need-shared-slice-read-index
+shared-slice-read-index c = omega (arith, split-long (numbers (c .before .before .before .before .before .before .before .before .before .before)) (c .before .before .before .before .before .before .before .before .before .before .pre) (c .before .before .before .if1 .left) (c .before .if2 .taken))
+
+index-requires : tie.Need-index-requires
+index-requires c κs = search needs
+
+shared-slice-read-t31 : tie.Need-shared-slice-read-t31
+shared-slice-read-t31 c = omega (arith, split-long (numbers (c .before .before .before .before .before .before .before .before .before .before .before .before)) (c .before .before .before .before .before .before .before .before .before .before .before .before .pre) (c .before .before .before .before .before .if1 .left) (c .before .before .before .if2 .taken))
+
+shared-slice-read-t34 : tie.Need-shared-slice-read-t34
+shared-slice-read-t34 c = omega (arith, split-long (numbers (c .before .before .before .before .before .before .before .before .before .before .before .before .before)) (c .before .before .before .before .before .before .before .before .before .before .before .before .before .pre) (c .before .before .before .before .before .before .if1 .left) (c .before .before .before .before .if2 .taken))
+
+split-requires : tie.Need-split-requires
+split-requires c κs = search needs
+
+same-length-5 : tie.Need-same-length-5
+same-length-5 c = search needs
+
+same-length-6 : tie.Need-same-length-6
+same-length-6 c = search needs
+
+same-length-7 : tie.Need-same-length-7
+same-length-7 c = search needs
+
+same-length-8 : tie.Need-same-length-8
+same-length-8 c = search needs
+
+returns-2 : tie.Need-returns-2
+returns-2 c = let top = c .before .before .before .before .before .before .before .before .before .before .before .before .before .before .before .before .before .before .before .before .before .before .before .before .before .before in c .before .before .before .before .before .before .before .before .split .ensures ∙ split-event (numbers top) (chart top) (c .before .before .before .before .before .before .before .before .before .before .before .before .before .before .before .before .before .before .before .if1 .left) (c .before .before .before .before .before .before .before .before .before .before .before .before .before .before .before .before .before .if2 .taken) (c .before .before .before .before .before .before .before .before .before .before .before .before .before .before .before .index .ensures .0)
+
+shared-slice-read-if3 : tie.Need-shared-slice-read-if3
+shared-slice-read-if3 c = search needs
+
+shared-slice-read-t45 : tie.Need-shared-slice-read-t45
+shared-slice-read-t45 c = omega (arith, other-long (numbers (c .before .before .before .before .before .before .before .before .before .before .before .before)) (c .before .before .before .before .before .before .before .before .before .before .before .before .pre) (c .before .before .before .before .before .if1 .left) (c .before .before .before .if2 .left))
+
+shared-slice-read-t47 : tie.Need-shared-slice-read-t47
+shared-slice-read-t47 c = omega (arith, other-long (numbers (c .before .before .before .before .before .before .before .before .before .before .before .before .before)) (c .before .before .before .before .before .before .before .before .before .before .before .before .before .pre) (c .before .before .before .before .before .before .if1 .left) (c .before .before .before .before .if2 .left))
+
+take-out-requires : tie.Need-take-out-requires
+take-out-requires c κs = search needs
+
+same-length-9 : tie.Need-same-length-9
+same-length-9 c = search needs
+
+same-length-10 : tie.Need-same-length-10
+same-length-10 c = search needs
+
+same-length-11 : tie.Need-same-length-11
+same-length-11 c = search needs
+
+same-length-12 : tie.Need-same-length-12
+same-length-12 c = search needs
+
+returns-3 : tie.Need-returns-3
+returns-3 c = let top = c .before .before .before .before .before .before .before .before .before .before .before .before .before .before .before .before .before .before .before .before .before .before .before .before .before .before in c .before .before .before .before .before .before .before .before .take-out .ensures ∙ takeOut-event (numbers top) (chart top) (c .before .before .before .before .before .before .before .before .before .before .before .before .before .before .before .before .before .before .before .if1 .left) (c .before .before .before .before .before .before .before .before .before .before .before .before .before .before .before .before .before .if2 .left) (c .before .before .before .before .before .before .before .before .before .before .before .before .before .before .before .if3 .taken)
+
+shared-slice-read-index-2 : tie.Need-shared-slice-read-index-2
+shared-slice-read-index-2 c = omega (arith, other-long (numbers (c .before .before .before .before .before .before .before .before .before .before .before .before)) (c .before .before .before .before .before .before .before .before .before .before .before .before .pre) (c .before .before .before .before .before .if1 .left) (c .before .before .before .if2 .left))
+
+index-requires-2 : tie.Need-index-requires-2
+index-requires-2 c κs = search needs
+
+shared-slice-read-index-3 : tie.Need-shared-slice-read-index-3
+shared-slice-read-index-3 c = omega (arith, other-long (numbers (c .before .before .before .before .before .before .before .before .before .before .before .before .before .before)) (c .before .before .before .before .before .before .before .before .before .before .before .before .before .before .pre) (c .before .before .before .before .before .before .before .if1 .left) (c .before .before .before .before .before .if2 .left))
+
+index-requires-3 : tie.Need-index-requires-3
+index-requires-3 c κs = search needs
+
+flip-requires : tie.Need-flip-requires
+flip-requires c κs = search needs
+
+same-length-13 : tie.Need-same-length-13
+same-length-13 c = search needs
+
+same-length-14 : tie.Need-same-length-14
+same-length-14 c = search needs
+
+same-length-15 : tie.Need-same-length-15
+same-length-15 c = search needs
+
+same-length-16 : tie.Need-same-length-16
+same-length-16 c = search needs
+
+returns-4 : tie.Need-returns-4
+returns-4 c = let top = c .before .before .before .before .before .before .before .before .before .before .before .before .before .before .before .before .before .before .before .before .before .before .before .before .before .before .before .before in c .before .before .before .before .before .before .before .before .flip .ensures ∙ flip-event (numbers top) (chart top) (c .before .before .before .before .before .before .before .before .before .before .before .before .before .before .before .before .before .before .before .before .before .if1 .left) (c .before .before .before .before .before .before .before .before .before .before .before .before .before .before .before .before .before .before .before .if2 .left) (c .before .before .before .before .before .before .before .before .before .before .before .before .before .before .before .before .before .if3 .left) (c .before .before .before .before .before .before .before .before .before .before .before .before .before .before .before .index2 .ensures .0) (c .before .before .before .before .before .before .before .before .before .before .before .before .before .index3 .ensures .0)
+
+pub run-call-spec : {M : Type 1} → statement M
+run-call-spec =
+    tie.close
+    (tie.spec
+    shared-slice-read-if1
+    sub-given
+    part-given-start
+    part-given-end
+    load-requires
+    same-length
+    same-length-2
+    same-length-3
+    same-length-4
+    returns
+    shared-slice-read-if2
+    shared-slice-read-index
+    index-requires
+    shared-slice-read-t31
+    shared-slice-read-t34
+    split-requires
+    same-length-5
+    same-length-6
+    same-length-7
+    same-length-8
+    returns-2
+    shared-slice-read-if3
+    shared-slice-read-t45
+    shared-slice-read-t47
+    take-out-requires
+    same-length-9
+    same-length-10
+    same-length-11
+    same-length-12
+    returns-3
+    shared-slice-read-index-2
+    index-requires-2
+    shared-slice-read-index-3
+    index-requires-3
+    flip-requires
+    same-length-13
+    same-length-14
+    same-length-15
+    same-length-16
+    returns-4)

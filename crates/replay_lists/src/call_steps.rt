@@ -1,0 +1,48 @@
+// One call of a list, run on a chart.
+
+use base_answers::Changed;
+use base_geometry::numbers;
+use spec_plane::Point;
+ghost use mathlib.Core.Path.{_≡_};
+ghost use Rattle.spec_calls.specs.Buffers.{chartOf};
+ghost use Rattle.spec_calls.specs.Calls.{Changed as Calls·Changed};
+ghost use Rattle.spec_calls.specs.History.{eventCall};
+ghost use Rattle.base_answers.specs.Outcomes.{changedOf};
+ghost use Rattle.replay_calls.specs.Encoding.{IsCall, callEvent};
+
+// Makes a call on a chart. The numbers are those of one whole call.
+pub fn run_call(
+    call: &[u16],
+    table: &mut [u16],
+    keys: &mut [u32],
+    levels: &mut [u8],
+    items: &mut [u16],
+    triangles: usize,
+    entries: usize,
+) -> Changed
+    requires { ⌜ IsCall (now call) ⌝ }
+    ensures { λ r. ⌜ _≡_ {A = Calls·Changed} (changedOf r (now (table .exit)) (now (keys .exit)) (now (levels .exit)) (now (items .exit))) (eventCall (callEvent (now (call .entry))) (chartOf (now (table .entry)) (now (keys .entry)) (now (levels .entry)) (now (items .entry)) triangles entries)) ⌝ }
+{
+    if call[0] == replay_calls::LOAD {
+        let given = &call[2..call.len()];
+        return call_load::load(given, table, keys, levels, items, triangles, entries);
+    }
+    if call[0] == replay_calls::SPLIT {
+        let t = numbers::index(call[1]);
+        let p = Point {
+            x: call[2],
+            y: call[3],
+        };
+        return call_edits::split(table, keys, levels, items, triangles, entries, t, p);
+    }
+    if call[0] == replay_calls::TAKE_OUT {
+        let p = Point {
+            x: call[1],
+            y: call[2],
+        };
+        return call_edits::take_out(table, keys, levels, items, triangles, entries, p);
+    }
+    let i = numbers::index(call[1]);
+    let j = numbers::index(call[2]);
+    call_edits::flip(table, keys, levels, items, triangles, entries, i, j)
+}

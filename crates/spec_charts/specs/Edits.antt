@@ -1,0 +1,185 @@
+-- Document 01, "Edits on the plain table": the four events, and what each makes of a table or why it is refused.
+-- Assumes nothing.
+use mathlib.Core.Bool.{Bool, true, false, not, _&&_, _||_}
+use mathlib.Core.List.{List, [], _∷_, _++_}
+use mathlib.Core.Option.{Option, none, some}
+use Prim.Native.Nat.{ℕ, _+_, _/_, _%_}
+use lib.Dec.{leb, ltb, eqb}
+use lib.ListN.{length, set}
+use Rattle.theory_lists.specs.Lists.{first, placesFrom, without}
+use Rattle.spec_plane.specs.declared.Point.{Point}
+use Rattle.spec_plane.specs.Point.{samePoint}
+use Rattle.spec_plane.specs.Triangle.{Triangle, proper, strictlyInside}
+use Rattle.spec_charts.specs.Table.{Table, numbered, tableOf, maxTriangles, numbersPerTriangle, tableLength, sixteenBit}
+use Rattle.spec_charts.specs.Cells.{entriesOf, maxEntries}
+use Rattle.spec_charts.specs.Refusals.{badLength, faultyTriangle, noSuchTriangle, notInside, notThreeAround, noFlip, tableFull, tooManyEntries, Outcome, refused, done, refuseIf, andThen, doneOr}
+
+-- a triangle by its corners
+unfoldable pub triangle : Point → Point → Point → Triangle
+triangle a b c = record { a = a; b = b; c = c }
+
+-- the three rotations of a triangle
+unfoldable pub rotations : Triangle → List Triangle
+rotations t = triangle (t .a) (t .b) (t .c) ∷ triangle (t .b) (t .c) (t .a) ∷ triangle (t .c) (t .a) (t .b) ∷ []
+
+-- Load
+
+-- the numbers of the triangles with D ≤ 0, ascending
+unfoldable pub faulty : Table → List ℕ
+faulty table = placesFrom (λ t. not (proper t)) 0 table
+
+-- refusal 5, with the lowest number of the list, unless it is empty
+unfoldable pub refuseFaulty : List ℕ → Table → Outcome Table
+refuseFaulty [] table = done table
+refuseFaulty (i ∷ is) table = refused (faultyTriangle i)
+
+-- the triangles of the table given: the numbers, six by six
+unfoldable pub givenTable : List ℕ → Table
+givenTable ns = tableOf ns (length ns / numbersPerTriangle)
+
+-- "Load: the table given"
+unfoldable pub loadTable : List ℕ → Outcome Table
+loadTable ns =
+    refuseIf (not (eqb (length ns % numbersPerTriangle) 0) || ltb tableLength (length ns)) badLength
+    (refuseFaulty (faulty (givenTable ns)) (givenTable ns))
+
+-- Split: insertion of a vertex into a triangle
+
+-- "(a,b,c) at t becomes (a,b,p); (b,c,p) and (c,a,p) are appended in that order"
+unfoldable pub splitAt : Table → ℕ → Triangle → Point → Table
+splitAt table t s p =
+    set table t (triangle (s .a) (s .b) p) ++ (triangle (s .b) (s .c) p ∷ triangle (s .c) (s .a) p ∷ [])
+
+-- "Split t at p"
+unfoldable pub splitTable : ℕ → Point → Table → Outcome Table
+splitTable t p table =
+    refuseIf (leb (length table) t) noSuchTriangle
+    (refuseIf (not (strictlyInside (numbered table t) p)) notInside
+    (refuseIf (ltb maxTriangles (length table + 2)) tableFull (done (splitAt table t (numbered table t) p))))
+
+-- Take out: removal of a vertex with three triangles around it
+
+-- the triangle has p as a corner
+unfoldable pub hasCorner : Point → Triangle → Bool
+hasCorner p t = samePoint p (t .a) || samePoint p (t .b) || samePoint p (t .c)
+
+-- "Rotated to end in p": the rotation of a triangle that ends in its corner p
+unfoldable pub endingIn : Point → Triangle → Triangle
+endingIn p t =
+    elim (samePoint p (t .c)) [
+      | true ↦ t
+      | false ↦ elim (samePoint p (t .b)) [
+        | true ↦ triangle (t .c) (t .a) (t .b)
+        | false ↦ triangle (t .b) (t .c) (t .a)
+      ]
+    ]
+
+-- with t = (a,b,p): u is (b,c,p) and v is (c,a,p), for some c
+unfoldable pub closesRound : Triangle → Triangle → Triangle → Bool
+closesRound t u v = samePoint (u .a) (t .b) && samePoint (v .b) (t .a) && samePoint (u .b) (v .a)
+
+-- the lowest place gets (a,b,c), "the other two go, later ones move down": i is the lowest of i, j, k and k the highest
+unfoldable pub mergeAround : Table → ℕ → ℕ → ℕ → Triangle → Table
+mergeAround table i j k t = without j (without k (set table i t))
+
+-- the three triangles i, j, k, rotated to end in p, are t, u, v
+unfoldable pub mergeThree : Table → ℕ → ℕ → ℕ → Triangle → Triangle → Triangle → Outcome Table
+mergeThree table i j k t u v =
+    elim (closesRound t u v) [
+      | true ↦ done (mergeAround table i j k (triangle (t .a) (t .b) (u .b)))
+      | false ↦ elim (closesRound t v u) [
+        | true ↦ done (mergeAround table i j k (triangle (t .a) (t .b) (v .b)))
+        | false ↦ refused notThreeAround
+      ]
+    ]
+
+-- "exactly three triangles have p as a corner": their numbers, ascending
+unfoldable pub takeOutThree : Point → Table → List ℕ → Outcome Table
+takeOutThree p table [] = refused notThreeAround
+takeOutThree p table (i ∷ []) = refused notThreeAround
+takeOutThree p table (i ∷ j ∷ []) = refused notThreeAround
+takeOutThree p table (i ∷ j ∷ k ∷ []) =
+    mergeThree table i j k (endingIn p (numbered table i)) (endingIn p (numbered table j)) (endingIn p (numbered table k))
+takeOutThree p table (i ∷ j ∷ k ∷ l ∷ ls) = refused notThreeAround
+
+-- "Take out p"
+unfoldable pub takeOutTable : Point → Table → Outcome Table
+takeOutTable p table = takeOutThree p table (placesFrom (λ t. hasCorner p t) 0 table)
+
+-- Flip: the other diagonal of two triangles that share a side
+
+-- t is (a,b,c) and u is (b,a,d), for some a, b, c, d
+unfoldable pub sharesSide : Triangle → Triangle → Bool
+sharesSide t u = samePoint (t .a) (u .b) && samePoint (t .b) (u .a)
+
+-- with t = (a,b,c) and u = (b,a,d): "Place i gets (a,d,c), place j (d,b,c), if both have D > 0"
+unfoldable pub flipAs : Table → ℕ → ℕ → Triangle → Triangle → Outcome Table
+flipAs table i j t u =
+    refuseIf (not (proper (triangle (t .a) (u .c) (t .c)) && proper (triangle (u .c) (t .b) (t .c)))) noFlip
+    (done (set (set table i (triangle (t .a) (u .c) (t .c))) j (triangle (u .c) (t .b) (t .c))))
+
+-- the first of the rotations us of triangle j that shares the side ab of t, a rotation of triangle i
+unfoldable pub flipWith : Table → ℕ → ℕ → Triangle → Option Triangle → Outcome Table → Outcome Table
+flipWith table i j t none other = other
+flipWith table i j t (some u) other = flipAs table i j t u
+
+-- the first of the rotations ts of triangle i that shares its side ab with a rotation of triangle j; there is at most one
+unfoldable pub flipAmong : Table → ℕ → ℕ → List Triangle → List Triangle → Outcome Table
+flipAmong table i j us [] = refused noFlip
+flipAmong table i j us (t ∷ ts) =
+    flipWith table i j t (first (λ u. sharesSide t u) us) (flipAmong table i j us ts)
+
+-- "Flip i, j"
+unfoldable pub flipTable : ℕ → ℕ → Table → Outcome Table
+flipTable i j table =
+    refuseIf (leb (length table) i || leb (length table) j) noSuchTriangle
+    (flipAmong table i j (rotations (numbered table j)) (rotations (numbered table i)))
+
+-- Events
+
+-- a load with the numbers given, a split of t at p, a take-out of p, a flip of i and j
+pub data Event : Type 0 where
+  load : List ℕ → Event
+  split : ℕ → Point → Event
+  takeOut : Point → Event
+  flip : ℕ → ℕ → Event
+
+-- the numbers of a load are 16-bit. Of the other events no number needs a range: a point at which a triangle is split lies
+-- inside it, and the rest only names triangles and corners
+unfoldable pub sixteenBitEvent : Event → Bool
+sixteenBitEvent (load ns) = sixteenBit ns
+sixteenBitEvent (split t p) = true
+sixteenBitEvent (takeOut p) = true
+sixteenBitEvent (flip i j) = true
+
+-- the table that an event would make of the plain table, before its entries are counted
+unfoldable pub proposed : Event → Table → Outcome Table
+proposed (load ns) table = loadTable ns
+proposed (split t p) table = splitTable t p table
+proposed (takeOut p) table = takeOutTable p table
+proposed (flip i j) table = flipTable i j table
+
+-- refusal 11: "the new table has over 16,384 entries", where it has n
+unfoldable pub limited : ℕ → Table → Outcome Table
+limited n table = refuseIf (ltb maxEntries n) tooManyEntries (done table)
+
+-- the new table, unless its entries are too many
+unfoldable pub withinLimit : Table → Outcome Table
+withinLimit table = limited (length (entriesOf table)) table
+
+-- what an event comes to on a plain table: refused with a number from 4 up, or the new plain table
+unfoldable pub eventOn : Event → Table → Outcome Table
+eventOn e table = andThen (proposed e table) (λ t. withinLimit t)
+
+-- "each event below changes it; a refused event changes nothing"
+unfoldable pub afterEvent : Event → Table → Table
+afterEvent e table = doneOr table (eventOn e table)
+
+-- the plain table after a list of events
+unfoldable pub afterEvents : List Event → Table → Table
+afterEvents [] table = table
+afterEvents (e ∷ es) table = afterEvents es (afterEvent e table)
+
+-- "The plain table starts empty"
+unfoldable pub plainTable : List Event → Table
+plainTable es = afterEvents es []

@@ -1,0 +1,118 @@
+-- Examples of Log.antt, the lines that are printed and the bytes that are read.
+-- Assumes nothing.
+use mathlib.Core.Path.{_≡_, refl}
+use mathlib.Core.Bool.{true, false}
+use mathlib.Core.List.{List, [], _∷_, map}
+use Prim.Native.Nat.{ℕ}
+use lib.ListN.{replicate}
+use Rattle.spec_charts.proofs.Written.{at}
+use Rattle.spec_log.specs.Log.{digits, decimal, spaced, line, heading, badLine, pointOperand, known, takesChart, wordCount, chartBytes, operandBytes, wordsOf, wellFormed, logOf}
+use Rattle.spec_log.proofs.Evaluate.{evaluate}
+
+-- Lines
+
+-- the last digit alone; 7; 10; the last two of 345
+digits-example : digits 0 5 ∷ digits 0 19 ∷ digits 3 7 ∷ digits 3 10 ∷ digits 1 345 ∷ [] ≡ (53 ∷ []) ∷ (57 ∷ []) ∷ (55 ∷ []) ∷ (49 ∷ 48 ∷ []) ∷ (52 ∷ 53 ∷ []) ∷ []
+unfolding evaluate
+digits-example = refl
+
+-- 0, 9, 10, 65535, 4294967296
+decimal-example : map (λ n. decimal n) (0 ∷ 9 ∷ 10 ∷ 65535 ∷ 4294967296 ∷ [])
+    ≡ (48 ∷ [])
+    ∷ (57 ∷ [])
+    ∷ (49 ∷ 48 ∷ [])
+    ∷ (54 ∷ 53 ∷ 53 ∷ 51 ∷ 53 ∷ [])
+    ∷ (52 ∷ 50 ∷ 57 ∷ 52 ∷ 57 ∷ 54 ∷ 55 ∷ 50 ∷ 57 ∷ 54 ∷ [])
+    ∷ []
+unfolding evaluate
+decimal-example = refl
+
+-- a space before each number: " 5 12"
+spaced-example : spaced [] ∷ spaced (5 ∷ 12 ∷ []) ∷ [] ≡ [] ∷ (32 ∷ 53 ∷ 32 ∷ 49 ∷ 50 ∷ []) ∷ []
+unfolding evaluate
+spaced-example = refl
+
+-- "31" and "7 0 12", each with its line feed
+line-example : line 31 [] ∷ line 7 (0 ∷ 12 ∷ []) ∷ [] ≡ (51 ∷ 49 ∷ 10 ∷ []) ∷ (55 ∷ 32 ∷ 48 ∷ 32 ∷ 49 ∷ 50 ∷ 10 ∷ []) ∷ []
+unfolding evaluate
+line-example = refl
+
+-- "overlay log"
+heading-example : heading ∷ logOf [] ∷ [] ≡ replicate 2 (111 ∷ 118 ∷ 101 ∷ 114 ∷ 108 ∷ 97 ∷ 121 ∷ 32 ∷ 108 ∷ 111 ∷ 103 ∷ 10 ∷ [])
+unfolding evaluate
+heading-example = refl
+
+-- "bad 0", "bad 130"
+bad-line-example : badLine 0 ∷ badLine 130 ∷ [] ≡ (98 ∷ 97 ∷ 100 ∷ 32 ∷ 48 ∷ 10 ∷ []) ∷ (98 ∷ 97 ∷ 100 ∷ 32 ∷ 49 ∷ 51 ∷ 48 ∷ 10 ∷ []) ∷ []
+unfolding evaluate
+bad-line-example = refl
+
+-- Bytes
+
+-- x before y; an operand that is not there is 0
+operand-example : map (λ k. pointOperand (5 ∷ 6 ∷ 7 ∷ []) k) (0 ∷ 1 ∷ 2 ∷ 3 ∷ []) ≡ at 5 6 ∷ at 6 7 ∷ at 7 0 ∷ at 0 0 ∷ []
+unfolding evaluate
+operand-example = refl
+
+-- the bytes 0 to 8: which are commands, which of them take a chart, how many words and how many bytes follow
+abbrev bytes : List ℕ
+bytes = 0 ∷ 1 ∷ 2 ∷ 3 ∷ 4 ∷ 5 ∷ 6 ∷ 7 ∷ 8 ∷ []
+
+known-example : map (λ b. known b) bytes ≡ false ∷ true ∷ true ∷ true ∷ true ∷ true ∷ true ∷ true ∷ false ∷ []
+unfolding evaluate
+known-example = refl
+
+takes-chart-example : map (λ b. takesChart b) bytes ≡ false ∷ false ∷ true ∷ true ∷ true ∷ true ∷ true ∷ false ∷ false ∷ []
+unfolding evaluate
+takes-chart-example = refl
+
+words-example : map (λ b. wordCount b) bytes ≡ 0 ∷ 6 ∷ 0 ∷ 3 ∷ 2 ∷ 2 ∷ 2 ∷ 0 ∷ 0 ∷ []
+unfolding evaluate
+words-example = refl
+
+chart-bytes-example : map (λ b. chartBytes b) bytes ≡ 0 ∷ 0 ∷ 1 ∷ 1 ∷ 1 ∷ 1 ∷ 1 ∷ 0 ∷ 0 ∷ []
+unfolding evaluate
+chart-bytes-example = refl
+
+operand-bytes-example : map (λ b. operandBytes b) bytes ≡ 0 ∷ 12 ∷ 1 ∷ 7 ∷ 5 ∷ 5 ∷ 5 ∷ 0 ∷ 0 ∷ []
+unfolding evaluate
+operand-bytes-example = refl
+
+-- low byte first; a byte that is not there is 0
+words-of-example :
+    wordsOf 0 (1 ∷ 2 ∷ [])
+    ∷ wordsOf 2 (255 ∷ 1 ∷ 0 ∷ 255 ∷ 9 ∷ [])
+    ∷ wordsOf 3 (7 ∷ 0 ∷ 0 ∷ 1 ∷ 5 ∷ 6 ∷ [])
+    ∷ wordsOf 2 (7 ∷ [])
+    ∷ []
+    ≡ [] ∷ (511 ∷ 65280 ∷ []) ∷ (7 ∷ 256 ∷ 1541 ∷ []) ∷ (7 ∷ 0 ∷ []) ∷ []
+unfolding evaluate
+words-of-example = refl
+
+-- an unknown byte alone, a cut operand alone, a chart above 1 alone
+bad-byte-example :
+    wellFormed 0 []
+    ∷ wellFormed 8 []
+    ∷ wellFormed 6 (1 ∷ 1 ∷ 2 ∷ 3 ∷ [])
+    ∷ wellFormed 1 (replicate 11 1)
+    ∷ wellFormed 2 []
+    ∷ wellFormed 2 (2 ∷ [])
+    ∷ wellFormed 6 (2 ∷ 1 ∷ 2 ∷ 3 ∷ 4 ∷ [])
+    ∷ []
+    ≡ replicate 7 false
+unfolding evaluate
+bad-byte-example = refl
+
+-- chart 0 and chart 1, exactly the operands or more; commands without a chart, whatever byte comes first
+good-byte-example :
+    wellFormed 2 (0 ∷ [])
+    ∷ wellFormed 2 (1 ∷ [])
+    ∷ wellFormed 6 (1 ∷ 9 ∷ 9 ∷ 9 ∷ 9 ∷ [])
+    ∷ wellFormed 6 (0 ∷ 9 ∷ 9 ∷ 9 ∷ 9 ∷ 9 ∷ [])
+    ∷ wellFormed 1 (replicate 12 200)
+    ∷ wellFormed 7 []
+    ∷ wellFormed 7 (200 ∷ [])
+    ∷ []
+    ≡ replicate 7 true
+unfolding evaluate
+good-byte-example = refl

@@ -1,0 +1,4 @@
+pub mod Morton
+pub mod Leaves
+pub mod Entries
+pub mod KeyBlocks
