@@ -15,7 +15,9 @@ judged o = andThen o (λ t. done true)
 
 returns : tie.Need-returns
 unfolding andThen
-returns c = sym (ap judged (given-length (c .before .before .args .given .now) (c .if1 .taken)))
+returns c =
+    let top : tie.Start = search needs in
+    sym (ap judged (given-length (top .args .given .now) (c .if1 .taken)))
 
 first-faulty-requires : tie.Need-first-faulty-requires
 first-faulty-requires c κs = search needs
@@ -23,17 +25,21 @@ first-faulty-requires c κs = search needs
 returns-2 : tie.Need-returns-2
 unfolding andThen givenTable
 returns-2 c =
-    let f = c .before in
+    let f : tie.After-first-faulty = search needs in
+    let else1 : tie.Else1 = search needs in
+    let top : tie.Start = search needs in
     let e = f .first-faulty .ensures in
     ap (λ i. refused (faultyTriangle i)) e
-    ∙ sym (ap judged (given-faulty (f .before .before .before .args .given .now) (f .before .if1 .left) (omega (arith, e, c .if2 .taken))))
+    ∙ sym (ap judged (given-faulty (top .args .given .now) (else1 .if1 .left) (omega (arith, e, c .if2 .taken))))
 
 returns-3 : tie.Need-returns-3
 unfolding andThen givenTable
 returns-3 c =
-    let f = c .before in
+    let f : tie.After-first-faulty = search needs in
+    let else1 : tie.Else1 = search needs in
+    let top : tie.Start = search needs in
     let e = f .first-faulty .ensures in
-    sym (ap judged (given-done (f .before .before .before .args .given .now) (f .before .if1 .left) (omega (arith, e, c .if2 .left))))
+    sym (ap judged (given-done (top .args .given .now) (else1 .if1 .left) (omega (arith, e, c .if2 .left))))
 
 pub judge-given-spec : {M : Type 1} → statement M
 judge-given-spec = tie.close (tie.spec returns first-faulty-requires returns-2 returns-3)
