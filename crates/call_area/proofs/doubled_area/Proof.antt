@@ -1,7 +1,6 @@
 use mathlib.Core.Path.{_≡_, sym, _∙_, ap}
 use mathlib.Core.Bool.{true, false}
 use borrow.Author.Needs.{needs}
-use Rattle.spec_charts.specs.Refusals.{outcomeNumber, doneOr}
 use Rattle.spec_calls.specs.Buffers.{Chart, chartOf, chartTable, tooShort, chainRule}
 use Rattle.laws_calls.proofs.BufferLaws.{rule-held}
 use Rattle.laws_calls.proofs.JudgeLaws.{chained-passed, chained-not-stale}
@@ -46,7 +45,7 @@ enum-told-4 : tie.Need-enum-told-4
 enum-told-4 c = search needs
 
 returns : tie.Need-returns
-unfolding outcomeNumber doneOr chartTable
+unfolding chartTable
 returns c =
     let b : tie.After-enum-told = search needs in
     let top : tie.Start = search needs in
@@ -54,14 +53,12 @@ returns c =
     (λ i. record { number = 0; area = e i }) ∙ area-done (chart top) (fine b .0) (fine b .1)
 
 returns-2 : tie.Need-returns-2
-unfolding outcomeNumber doneOr
 returns-2 c =
     let j : tie.After-judge = search needs in
     let top : tie.Start = search needs in
     area-refused (chart top) (sym (ap judgedOutcome (c .enum-told2 .given .1)) ∙ j .judge .ensures)
 
 returns-3 : tie.Need-returns-3
-unfolding outcomeNumber doneOr
 returns-3 c =
     let j : tie.After-judge = search needs in
     let top : tie.Start = search needs in

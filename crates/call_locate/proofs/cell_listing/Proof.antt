@@ -8,7 +8,9 @@ use borrow.Author.Needs.{needs}
 use denote.Enum.Declared.{tagOf}
 use types.Run.{OneOf}
 use Rattle.theory_lists.specs.Lists.{countFrom}
-use Rattle.spec_charts.specs.Refusals.{Refusal, shortBuffer, brokenChain, staleEntries, refused}
+use Rattle.spec_charts.specs.declared.Refusal.{Refusal}
+use Rattle.spec_charts.specs.declared.Refusal.the-variants.{ShortBuffer, BrokenChain, StaleEntries}
+use Rattle.spec_charts.specs.Refusals.{refused}
 use Rattle.spec_calls.specs.Buffers.{Chart, chartOf, chartEntries, tooShort, chainRule}
 use Rattle.laws_calls.proofs.BufferLaws.{searchable}
 use Rattle.laws_calls.proofs.JudgeLaws.{chained-passed}
@@ -51,9 +53,9 @@ no-tag (inr (inr e)) = omega arith
 -- what is not fine is a refusal
 refusal : (j : Judged) → OneOf (1 ∷ 2 ∷ 3 ∷ []) (tagOf judged.the-type j) → (r : Refusal) × (refused r ≡ judgedOutcome j)
 refusal judgements.Fine n = absurd (no-tag n)
-refusal judgements.ShortBuffer n = (shortBuffer, refl)
-refusal judgements.BrokenChain n = (brokenChain, refl)
-refusal judgements.StaleEntries n = (staleEntries, refl)
+refusal judgements.ShortBuffer n = (ShortBuffer, refl)
+refusal judgements.BrokenChain n = (BrokenChain, refl)
+refusal judgements.StaleEntries n = (StaleEntries, refl)
 
 -- an earlier place, found from a later one
 abbrev judge-to-top : tie.After-judge → tie.Start

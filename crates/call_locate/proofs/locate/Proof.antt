@@ -1,7 +1,6 @@
 use mathlib.Core.Path.{_≡_, sym, _∙_, ap}
 use mathlib.Core.Bool.{true, false}
 use borrow.Author.Needs.{needs}
-use Rattle.spec_charts.specs.Refusals.{outcomeNumber, doneOr}
 use Rattle.spec_charts.specs.Reading.{listing}
 use Rattle.spec_calls.specs.Buffers.{Chart, chartOf, chartEntries, tooShort, chainRule}
 use Rattle.laws_calls.proofs.BufferLaws.{searchable}
@@ -75,14 +74,12 @@ returns c =
     locate-done (chart top) (top .args .p) (fine b .0) (fine b .1) (listed l) (c .first-holding .ensures)
 
 returns-2 : tie.Need-returns-2
-unfolding outcomeNumber doneOr
 returns-2 c =
     let j : tie.After-judge = search needs in
     let top : tie.Start = search needs in
     locate-refused (chart top) (sym (ap judgedOutcome (c .enum-told2 .given .1)) ∙ j .judge .ensures) (top .args .p)
 
 returns-3 : tie.Need-returns-3
-unfolding outcomeNumber doneOr
 returns-3 c =
     let j : tie.After-judge = search needs in
     let top : tie.Start = search needs in

@@ -1,7 +1,6 @@
 use mathlib.Core.Path.{_≡_, sym, _∙_, ap}
 use mathlib.Core.Bool.{true, false}
 use borrow.Author.Needs.{needs}
-use Rattle.spec_charts.specs.Refusals.{outcomeNumber, doneOr}
 use Rattle.spec_calls.specs.Buffers.{Chart, chartOf, chartTable, tooShort, chainRule}
 use Rattle.laws_calls.proofs.BufferLaws.{rule-held}
 use Rattle.laws_calls.proofs.JudgeLaws.{chained-passed, chained-not-stale}
@@ -50,7 +49,7 @@ abbrev enum-told-to-top : tie.After-enum-told → tie.Start
 enum-told-to-top c = search needs
 
 returns : tie.Need-returns
-unfolding outcomeNumber doneOr chartTable
+unfolding chartTable
 returns c =
     let all-apart : tie.After-all-apart = search needs in
     let b : tie.After-enum-told = search needs in
@@ -59,7 +58,7 @@ returns c =
     (λ i. record { number = 0; isSound = e i }) ∙ sound-done (chart top) (fine b .0) (fine b .1)
 
 returns-2 : tie.Need-returns-2
-unfolding outcomeNumber doneOr chartTable
+unfolding chartTable
 returns-2 c =
     let all-apart : tie.After-all-apart = search needs in
     let b : tie.After-enum-told = search needs in
@@ -68,14 +67,12 @@ returns-2 c =
     (λ i. record { number = 0; isSound = e i }) ∙ sound-done (chart top) (fine b .0) (fine b .1)
 
 returns-3 : tie.Need-returns-3
-unfolding outcomeNumber doneOr
 returns-3 c =
     let j : tie.After-judge = search needs in
     let top : tie.Start = search needs in
     sound-refused (chart top) (sym (ap judgedOutcome (c .enum-told2 .given .1)) ∙ j .judge .ensures)
 
 returns-4 : tie.Need-returns-4
-unfolding outcomeNumber doneOr
 returns-4 c =
     let j : tie.After-judge = search needs in
     let top : tie.Start = search needs in

@@ -1,7 +1,8 @@
 use mathlib.Core.Path.{_≡_, sym, _∙_, ap}
 use mathlib.Core.Bool.{true, false, not}
 use borrow.Author.Needs.{needs}
-use Rattle.spec_charts.specs.Refusals.{staleEntries, done, refuseIf}
+use Rattle.spec_charts.specs.declared.Refusal.the-variants.{StaleEntries}
+use Rattle.spec_charts.specs.Refusals.{done, refuseIf}
 use Rattle.spec_calls.specs.Buffers.{Chart, chartOf, chartTable, chartEntries, tooShort, chainRule, indexed}
 use Rattle.spec_calls.specs.Calls.{ifIndexed}
 use Rattle.laws_calls.proofs.BufferLaws.{ruled, rule-held, searchable}
@@ -76,7 +77,7 @@ returns-3 c =
     let j : tie.After-judge = search needs in
     let top : tie.Start = search needs in
     let lent = chart top in
-    chained-refused lent (refuseIf (not (indexed lent)) staleEntries (done true)) (sym (ap judgedOutcome (c .enum-told2 .given .1)) ∙ j .judge .ensures)
+    chained-refused lent (refuseIf (not (indexed lent)) StaleEntries (done true)) (sym (ap judgedOutcome (c .enum-told2 .given .1)) ∙ j .judge .ensures)
 
 returns-4 : tie.Need-returns-4
 unfolding ifIndexed
@@ -84,7 +85,7 @@ returns-4 c =
     let j : tie.After-judge = search needs in
     let top : tie.Start = search needs in
     let lent = chart top in
-    chained-refused lent (refuseIf (not (indexed lent)) staleEntries (done true)) (sym (ap judgedOutcome (c .enum-told3 .given .1)) ∙ j .judge .ensures)
+    chained-refused lent (refuseIf (not (indexed lent)) StaleEntries (done true)) (sym (ap judgedOutcome (c .enum-told3 .given .1)) ∙ j .judge .ensures)
 
 returns-5 : tie.Need-returns-5
 returns-5 c =

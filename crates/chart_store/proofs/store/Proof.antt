@@ -1,7 +1,6 @@
 -- The entries are built first, and the table is written only where they fit: a refusal leaves all as it was.
 use native.Mathlib.Omega.{arith}
 use borrow.Author.Needs.{needs}
-use Rattle.spec_charts.specs.Refusals.{outcomeNumber, outcomeValue}
 use Rattle.spec_calls.specs.Buffers.{Chart, chartOf}
 use Rattle.spec_calls.specs.Calls.{changedBy}
 use Rattle.laws_calls.proofs.BufferLaws.{long-enough}
@@ -36,7 +35,7 @@ abbrev else1-to-build-into : tie.Else1 → tie.After-build-into
 else1-to-build-into c = search needs
 
 returns : tie.Need-returns
-unfolding changedBy outcomeNumber outcomeValue
+unfolding changedBy
 returns c =
     let build-into : tie.After-build-into = search needs in
     let top = build-into-to-top build-into in
@@ -64,7 +63,7 @@ same-length-7 : tie.Need-same-length-7
 same-length-7 c = search needs
 
 returns-2 : tie.Need-returns-2
-unfolding changedBy outcomeNumber outcomeValue
+unfolding changedBy
 returns-2 c =
     let put-table : tie.After-put-table = search needs in
     let else1 : tie.Else1 = search needs in

@@ -2,7 +2,8 @@ use mathlib.Core.Path.{sym, _∙_, ap}
 use mathlib.Core.Bool.{Bool, true}
 use native.Mathlib.Omega.{arith}
 use borrow.Author.Needs.{needs}
-use Rattle.spec_charts.specs.Refusals.{Outcome, faultyTriangle, refused, done, andThen}
+use Rattle.spec_charts.specs.declared.Refusal.the-variants.{FaultyTriangle}
+use Rattle.spec_charts.specs.Refusals.{Outcome, refused, done, andThen}
 use Rattle.spec_charts.specs.Table.{Table}
 use Rattle.spec_charts.specs.Edits.{givenTable}
 use Rattle.call_load.proofs.GivenLaws.{given-length, given-faulty, given-done}
@@ -29,7 +30,7 @@ returns-2 c =
     let else1 : tie.Else1 = search needs in
     let top : tie.Start = search needs in
     let e = f .first-faulty .ensures in
-    ap (λ i. refused (faultyTriangle i)) e
+    ap (λ i. refused (FaultyTriangle i)) e
     ∙ sym (ap judged (given-faulty (top .args .given .now) (else1 .if1 .left) (omega (arith, e, c .if2 .taken))))
 
 returns-3 : tie.Need-returns-3

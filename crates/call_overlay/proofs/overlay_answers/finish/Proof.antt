@@ -1,6 +1,5 @@
 use native.Mathlib.Omega.{arith}
 use borrow.Author.Needs.{needs}
-use Rattle.spec_charts.specs.Refusals.{outcomeNumber}
 use Rattle.call_overlay.proofs.FinishLaws.{finish-over, finish-done}
 use Rattle.call_overlay.proofs.overlay_answers.finish.Statement.{statement}
 use Rattle.call_overlay.proofs.overlay_answers.finish.Tie as tie
@@ -15,7 +14,6 @@ same-length : tie.Need-same-length
 same-length c = search needs
 
 returns : tie.Need-returns
-unfolding outcomeNumber
 returns c =
     let clear-items : tie.After-clear-items = search needs in
     let top : tie.Start = search needs in
@@ -31,7 +29,6 @@ same-length-2 : tie.Need-same-length-2
 same-length-2 c = search needs
 
 returns-2 : tie.Need-returns-2
-unfolding outcomeNumber
 returns-2 c =
     let clear-items2 : tie.After-clear-items2 = search needs in
     let top : tie.Start = search needs in
