@@ -7,6 +7,7 @@ use mathlib.Core.Option.{none, some}
 use Rattle.spec_charts.specs.declared.Refusal.the-variants.{ShortBuffer, BrokenChain, FaultyTriangle, TableFull, TooManyPairs}
 use Rattle.spec_charts.specs.Refusals.{refused, done}
 use Rattle.spec_charts.proofs.RefusalsExamples.{rows}
+use Rattle.spec_calls.specs.Buffers.{chartOf}
 use Rattle.spec_calls.specs.Calls as Calls
 use Rattle.base_answers.specs.Outcomes.{verdictOutcome, changedOf, locatedOutcome, locatedOf, soundnessOutcome, soundnessOf, areaOutcome, areaOf, overlaidOf}
 use Rattle.base_answers.specs.declared.Verdict.{Verdict}
@@ -32,7 +33,7 @@ allVerdicts = verdicts.Accepted ∷ map (λ r. verdicts.Refused r) rows
 
 -- a change with 2 triangles and 20 entries, and four lists that differ
 abbrev changed : Verdict → Calls.Changed
-changed v = changedOf (record { verdict = v; triangles = 2; entries = 20 }) (31 ∷ []) (32 ∷ []) (33 ∷ []) (34 ∷ [])
+changed v = changedOf (record { verdict = v; triangles = 2; entries = 20 }) (chartOf (31 ∷ []) (32 ∷ []) (33 ∷ []) (34 ∷ []))
 
 -- document 01's numbers, 0 to 12, and the triangle beside 5
 changed-numbers-example : map (λ v. changed v .number) allVerdicts ≡ 0 ∷ 1 ∷ 2 ∷ 3 ∷ 4 ∷ 5 ∷ 6 ∷ 7 ∷ 8 ∷ 9 ∷ 10 ∷ 11 ∷ 12 ∷ []

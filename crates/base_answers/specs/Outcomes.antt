@@ -5,8 +5,8 @@ use mathlib.Core.List.{List}
 use mathlib.Core.Option.{Option, none, some}
 use Prim.Native.Nat.{ℕ}
 use Rattle.spec_charts.specs.Refusals.{Outcome, refused, done, outcomeNumber, outcomeValue, doneOr}
-use Rattle.spec_calls.specs.Buffers.{chartOf}
-use Rattle.spec_calls.specs.Lent.{Lent}
+use Rattle.spec_calls.specs.Buffers.{Chart}
+use Rattle.spec_calls.specs.Lent.{Lent, leftChart}
 use Rattle.spec_calls.specs.Calls as Calls
 use Rattle.base_answers.specs.declared.Verdict.{Verdict}
 use Rattle.base_answers.specs.declared.Verdict.the-variants as verdicts
@@ -24,18 +24,17 @@ abbrev pub verdictOutcome : Verdict → Outcome Bool
 verdictOutcome verdicts.Accepted = done true
 verdictOutcome (verdicts.Refused r) = refused r
 
--- all that a load or an edit gives back: number, value, lists and counts
-abbrev pub changedOf : Changed → List ℕ → List ℕ → List ℕ → List ℕ → Calls.Changed
-changedOf r table keys levels items = record {
+-- all that a load or an edit gives back: number and value, and the chart
+abbrev pub changedOf : Changed → (ℕ → ℕ → Chart) → Calls.Changed
+changedOf r chart = record {
   number = outcomeNumber (verdictOutcome (r .verdict));
   value = outcomeValue (verdictOutcome (r .verdict));
-  chart = chartOf table keys levels items (r .triangles) (r .entries);
+  chart = chart (r .triangles) (r .entries);
 }
 
 -- the same of the lists that were lent, as the call leaves them
 abbrev pub left : Lent → Lent → Lent → Lent → Changed → Calls.Changed
-left table keys levels items r =
-    changedOf r (table .exit .now) (keys .exit .now) (levels .exit .now) (items .exit .now)
+left table keys levels items r = changedOf r (leftChart table keys levels items)
 
 -- locate: done with a triangle or nowhere, or refused
 abbrev pub locatedOutcome : Located → Outcome (Option ℕ)
