@@ -9,7 +9,7 @@ returns : tie.Need-returns
 returns c =
     let top : tie.Start = search needs in
     let a = top .args in
-    λ table. entries-many (chartOf table (a .keys .now) (a .levels .now) (a .items .now) (a .count) (a .n)) (omega arith)
+    λ table. entries-many (chartOf table (a .keys .now) (a .levels .now) (a .items .now) (a .triangles) (a .entries)) (omega arith)
 
 chain-holds-requires : tie.Need-chain-holds-requires
 chain-holds-requires c κs = omega arith
@@ -18,7 +18,7 @@ returns-2 : tie.Need-returns-2
 returns-2 c =
     let top : tie.Start = search needs in
     let a = top .args in
-    λ table. entries-chained (chartOf table (a .keys .now) (a .levels .now) (a .items .now) (a .count) (a .n)) (omega arith) (c .chain-holds .ensures)
+    λ table. entries-chained (chartOf table (a .keys .now) (a .levels .now) (a .items .now) (a .triangles) (a .entries)) (omega arith) (c .chain-holds .ensures)
 
 pub entries-rule-spec : {M : Type 1} → statement M
 entries-rule-spec = tie.close (tie.spec returns chain-holds-requires returns-2)

@@ -3,7 +3,8 @@ use mathlib.Core.Bool.{true, false}
 use borrow.Author.Needs.{needs}
 use borrow.Author.Tests.{not-true, not-false}
 use Rattle.spec_charts.specs.Refusals.{done}
-use Rattle.spec_calls.specs.Buffers.{Chart, chartOf, tooShort}
+use Rattle.spec_calls.specs.Buffers.{Chart, tooShort}
+use Rattle.spec_calls.specs.Lent.{held}
 use Rattle.laws_calls.proofs.JudgeLaws.{judged-short, judged-broken, chained-passes}
 use Rattle.chart_rule.proofs.judge.Statement.{statement}
 use Rattle.chart_rule.proofs.judge.Tie as tie
@@ -11,7 +12,7 @@ use Rattle.chart_rule.proofs.judge.Tie as tie
 -- the chart lent
 abbrev chart : tie.Start → Chart
 chart c =
-    let a = c .args in chartOf (a .table .now) (a .keys .now) (a .levels .now) (a .items .now) (a .triangles) (a .entries)
+    let a = c .args in held (a .table) (a .keys) (a .levels) (a .items) (a .triangles) (a .entries)
 
 too-short-requires : tie.Need-too-short-requires
 too-short-requires c κs = search needs
