@@ -11,6 +11,7 @@ use Rattle.theory_lists.specs.Lists.{all, upTo}
 use Rattle.theory_lists.proofs.IndexLaws.{all-below-at, all-below-fewer}
 use Rattle.spec_squares.specs.Square.{depth}
 use Rattle.spec_calls.specs.Buffers.{zipEntries}
+use Rattle.laws_calls.proofs.BufferLaws.{roomy-fewer}
 use Rattle.chart_links.specs.Links.{entryAt}
 use Rattle.chart_rule.proofs.PartLaws.{no-entries, chain-stopped, chain-joined}
 use borrow.Author.Needs.{needs}
@@ -32,7 +33,7 @@ returns-2 c =
     let top : tie.Start = search needs in
     let a = top .args in
     let fit = levels-fit .levels-fit in
-    chain-stopped (a .count) (a .keys .now) (a .levels .now) (a .items .now) (a .n) (a .n - 1) (omega arith) (top .pre .0) (top .pre .1 .0) (top .pre .1 .1)
+    chain-stopped (a .count) (a .keys .now) (a .levels .now) (a .items .now) (a .n) (a .n - 1) (omega arith) (top .pre)
     (sym (fit .ensures) ∙ not-true (fit .result) (c .if2 .taken))
 
 -- from here on every level fits
@@ -84,9 +85,13 @@ faults-requires c κs =
     let else2 : tie.Else2 = search needs in
     let top : tie.Start = search needs in
     let levels = top .args .levels .now in (
-      omega arith,
+      roomy-fewer (omega arith) (top .pre),
       (
-        simp (length-take, length-drop) (omega arith),
+        record {
+          forKeys = simp (length-take, length-drop) (omega arith);
+          forLevels = simp (length-take, length-drop) (omega arith);
+          forItems = simp (length-take, length-drop) (omega arith);
+        },
         all-below-fewer (λ i. leb (getD levels i 0) depth) (omega arith) (levels-ok else2),
       ),
     )
@@ -123,7 +128,7 @@ returns-3 c =
     let else2 : tie.Else2 = search needs in
     let top = else2-to-top else2 in
     let a = top .args in
-    chain-joined (a .count) (a .keys .now) (a .levels .now) (a .items .now) (a .n) (a .n - 1) (omega arith) (top .pre .0) (top .pre .1 .0) (top .pre .1 .1)
+    chain-joined (a .count) (a .keys .now) (a .levels .now) (a .items .now) (a .n) (a .n - 1) (omega arith) (top .pre)
     (levels-ok else2)
     (count-for-all .count-for-all .ensures (a .count)) (faults .faults .ensures) (c .ends-tree .ensures (getD (a .items .now) (a .n - 1) 0))
 
