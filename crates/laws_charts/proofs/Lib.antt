@@ -11,6 +11,7 @@ pub mod EditLaws
 pub mod FlipLaws
 pub mod LoadTable
 pub mod MergeLaws
+pub mod ProposedLaws
 pub mod EventTable
 pub mod EventArea
 pub mod FlipUnique
