@@ -16,7 +16,7 @@ chart c =
 build-into-requires : tie.Need-build-into-requires
 build-into-requires c κs =
     let top : tie.Start = search needs in
-    let long = long-enough (chart top) (top .pre .1) in (top .pre .0, (long .keys, (long .levels, long .items)))
+    let long = long-enough (chart top) (top .pre .1) in (((top .pre .0 .few, top .pre .0 .room), top .pre .0 .oriented), (long .lists .forKeys, (long .lists .forLevels, long .lists .forItems)))
 
 same-length : tie.Need-same-length
 same-length c = search needs
@@ -39,7 +39,7 @@ unfolding changedBy
 returns c =
     let build-into : tie.After-build-into = search needs in
     let top = build-into-to-top build-into in
-    store-many (top .args .proposed .now) (top .args .n) (top .pre .0 .0 .1) (chart top) (build-into .build-into .ensures) (omega (arith, c .if1 .taken))
+    store-many (top .args .proposed .now) (top .args .n) (top .pre .0 .room) (chart top) (build-into .build-into .ensures) (omega (arith, c .if1 .taken))
 
 mul-put-table : tie.Need-mul-put-table
 mul-put-table c = search needs
@@ -48,7 +48,7 @@ put-table-requires : tie.Need-put-table-requires
 put-table-requires c κs =
     let build-into-arg : tie.After-build-into-arg = search needs in
     let top : tie.Start = search needs in
-    (omega (arith, top .pre .0 .0 .1), (omega (arith, top .pre .0 .0 .0), long-enough (chart top) (top .pre .1) .table))
+    (omega (arith, top .pre .0 .room), (omega (arith, top .pre .0 .few), long-enough (chart top) (top .pre .1) .table))
 
 same-length-4 : tie.Need-same-length-4
 same-length-4 c = search needs
@@ -69,7 +69,7 @@ returns-2 c =
     let else1 : tie.Else1 = search needs in
     let build-into = else1-to-build-into else1 in
     let top = build-into-to-top build-into in
-    store-done (top .args .proposed .now) (top .args .n) (top .pre .0 .0 .1) (chart top) (build-into .build-into .ensures)
+    store-done (top .args .proposed .now) (top .args .n) (top .pre .0 .room) (chart top) (build-into .build-into .ensures)
     (omega (arith, else1 .if1 .left)) (put-table .put-table .ensures)
 
 pub store-spec : {M : Type 1} → statement M
