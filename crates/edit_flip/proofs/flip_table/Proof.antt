@@ -90,7 +90,7 @@ returns-2 c =
           ∙ ap₂ (λ v w. flipAs table (a .i) (a .j) (triangleOf v) (triangleOf w)) (rotated .rotated .ensures) (rotated2 .rotated2 .ensures)
           ∙ sym (tried-hit table (a .i) (a .j) us s (loop .loop .inv) _ (in-loop .loop-test .taken) found)
           ∙ sym (flip-begun (a .table .now) (a .n) (a .i) (a .j) (triangle-at .triangle-at .ensures) (triangle-at2 .triangle-at2 .ensures) (else1 .if1 .left)),
-      flip-as .flip-as .ensures .1,
+      search needs,
     )
 
 loop-again : tie.Need-loop-again Inv-loop μ-loop

@@ -101,7 +101,7 @@ returns-2 c =
     let v = row-ending ns (a .n) k (a .p) (places .below) (row-ending-in3 .row-ending-in3 .ensures) in (
       merge-three .merge-three .ensures .0 ∙ (λ q. mergeThree (tableOf ns (a .n)) i j k (s q) (u q) (v q))
           ∙ sym (around-three (a .p) (tableOf ns (a .n)) (a .n) (star next-around4) (else1 .if1 .left)),
-      merge-three .merge-three .ensures .1,
+      search needs,
     )
 
 pub take-out-table-spec : {M : Type 1} → statement M
