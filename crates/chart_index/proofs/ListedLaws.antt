@@ -10,9 +10,9 @@ use Rattle.theory_lists.proofs.ListsLaws.{Every}
 use Rattle.theory_orthtree.specs.Entries.{Entry}
 use Rattle.spec_charts.specs.Cells.{maxEntries}
 use Rattle.spec_calls.specs.Buffers.{padded}
-use Rattle.quadtree_cells.specs.Packed.{keyOf, levelOf, itemOf}
+use Rattle.base_entries.specs.Packed.{keyOf, levelOf, itemOf}
 use Rattle.chart_index.specs.Lists.{ListedWithin}
-use Rattle.quadtree_build.proofs.PackLaws.{Packable, keys-packed, levels-packed, items-packed}
+use Rattle.base_entries.proofs.PackLaws.{Packable, keys-packed, levels-packed, items-packed}
 use Rattle.quadtree_build.specs.Packed.{Packed}
 use Rattle.quadtree_build.proofs.PackedLaws.{packed-few, packed-count, packed-take, few-entries}
 

@@ -19,10 +19,10 @@ use Rattle.theory_orthtree.specs.Entries.{Entry}
 use Rattle.theory_orthtree.proofs.EntriesLaws.{noEntry}
 use Rattle.spec_calls.specs.Buffers.{zipEntries, sameEntries}
 use Rattle.laws_calls.proofs.EntriesLaws.{sameEntries-reflects, first-count, first-at}
-use Rattle.quadtree_cells.specs.Packed.{packed}
+use Rattle.base_entries.specs.Packed.{packed}
 use Rattle.chart_links.specs.Links.{entryAt}
 use Rattle.chart_judge.specs.Places.{packedAt}
-use Rattle.quadtree_build.proofs.PackLaws.{Packable, packed-injective}
+use Rattle.base_entries.proofs.PackLaws.{Packable, packed-injective}
 use Rattle.quadtree_build.specs.Packed.{Packed}
 use Rattle.quadtree_build.proofs.PackedLaws.{packed-count, packed-take}
 

@@ -3,7 +3,7 @@
 use mathlib.Core.List.{List}
 use Prim.Native.Nat.{ℕ}
 use Rattle.chart_links.specs.Links.{entryAt}
-use Rattle.quadtree_cells.specs.Packed.{packed}
+use Rattle.base_entries.specs.Packed.{packed}
 
 -- the entry at place i of three lists, packed
 abbrev pub packedAt : List ℕ → List ℕ → List ℕ → ℕ → ℕ

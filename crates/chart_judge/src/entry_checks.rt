@@ -10,7 +10,7 @@ ghost use Rattle.spec_plane.specs.Triangle.{proper};
 ghost use Rattle.spec_charts.specs.Table.{maxTriangles, numbersPerTriangle, tableOf};
 ghost use Rattle.spec_charts.specs.Cells.{entriesOf, maxEntries};
 ghost use Rattle.spec_calls.specs.Buffers.{zipEntries, sameEntries};
-ghost use Rattle.quadtree_cells.specs.Packed.{packed};
+ghost use Rattle.base_entries.specs.Packed.{packed};
 ghost use Rattle.chart_judge.specs.Places.{packedAt};
 ghost use mathlib.Core.Bool.{_&&_};
 ghost use Prim.Native.Nat.{_+_};

@@ -1,6 +1,6 @@
 use native.Mathlib.Omega.{arith}
 use borrow.Author.Needs.{needs}
-use Rattle.quadtree_build.proofs.PackLaws.{entries-packable}
+use Rattle.base_entries.proofs.PackLaws.{entries-packable}
 use Rattle.chart_judge.proofs.MatchLaws.{match-entries}
 use Rattle.chart_judge.proofs.entry_checks.match_few.Statement.{statement}
 use Rattle.chart_judge.proofs.entry_checks.match_few.Tie as tie
