@@ -9,7 +9,7 @@ use native.Mathlib.Nat.{add-zero, zero-add}
 use native.Mathlib.Omega.{arith}
 use lib.ListN.{length}
 use Rattle.theory_lists.specs.Lists.{all, placesFrom, runLength}
-use Rattle.theory_lists.proofs.Runs.{run-unique}
+use Rattle.theory_lists.proofs.Prefixes.{run-unique}
 use Rattle.spec_plane.specs.Triangle.{proper}
 use Rattle.spec_charts.specs.Table.{Table, tableOf, triangleAt, numbered, noTriangle}
 use Rattle.spec_charts.specs.declared.Refusal.the-variants.{FaultyTriangle}

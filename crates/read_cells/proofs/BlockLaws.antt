@@ -13,7 +13,7 @@ use lib.Dec.{T}
 use lib.ListN.{length, getD, take, drop}
 use Rattle.theory_lists.specs.Lists.{filter}
 use Rattle.theory_lists.proofs.Reflects.{Reflects, reflects-iff}
-use Rattle.theory_lists.proofs.Runs.{run-unique}
+use Rattle.theory_lists.proofs.Prefixes.{run-unique}
 use Rattle.theory_lists.proofs.Order.{ordered-at}
 use Rattle.theory_orthtree.specs.Entries.{Entry, span, rangeEnd, covers, chain}
 use Rattle.theory_orthtree.proofs.EntriesLaws.{InRange, span-positive, covers-reflects}

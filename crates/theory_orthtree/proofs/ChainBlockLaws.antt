@@ -13,7 +13,7 @@ use lib.ListN.{take, drop}
 use Rattle.theory_lists.specs.Lists.{filter, runLength}
 use Rattle.theory_lists.proofs.Reflects.{Reflects, reflects-iff}
 use Rattle.theory_lists.proofs.Order.{ordered-imp}
-use Rattle.theory_lists.proofs.Runs.{filter-block, block-some}
+use Rattle.theory_lists.proofs.Prefixes.{filter-part, part-some}
 use Rattle.theory_orthtree.specs.Entries.{Entry, span, rangeEnd, covers, chain}
 use Rattle.theory_orthtree.proofs.EntriesLaws.{InRange, covers-reflects}
 use Rattle.theory_orthtree.proofs.ChainOrderLaws.{Before, before-key, before-end, chain-ordered, chain-cover}
@@ -67,13 +67,13 @@ module _ (arity depth k : ℕ) where
         ≡ take (startedBy k es - endedBy arity depth k es) (drop (endedBy arity depth k es) es)
     chain-block =
         let o = chain-ordered arity depth count pos es rule in
-        filter-block ended started (λ e. covers arity depth k e) ended-started in-range es
+        filter-part ended started (λ e. covers arity depth k e) ended-started in-range es
         (ordered-imp (λ e f b. ended-falls b) o) (ordered-imp (λ e f b. started-falls b) o)
 
     -- which is not empty if the key is one of the tree's
     pub chain-block-some : k < span arity depth 0 → endedBy arity depth k es < startedBy k es
     chain-block-some l =
         let s = chain-cover arity depth count pos es rule k l in
-        block-some ended started (λ e. covers arity depth k e) ended-started in-range es
+        part-some ended started (λ e. covers arity depth k e) ended-started in-range es
         (ordered-imp (λ e f b. started-falls b) (chain-ordered arity depth count pos es rule))
         (record { value = s .value; member = s .member; has = range-to (s .has) })
