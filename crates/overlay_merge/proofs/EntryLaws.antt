@@ -15,7 +15,7 @@ use Rattle.theory_lists.specs.Lists.{any}
 use Rattle.theory_lists.proofs.PartLaws.{part-map}
 use Rattle.theory_orthtree.specs.Entries.{Entry}
 use Rattle.theory_orthtree.proofs.EntriesLaws.{noEntry}
-use Rattle.theory_orthtree.proofs.KeyBlocksLaws.{KeysOf}
+use Rattle.theory_orthtree.proofs.KeyCellsLaws.{KeysOf}
 use Rattle.spec_calls.specs.Buffers.{zipEntries}
 use Rattle.laws_calls.proofs.EntriesLaws.{first-count, first-at}
 use Rattle.overlay_marks.specs.PairMarks.{placeOf, someAt}

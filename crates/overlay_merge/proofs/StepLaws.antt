@@ -17,8 +17,8 @@ use Rattle.theory_lists.proofs.Reflects.{reflects-and, reflects-ltb, reflects-t
 use Rattle.theory_orthtree.specs.Entries.{Entry, span, chain, cellHeads, meetings, listedTogether}
 use Rattle.theory_orthtree.proofs.EntriesLaws.{noEntry}
 use Rattle.spec_squares.specs.Square.{arity, depth}
-use Rattle.theory_orthtree.specs.KeyBlocks.{CellEnd, RunEnd, keyBlocks, keyFrom}
-use Rattle.theory_orthtree.proofs.KeyBlocksLaws.{KeysOf, keys-at}
+use Rattle.theory_orthtree.specs.KeyCells.{CellEnd, RunEnd, keyCells, keyFrom}
+use Rattle.theory_orthtree.proofs.KeyCellsLaws.{KeysOf, keys-at}
 use Rattle.theory_orthtree.proofs.CutLaws.{Cut, cut-start, cut-ends}
 use Rattle.theory_orthtree.proofs.RunLaws.{starts-before, cell-ends}
 use Rattle.theory_orthtree.proofs.NextBlock.{Block, next-block}
@@ -27,7 +27,7 @@ use Rattle.spec_calls.specs.Buffers.{zipEntries}
 use Rattle.overlay_marks.specs.Bits.{hasBit}
 use Rattle.overlay_merge.specs.Runs.{RunOf}
 use Rattle.overlay_merge.specs.Merge.{BlockMarked, Overlapping, Merged}
-use Rattle.overlay_merge.proofs.WalkLaws.{blocks-few}
+use Rattle.overlay_merge.proofs.WalkLaws.{keyCells-few}
 use Rattle.spec_charts.specs.Table.{maxTriangles}
 use Rattle.spec_charts.specs.Cells.{maxEntries}
 use Rattle.overlay_merge.proofs.EntryLaws.{EntriesOf, entries-of, some-listed}
@@ -98,8 +98,8 @@ pairs-more : (a b x y count pairs : ℕ) → count ≤ a * b → pairs ≤ x * y
 pairs-more a b x y count pairs h l = omega arith
 
 -- the cells of a run are no more than its entries
-pub run-cells : (ks : List ℕ) (a r : ℕ) → keyBlocks (take (r - a) (drop a ks)) ≤ r - a
-run-cells ks a r = omega (arith, blocks-few (take (r - a) (drop a ks)), length-take (r - a) (drop a ks))
+pub run-cells : (ks : List ℕ) (a r : ℕ) → keyCells (take (r - a) (drop a ks)) ≤ r - a
+run-cells ks a r = omega (arith, keyCells-few (take (r - a) (drop a ks)), length-take (r - a) (drop a ks))
 
 -- a product of cells of two runs fits into 64 bits
 pub cells-fit : {ks : List ℕ} {n a e r cells : ℕ} {ls : List ℕ} {m b f s cells₂ : ℕ} → RunOf ks n a e r cells → RunOf ls m b f s cells₂

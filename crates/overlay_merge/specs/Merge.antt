@@ -7,7 +7,7 @@ use Prim.Native.Nat.{ℕ, _+_, _*_, _-_, _≤_, _<_}
 use lib.ListN.{length, take, drop}
 use Rattle.theory_orthtree.specs.Entries.{Entry, chain, meetings, listedTogether}
 use Rattle.spec_squares.specs.Square.{arity, depth}
-use Rattle.theory_orthtree.specs.KeyBlocks.{RunEnd, keyBlocks}
+use Rattle.theory_orthtree.specs.KeyCells.{RunEnd, keyCells}
 use Rattle.spec_calls.specs.Buffers.{zipEntries}
 use Rattle.overlay_marks.specs.Bits.{hasBit}
 use Rattle.overlay_merge.specs.Runs.{BlockEnd}
@@ -20,7 +20,7 @@ pub record BlockMarked (ks is : List ℕ) (n a p : ℕ) (ls js : List ℕ) (m b 
   pub ends : BlockEnd ks n a ls m b end
   pub first : RunEnd ks n (a + 1) end p
   pub second : RunEnd ls m (b + 1) end q
-  pub count : pairs ≡ keyBlocks (take (p - a) (drop a ks)) * keyBlocks (take (q - b) (drop b ls))
+  pub count : pairs ≡ keyCells (take (p - a) (drop a ks)) * keyCells (take (q - b) (drop b ls))
   pub marks : PartsMarked before is a p js b q after
 
 -- the rows have a bit for each pair of items that are listed together, and r is the number of meetings

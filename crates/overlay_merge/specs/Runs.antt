@@ -6,7 +6,7 @@ use Prim.Native.Nat.{ℕ, _+_, _-_, max}
 use lib.ListN.{take, drop}
 use Rattle.theory_orthtree.specs.Entries.{span}
 use Rattle.spec_squares.specs.Square.{arity, depth}
-use Rattle.theory_orthtree.specs.KeyBlocks.{CellEnd, RunEnd, keyBlocks, keyFrom}
+use Rattle.theory_orthtree.specs.KeyCells.{CellEnd, RunEnd, keyCells, keyFrom}
 
 -- the key at which the larger of the cells at places a and b ends
 pub record BlockEnd (ks : List ℕ) (n a : ℕ) (ls : List ℕ) (m b e : ℕ) : Type 0 where
@@ -19,4 +19,4 @@ pub record BlockEnd (ks : List ℕ) (n a : ℕ) (ls : List ℕ) (m b e : ℕ) : 
 -- the run from place a on up to the key e, and its cells: the entry at a belongs to it, so its length is not 0
 pub record RunOf (ks : List ℕ) (n a e r cells : ℕ) : Type 0 where
   pub ends : RunEnd ks n (a + 1) e r
-  pub count : cells ≡ keyBlocks (take (r - a) (drop a ks))
+  pub count : cells ≡ keyCells (take (r - a) (drop a ks))

@@ -8,7 +8,7 @@ ghost use lib.Dec.{eqb};
 ghost use lib.ListN.{length};
 ghost use Rattle.theory_orthtree.specs.Entries.{span};
 ghost use Rattle.spec_squares.specs.Square.{arity, depth};
-ghost use Rattle.theory_orthtree.specs.KeyBlocks.{CellEnd, keyFrom};
+ghost use Rattle.theory_orthtree.specs.KeyCells.{CellEnd, keyFrom};
 ghost use Rattle.overlay_merge.specs.Runs.{BlockEnd, RunOf};
 
 // Where the entries end that have the key of place a.

@@ -19,7 +19,7 @@ use Rattle.theory_orthtree.specs.Entries.{Entry, span, rangeEnd, covers, chain}
 use Rattle.theory_orthtree.proofs.EntriesLaws.{InRange, span-positive, covers-reflects}
 use Rattle.theory_orthtree.proofs.ChainLaws.{ChainFrom, end, start, chain-reflects, same-end}
 use Rattle.theory_orthtree.proofs.ChainOrderLaws.{Before, before-end, chain-ordered, chain-keys-rise}
-use Rattle.theory_orthtree.proofs.ChainBlockLaws.{endedAt, startedAt, endedBy, startedBy, chain-block, chain-block-some}
+use Rattle.theory_orthtree.proofs.ChainPartLaws.{endedAt, startedAt, endedBy, startedBy, chain-part, chain-part-some}
 use Rattle.read_cells.specs.Passes.{Rises, Passes}
 use Rattle.read_cells.proofs.HalvesLaws.{not-passed}
 
@@ -67,7 +67,7 @@ module _ (arity depth count : ℕ) (pos : 0 < arity) (es : List Entry) (rule : T
     module _ (low : k < span arity depth 0) where
       -- one of them does not end at or before it
       some : endedBy arity depth k es < to
-      some = rw to-started (chain-block-some arity depth k count pos es rule low)
+      some = rw to-started (chain-part-some arity depth k count pos es rule low)
 
       pub to-positive : 0 < to
       to-positive = omega (arith, some)
@@ -165,7 +165,7 @@ module _ (arity depth count : ℕ) (pos : 0 < arity) (es : List Entry) (rule : T
           within = omega (arith, p .within);
           key = λ i h l. same i (omega (arith, p .within)) ∙ block-key i h l
               ∙ sym (same from (omega (arith, from-below, p .within)) ∙ block-key from (omega arith) from-below);
-          entries = chain-block arity depth k count pos es rule
+          entries = chain-part arity depth k count pos es rule
               ∙ sym (ap₂ (λ t f. take (t - f) (drop f es)) to-started from-ended);
           places = in-place;
         }

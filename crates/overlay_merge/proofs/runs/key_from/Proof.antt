@@ -1,7 +1,7 @@
 use native.Mathlib.Omega.{arith}
 use borrow.Author.Tests.{lt-ltb, le-ltb}
 use Rattle.theory_orthtree.specs.Entries.{span}
-use Rattle.theory_orthtree.specs.KeyBlocks.{keyFrom}
+use Rattle.theory_orthtree.specs.KeyCells.{keyFrom}
 use borrow.Author.Needs.{needs}
 use Rattle.overlay_merge.proofs.runs.key_from.Statement.{statement}
 use Rattle.overlay_merge.proofs.runs.key_from.Tie as tie

@@ -1,4 +1,4 @@
--- Keys of entries, and blocks of equal keys as they are counted from left to right.
+-- Keys of entries, and cells by their keys alone, as they are counted from left to right.
 -- Assumes nothing.
 use mathlib.Core.Path.{_≡_, refl, sym, _∙_, ap}
 use mathlib.Core.Bool.{Bool, true, false, cond}
@@ -12,7 +12,7 @@ use Rattle.theory_lists.proofs.Reflects.{reflects-eqb, reflects-ltb, reflects-t
 use Rattle.theory_lists.proofs.PartLaws.{part-map}
 use Rattle.theory_orthtree.specs.Entries.{Entry}
 use Rattle.theory_orthtree.proofs.EntriesLaws.{noEntry}
-use Rattle.theory_orthtree.specs.KeyBlocks.{changesAfter, keyBlocks, keyFrom}
+use Rattle.theory_orthtree.specs.KeyCells.{changesAfter, keyCells, keyFrom}
 use Rattle.theory_orthtree.proofs.PlaceLaws.{map-at}
 
 -- the key at a place before n
@@ -68,31 +68,26 @@ changes-next k (x ∷ xs) (suc j) h =
     more-choice (eqb k x) (changesAfter x (take j xs)) (cond (eqb (getD (x ∷ xs) j 0) (getD xs j 0)) 0 1) (changes-next x xs j (omega arith))
 
 list-next : (l : List ℕ) (j : ℕ) → suc j < length l
-    → keyBlocks (take (suc (suc j)) l) ≡ keyBlocks (take (suc j) l) + cond (eqb (getD l j 0) (getD l (suc j) 0)) 0 1
-unfolding keyBlocks
+    → keyCells (take (suc (suc j)) l) ≡ keyCells (take (suc j) l) + cond (eqb (getD l j 0) (getD l (suc j) 0)) 0 1
+unfolding keyCells
 list-next [] j h = absurd (omega arith)
 list-next (x ∷ xs) j h = let c = changes-next x xs j (omega arith) in omega arith
 
-list-first : (l : List ℕ) → 0 < length l → keyBlocks (take 1 l) ≡ 1
-unfolding keyBlocks changesAfter
+list-first : (l : List ℕ) → 0 < length l → keyCells (take 1 l) ≡ 1
+unfolding keyCells changesAfter
 list-first [] h = absurd (omega arith)
 list-first (x ∷ xs) h = refl
 
--- a part of no key has no block
-pub blocks-none : (ks : List ℕ) (a : ℕ) → keyBlocks (take (a - a) (drop a ks)) ≡ 0
-unfolding keyBlocks
-blocks-none ks a = let e : a - a ≡ 0 = omega arith in rw e
-
--- a part of one key has one
-pub blocks-one : (ks : List ℕ) (a : ℕ) → a < length ks → keyBlocks (take (suc a - a) (drop a ks)) ≡ 1
-blocks-one ks a h =
+-- a part of one key has one cell
+pub keyCells-one : (ks : List ℕ) (a : ℕ) → a < length ks → keyCells (take (suc a - a) (drop a ks)) ≡ 1
+keyCells-one ks a h =
     let e : suc a - a ≡ 1 = omega arith in
     rw e (list-first (drop a ks) (rw length-drop (omega arith)))
 
 -- with the next key there is one more, if it differs from the one before it
-pub blocks-grow : (ks : List ℕ) (a r : ℕ) → a ≤ r → suc r < length ks
-    → keyBlocks (take (suc (suc r) - a) (drop a ks)) ≡ keyBlocks (take (suc r - a) (drop a ks)) + cond (eqb (getD ks r 0) (getD ks (suc r) 0)) 0 1
-blocks-grow ks a r h l =
+pub keyCells-grow : (ks : List ℕ) (a r : ℕ) → a ≤ r → suc r < length ks
+    → keyCells (take (suc (suc r) - a) (drop a ks)) ≡ keyCells (take (suc r - a) (drop a ks)) + cond (eqb (getD ks r 0) (getD ks (suc r) 0)) 0 1
+keyCells-grow ks a r h l =
     let p : suc (suc r) - a ≡ suc (suc (r - a)) = omega arith in
     let q : suc r - a ≡ suc (r - a) = omega arith in
     let i : a + (r - a) ≡ r = omega arith in

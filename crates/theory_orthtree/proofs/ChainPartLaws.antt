@@ -62,17 +62,17 @@ module _ (arity depth k : ℕ) where
   ended-falls b t = let h = before-end arity depth b in omega (arith, leb→le, le→leb)
 
   module _ (count : ℕ) (pos : 0 < arity) (es : List Entry) (rule : T (chain arity depth count es)) where
-    -- the entries of the cell that has the key are one block of the list
-    pub chain-block : filter (λ e. covers arity depth k e) es
+    -- the entries of the cell that has the key are one part of the list
+    pub chain-part : filter (λ e. covers arity depth k e) es
         ≡ take (startedBy k es - endedBy arity depth k es) (drop (endedBy arity depth k es) es)
-    chain-block =
+    chain-part =
         let o = chain-ordered arity depth count pos es rule in
         filter-part ended started (λ e. covers arity depth k e) ended-started in-range es
         (ordered-imp (λ e f b. ended-falls b) o) (ordered-imp (λ e f b. started-falls b) o)
 
     -- which is not empty if the key is one of the tree's
-    pub chain-block-some : k < span arity depth 0 → endedBy arity depth k es < startedBy k es
-    chain-block-some l =
+    pub chain-part-some : k < span arity depth 0 → endedBy arity depth k es < startedBy k es
+    chain-part-some l =
         let s = chain-cover arity depth count pos es rule k l in
         part-some ended started (λ e. covers arity depth k e) ended-started in-range es
         (ordered-imp (λ e f b. started-falls b) (chain-ordered arity depth count pos es rule))

@@ -1,4 +1,5 @@
--- Blocks of equal keys, and where a cell and a run of cells end, in a list of keys (document 01, "Overlay": meetings).
+-- Cells by their keys alone, as equal keys beside each other: how many they are, and where a cell and a run of cells end, in a list
+-- of keys (document 01, "Overlay": meetings).
 -- Assumes nothing.
 use mathlib.Core.Path.{_≡_}
 use mathlib.Core.Bool.{cond}
@@ -26,10 +27,10 @@ unfoldable pub changesAfter : ℕ → List ℕ → ℕ
 changesAfter k [] = 0
 changesAfter k (l ∷ ls) = cond (eqb k l) (changesAfter l ls) (suc (changesAfter l ls))
 
--- how many blocks of equal keys
-unfoldable pub keyBlocks : List ℕ → ℕ
-keyBlocks [] = 0
-keyBlocks (k ∷ ks) = suc (changesAfter k ks)
+-- how many cells: the first key, and each that differs from the one before it, starts one
+unfoldable pub keyCells : List ℕ → ℕ
+keyCells [] = 0
+keyCells (k ∷ ks) = suc (changesAfter k ks)
 
 -- the key at place i of the first n, or the end of all keys after them
 unfoldable pub keyFrom : List ℕ → ℕ → ℕ → ℕ → ℕ

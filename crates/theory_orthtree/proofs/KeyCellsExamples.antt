@@ -5,7 +5,7 @@ use mathlib.Core.List.{List, [], _∷_, _++_, map}
 use Prim.Native.Nat.{ℕ, zero, suc, _≤_, _<_}
 use native.Mathlib.Omega.{arith}
 use lib.ListN.{getD}
-use Rattle.theory_orthtree.specs.KeyBlocks.{CellEnd, RunEnd, changesAfter, keyBlocks, keyFrom}
+use Rattle.theory_orthtree.specs.KeyCells.{CellEnd, RunEnd, changesAfter, keyCells, keyFrom}
 
 abbrev keys : List ℕ
 keys = 3 ∷ 5 ∷ 5 ∷ 9 ∷ []
@@ -76,10 +76,10 @@ last-run-example = record {
     below (suc (suc (suc (suc i)))) h l = absurd (omega arith)
 
 -- none, one, the same and another, all the same, all different, and a key that comes back
-blocks-example : map keyBlocks ([] ∷ (7 ∷ []) ∷ (7 ∷ 7 ∷ 9 ∷ []) ∷ (0 ∷ 0 ∷ 0 ∷ []) ∷ (0 ∷ 4 ∷ 8 ∷ []) ∷ (0 ∷ 0 ∷ 4 ∷ 5 ∷ 5 ∷ 5 ∷ 8 ∷ 0 ∷ []) ∷ [])
+cells-example : map keyCells ([] ∷ (7 ∷ []) ∷ (7 ∷ 7 ∷ 9 ∷ []) ∷ (0 ∷ 0 ∷ 0 ∷ []) ∷ (0 ∷ 4 ∷ 8 ∷ []) ∷ (0 ∷ 0 ∷ 4 ∷ 5 ∷ 5 ∷ 5 ∷ 8 ∷ 0 ∷ []) ∷ [])
     ≡ 0 ∷ 1 ∷ 2 ∷ 1 ∷ 3 ∷ 5 ∷ []
-unfolding keyBlocks changesAfter
-blocks-example = refl
+unfolding keyCells changesAfter
+cells-example = refl
 
 -- after the key 3: none, the same, another; the same again and then another; another and then the first again
 changes-example : map (changesAfter 3) ([] ∷ (3 ∷ []) ∷ (4 ∷ []) ∷ (3 ∷ 3 ∷ 5 ∷ []) ∷ (4 ∷ 3 ∷ []) ∷ (4 ∷ 4 ∷ []) ∷ [])
