@@ -39,16 +39,6 @@ module _ {A : Type 0} (f : A → Bool) where
   run-over x [] h e = refl
   run-over x (y ∷ ys) h e = run-fail y ys (test-false (λ t. rw e at (every-uncons h .0 t)))
 
-  run-choice : (b : Bool) {m n : ℕ} → m ≤ n → elim b [ true ↦ suc m | false ↦ 0 ] ≤ suc n
-  run-choice true h = omega arith
-  run-choice false h = omega arith
-
-  -- no more than there are
-  pub run-le : (l : List A) → runLength f l ≤ length l
-  unfolding runLength
-  run-le [] = omega arith
-  run-le (x ∷ xs) = run-choice (f x) (run-le xs)
-
   -- the run is the one number of elements that all pass, where the next one does not
   pub run-unique : (l : List A) (n : ℕ) (d : A) → n ≤ length l → ((i : ℕ) → i < n → f (getD l i d) ≡ true)
       → (n < length l → f (getD l n d) ≡ false) → n ≡ runLength f l
