@@ -1,9 +1,10 @@
+-- The cell ends where keys pass k, and starts where keys reach the last one before that.
 use Prim.Native.Nat.{_-_, _<_}
 use native.Mathlib.Omega.{arith}
 use borrow.Author.Needs.{needs}
 use Rattle.read_cells.proofs.HalvesLaws.{passed, not-passed}
-use Rattle.read_cells.proofs.search.last_block.Statement.{statement}
-use Rattle.read_cells.proofs.search.last_block.Tie as tie
+use Rattle.read_cells.proofs.search.last_cell.Statement.{statement}
+use Rattle.read_cells.proofs.search.last_cell.Tie as tie
 
 -- the first key is at or below k
 some : (c : tie.After-below) → 0 < c .below .result
@@ -46,8 +47,8 @@ returns c =
       starts = c .below2 .ensures;
     }
 
-pub last-block-spec : {M : Type 1} → statement M
-last-block-spec =
+pub last-cell-spec : {M : Type 1} → statement M
+last-cell-spec =
     tie.close
     (tie.spec
     add-below

@@ -20,7 +20,7 @@ use Rattle.theory_orthtree.proofs.EntriesLaws.{InRange, span-positive, covers-r
 use Rattle.theory_orthtree.proofs.ChainLaws.{ChainFrom, end, start, chain-reflects, same-end}
 use Rattle.theory_orthtree.proofs.ChainOrderLaws.{Before, before-end, chain-ordered, chain-keys-rise}
 use Rattle.theory_orthtree.proofs.ChainPartLaws.{endedAt, startedAt, endedBy, startedBy, chain-part, chain-part-some}
-use Rattle.read_cells.specs.Passes.{Rises, Passes}
+use Rattle.read_cells.specs.Keys.{Rises, Passes}
 use Rattle.read_cells.proofs.HalvesLaws.{not-passed}
 
 -- the entries of the cell that has the key k are those from place from up to place to, at least one, with one key
@@ -108,8 +108,8 @@ module _ (arity depth count : ℕ) (pos : 0 < arity) (es : List Entry) (rule : T
         from-below = omega (arith, to-positive, not-passed q (to - 1) last-in (omega arith))
 
         -- keys between the two places are the same
-        block-key : (i : ℕ) → from ≤ i → i < to → getD keys i 0 ≡ getD keys (to - 1) 0
-        block-key i h l = omega (arith, keys-rise .later i (to - 1) (omega arith) last-in, q .after i h (omega (arith, last-in)))
+        cell-key : (i : ℕ) → from ≤ i → i < to → getD keys i 0 ≡ getD keys (to - 1) 0
+        cell-key i h l = omega (arith, keys-rise .later i (to - 1) (omega arith) last-in, q .after i h (omega (arith, last-in)))
 
         -- an entry before place from is of a cell that ends at or before the key
         early-ended : (i : ℕ) → i < from → rangeEnd arity depth (getD es i d) ≤ k
@@ -128,7 +128,7 @@ module _ (arity depth count : ℕ) (pos : 0 < arity) (es : List Entry) (rule : T
             next : Before arity depth (getD es i d) (getD es (to - 1) d) → k < rangeEnd arity depth (getD es i d)
             next (inl s) = omega (arith, last-goes-on, same-end arity depth (s .cell))
             next (inr h) =
-                let e = block-key i a l in
+                let e = cell-key i a l in
                 absurd (omega (arith, span-positive arity depth (getD es i d .level) pos, same i (omega (arith, last-in)), last-key))
 
             go : Dec (to - 1 ≤ i) → k < rangeEnd arity depth (getD es i d)
@@ -163,8 +163,8 @@ module _ (arity depth count : ℕ) (pos : 0 < arity) (es : List Entry) (rule : T
         cell-part = record {
           some = from-below;
           within = omega (arith, p .within);
-          key = λ i h l. same i (omega (arith, p .within)) ∙ block-key i h l
-              ∙ sym (same from (omega (arith, from-below, p .within)) ∙ block-key from (omega arith) from-below);
+          key = λ i h l. same i (omega (arith, p .within)) ∙ cell-key i h l
+              ∙ sym (same from (omega (arith, from-below, p .within)) ∙ cell-key from (omega arith) from-below);
           entries = chain-part arity depth k count pos es rule
               ∙ sym (ap₂ (λ t f. take (t - f) (drop f es)) to-started from-ended);
           places = in-place;
