@@ -1,3 +1,4 @@
+-- The items before place i are inserted.
 use mathlib.Core.Path.{_≡_, subst}
 use Prim.Native.Nat.{_-_, _≤_}
 use native.Mathlib.Omega.{arith}
@@ -8,16 +9,16 @@ use Rattle.overlay_marks.proofs.insert_all.Statement.{statement}
 use Rattle.overlay_marks.proofs.insert_all.Tie as tie
 
 abbrev Inv-loop : tie.InvT-loop
-Inv-loop set₀ items a r i₀ set i = ((a ≤ i) × (i ≤ r)) × ItemsInserted set₀ items a i set
+Inv-loop set₀ items from to i₀ set i = ((from ≤ i) × (i ≤ to)) × ItemsInserted set₀ items from i set
 
 abbrev μ-loop : tie.MeasureT-loop
-μ-loop set₀ items a r i₀ set i = r - i
+μ-loop set₀ items from to i₀ set i = to - i
 
 loop-holds : tie.Need-loop-holds Inv-loop μ-loop
 loop-holds c =
     let top : tie.Start Inv-loop μ-loop = search needs in
     let a = top .args in
-    ((omega arith, omega arith), insert-start (a .set .now) (a .items .now) (a .a))
+    ((omega arith, omega arith), insert-start (a .set .now) (a .items .now) (a .from))
 
 mul-place : tie.Need-mul-place Inv-loop μ-loop
 mul-place c = search needs
@@ -58,8 +59,8 @@ returns c =
     let top : tie.Start Inv-loop μ-loop = search needs in
     let a = top .args in
     let l = loop .loop in
-    let e : l .i ≡ a .r = omega arith in
-    subst (λ x. ItemsInserted (a .set .now) (a .items .now) (a .a) x (l .set)) e (l .inv .1)
+    let e : l .i ≡ a .to = omega arith in
+    subst (λ x. ItemsInserted (a .set .now) (a .items .now) (a .from) x (l .set)) e (l .inv .1)
 
 pub insert-all-spec : {M : Type 1} → statement M
 insert-all-spec =

@@ -1,3 +1,4 @@
+-- The rows of the items before place i have the set's bits.
 use mathlib.Core.Path.{_≡_, subst}
 use Prim.Native.Nat.{_-_, _≤_}
 use native.Mathlib.Omega.{arith}
@@ -8,16 +9,16 @@ use Rattle.overlay_marks.proofs.join_all.Statement.{statement}
 use Rattle.overlay_marks.proofs.join_all.Tie as tie
 
 abbrev Inv-loop : tie.InvT-loop
-Inv-loop rows₀ items a r set i₀ rows i = ((a ≤ i) × (i ≤ r)) × SetJoined rows₀ items a i set rows
+Inv-loop rows₀ items from to set i₀ rows i = ((from ≤ i) × (i ≤ to)) × SetJoined rows₀ items from i set rows
 
 abbrev μ-loop : tie.MeasureT-loop
-μ-loop rows₀ items a r set i₀ rows i = r - i
+μ-loop rows₀ items from to set i₀ rows i = to - i
 
 loop-holds : tie.Need-loop-holds Inv-loop μ-loop
 loop-holds c =
     let top : tie.Start Inv-loop μ-loop = search needs in
     let a = top .args in
-    ((omega arith, omega arith), join-start (a .rows .now) (a .items .now) (a .a) (a .set .now))
+    ((omega arith, omega arith), join-start (a .rows .now) (a .items .now) (a .from) (a .set .now))
 
 mul-place : tie.Need-mul-place Inv-loop μ-loop
 mul-place c = search needs
@@ -61,8 +62,8 @@ returns c =
     let top : tie.Start Inv-loop μ-loop = search needs in
     let a = top .args in
     let l = loop .loop in
-    let e : l .i ≡ a .r = omega arith in
-    subst (λ x. SetJoined (a .rows .now) (a .items .now) (a .a) x (a .set .now) (l .rows)) e (l .inv .1)
+    let e : l .i ≡ a .to = omega arith in
+    subst (λ x. SetJoined (a .rows .now) (a .items .now) (a .from) x (a .set .now) (l .rows)) e (l .inv .1)
 
 pub join-all-spec : {M : Type 1} → statement M
 join-all-spec =

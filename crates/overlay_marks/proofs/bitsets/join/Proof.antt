@@ -1,3 +1,4 @@
+-- The first i words of the set are joined.
 use mathlib.Core.Path.{_≡_, subst}
 use Prim.Native.Nat.{_≤_, _-_}
 use native.Mathlib.Omega.{arith}
