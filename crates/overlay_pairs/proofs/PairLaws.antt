@@ -18,7 +18,7 @@ use Rattle.theory_lists.proofs.FilterLaws.{filter-pass, filter-fail, filter-app
 use Rattle.theory_lists.proofs.FlatMapLaws.{flatMap-append}
 use Rattle.theory_lists.proofs.MemberLaws.{filter-to}
 use Rattle.theory_lists.proofs.IndexLaws.{upTo-suc}
-use Rattle.theory_lists.proofs.CompactLaws.{compact-skip}
+use Rattle.theory_lists.proofs.CompactLaws.{filter-skip}
 use Rattle.spec_plane.specs.Triangle.{proper}
 use Rattle.spec_plane.specs.Box.{Box, triangleBox}
 use Rattle.spec_charts.specs.Table.{maxTriangles, triangleAt}
@@ -111,7 +111,7 @@ module _ (first rows : List ℕ) (i : ℕ) {second ls ts rs bs near : List ℕ} 
       (ap (filter meets) (n .listed)
       ∙ filter-both meets test (upTo maxTriangles)
       ∙ ap (λ k. filter (λ j. meets j && test j) (upTo k)) (omega arith)
-      ∙ compact-skip (λ j. meets j && test j) m (maxTriangles - m) over
+      ∙ filter-skip (λ j. meets j && test j) m (maxTriangles - m) over
       ∙ filter-agree (λ j. meets j && test j) (λ j. meets j && markedAt rows i j) (upTo m) (λ j s. same-test j (upTo-to s)))
 
   pub row-wrote : {at r : ℕ} {l l′ : List ℕ} → Wrote (nearPairs first second i (take d near)) at r l l′ → Wrote (rowPairs first second m rows i) at r l l′
