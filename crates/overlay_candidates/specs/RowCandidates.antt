@@ -4,9 +4,10 @@ use mathlib.Core.Bool.{Bool, _&&_}
 use mathlib.Core.List.{List}
 use Prim.Native.Nat.{ℕ, _+_, _*_}
 use lib.Dec.{ltb}
+use Rattle.theory_lists.specs.Lists.{Compacted}
 use Rattle.spec_plane.specs.Box.{Box}
 use Rattle.spec_charts.specs.Table.{maxTriangles}
-use Rattle.base_boxes.specs.Boxes.{boxesOverlap, Compacted}
+use Rattle.base_boxes.specs.Boxes.{boxesOverlap}
 use Rattle.overlay_marks.specs.Bits.{hasBit}
 
 -- triangles i and j are marked

@@ -1,13 +1,14 @@
 // The candidates of a row of marks: the marked places whose boxes overlap, listed without a branch but for each mark.
 
 use base_boxes::boxes;
-use base_boxes::boxes::Bounds;
+use base_geometry::bounds::Bounds;
 use overlay_marks::bitsets;
 ghost use mathlib.Core.Path.{_≡_};
 ghost use Prim.Native.Nat.{_+_, _*_, _≤_, _<_};
 ghost use lib.ListN.{length};
 ghost use Rattle.spec_charts.specs.Table.{maxTriangles};
-ghost use Rattle.base_boxes.specs.Boxes.{boundsBox, boxAt, Places};
+ghost use Rattle.base_geometry.specs.Bounds.{boundsBox};
+ghost use Rattle.base_boxes.specs.Boxes.{boxAt, Places};
 ghost use Rattle.overlay_marks.specs.PairMarks.{rowWords, rowsLength};
 ghost use Rattle.overlay_candidates.specs.RowCandidates.{NearInRow};
 
@@ -37,7 +38,7 @@ fn collect_word(
     while w != 0 {
         let t = u64::trailing_zeros(w);
         j += t as usize;
-        n = boxes::keep(b, lefts, tops, rights, bottoms, j, m, near, n);
+        n = boxes::append_if_near(b, lefts, tops, rights, bottoms, j, m, near, n);
         w = (w >> t) >> 1;
         j += 1;
     }

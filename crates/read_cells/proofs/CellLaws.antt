@@ -13,7 +13,7 @@ use lib.Dec.{T}
 use lib.ListN.{length, getD, take, drop}
 use Rattle.theory_lists.specs.Lists.{filter}
 use Rattle.theory_lists.proofs.Reflects.{Reflects, reflects-iff}
-use Rattle.theory_lists.proofs.Prefixes.{run-unique}
+use Rattle.theory_lists.proofs.Prefixes.{prefix-unique}
 use Rattle.theory_lists.proofs.Order.{ordered-at}
 use Rattle.theory_orthtree.specs.Entries.{Entry, span, rangeEnd, covers, chain}
 use Rattle.theory_orthtree.proofs.EntriesLaws.{InRange, span-positive, covers-reflects}
@@ -60,7 +60,7 @@ module _ (arity depth count : ℕ) (pos : 0 < arity) (es : List Entry) (rule : T
     -- cells that start at or before the key k are those of the entries before place to
     to-started : to ≡ startedBy k es
     to-started =
-        run-unique (startedAt k) es to d (omega (arith, p .within))
+        prefix-unique (startedAt k) es to d (omega (arith, p .within))
         (λ i l. le-leb (getD es i d .key) k (omega (arith, same i (omega (arith, p .within)), p .before i l)))
         (λ l. lt-leb (getD es to d .key) k (omega (arith, same to (omega arith), p .after to (omega arith) (omega arith))))
 
@@ -91,7 +91,7 @@ module _ (arity depth count : ℕ) (pos : 0 < arity) (es : List Entry) (rule : T
 
       all-ended : rangeEnd arity depth (getD es (to - 1) d) ≤ k → to ≡ endedBy arity depth k es
       all-ended h =
-          run-unique (endedAt arity depth k) es to d (omega (arith, p .within))
+          prefix-unique (endedAt arity depth k) es to d (omega (arith, p .within))
           (λ i l. le-leb (rangeEnd arity depth (getD es i d)) k (ends-by h i l (decLe (to - 1) i)))
           (λ l. lt-leb (rangeEnd arity depth (getD es to d)) k (next-goes-on l))
 
@@ -138,7 +138,7 @@ module _ (arity depth count : ℕ) (pos : 0 < arity) (es : List Entry) (rule : T
         -- cells that end at or before the key are those of the entries before place from
         from-ended : from ≡ endedBy arity depth k es
         from-ended =
-            run-unique (endedAt arity depth k) es from d (omega (arith, from-below, p .within))
+            prefix-unique (endedAt arity depth k) es from d (omega (arith, from-below, p .within))
             (λ i l. le-leb (rangeEnd arity depth (getD es i d)) k (early-ended i l))
             (λ l. lt-leb (rangeEnd arity depth (getD es from d)) k (goes-on from (omega arith) from-below))
 

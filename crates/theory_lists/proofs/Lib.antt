@@ -20,3 +20,4 @@ pub mod FoldLaws
 pub mod StoredLaws
 pub mod TestLaws
 pub mod CompactLaws
+pub mod MaskLaws

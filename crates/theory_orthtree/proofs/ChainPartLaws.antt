@@ -10,7 +10,7 @@ use native.Mathlib.Nat.{lt-of-not-le}
 use native.Mathlib.Omega.{arith}
 use lib.Dec.{T, leb, leb→le, le→leb}
 use lib.ListN.{take, drop}
-use Rattle.theory_lists.specs.Lists.{filter, runLength}
+use Rattle.theory_lists.specs.Lists.{filter, prefixLength}
 use Rattle.theory_lists.proofs.Reflects.{Reflects, reflects-iff}
 use Rattle.theory_lists.proofs.Order.{ordered-imp}
 use Rattle.theory_lists.proofs.Prefixes.{filter-part, part-some}
@@ -28,11 +28,11 @@ startedAt k e = leb (e .key) k
 
 -- how many entries at the start of the list are of cells that end at or before the key
 abbrev pub endedBy : ℕ → ℕ → ℕ → List Entry → ℕ
-endedBy arity depth k es = runLength (endedAt arity depth k) es
+endedBy arity depth k es = prefixLength (endedAt arity depth k) es
 
 -- how many are of cells that start at or before it
 abbrev pub startedBy : ℕ → List Entry → ℕ
-startedBy k es = runLength (startedAt k) es
+startedBy k es = prefixLength (startedAt k) es
 
 module _ (arity depth k : ℕ) where
   abbrev ended : Entry → Bool

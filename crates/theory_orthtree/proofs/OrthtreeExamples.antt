@@ -6,7 +6,7 @@ use mathlib.Core.Bool.{true, false}
 use mathlib.Core.List.{List, [], _∷_, _++_, map, flatMap}
 use Prim.Native.Nat.{ℕ, _+_, _*_}
 use lib.Dec.{ltb}
-use Rattle.theory_lists.specs.Lists.{any, filter, sumOf, runLength}
+use Rattle.theory_lists.specs.Lists.{any, filter, sumOf, prefixLength}
 use Rattle.theory_orthtree.specs.Morton.{lowestBits, mortonKey}
 use Rattle.theory_orthtree.specs.Leaves.{leavesBelow}
 use Rattle.theory_orthtree.specs.Entries.{Entry, emptyMark, isMark, sameCell, cellHeads, cellHeadsAfter, span, rangeEnd, covers, overlaps, meetings, listedTogether, entryFits, follows, chainAfter, chain}
@@ -123,5 +123,5 @@ child-key-example = refl
 
 -- of the entries above, those of the cell that has key 6 are at places 4 and 5, and of the cell that has key 11 at place 7
 part-example : endedBy 4 2 6 indexed ∷ startedBy 6 indexed ∷ endedBy 4 2 11 indexed ∷ startedBy 11 indexed ∷ [] ≡ 4 ∷ 6 ∷ 7 ∷ 8 ∷ []
-unfolding runLength span rangeEnd
+unfolding prefixLength span rangeEnd
 part-example = refl

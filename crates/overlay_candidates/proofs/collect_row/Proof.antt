@@ -4,7 +4,8 @@ use native.Mathlib.Omega.{arith}
 use borrow.Author.Needs.{needs}
 use lib.ListN.{length}
 use Rattle.spec_charts.specs.Table.{maxTriangles}
-use Rattle.base_boxes.specs.Boxes.{boundsBox, boxAt}
+use Rattle.base_geometry.specs.Bounds.{boundsBox}
+use Rattle.base_boxes.specs.Boxes.{boxAt}
 use Rattle.overlay_marks.specs.PairMarks.{rowWords}
 use Rattle.overlay_candidates.specs.RowCandidates.{NearInRow}
 use Rattle.overlay_candidates.proofs.NearLaws.{near-none}

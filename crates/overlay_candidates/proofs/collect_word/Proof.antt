@@ -8,7 +8,8 @@ use lib.ListN.{length, getD}
 use Rattle.spec_plane.specs.Box.{Box}
 use Rattle.spec_charts.specs.Table.{maxTriangles}
 use Rattle.base_boxes.proofs.BoxesLaws.{places-fewer, set-length}
-use Rattle.base_boxes.specs.Boxes.{boundsBox, boxAt}
+use Rattle.base_geometry.specs.Bounds.{boundsBox}
+use Rattle.base_boxes.specs.Boxes.{boxAt}
 use Rattle.overlay_marks.specs.PairMarks.{rowWords}
 use Rattle.overlay_candidates.specs.RowCandidates.{NearInRow}
 use Rattle.overlay_candidates.proofs.WordLaws.{Lowest}
@@ -95,8 +96,8 @@ add-j c =
     let loop : tie.At-loop Inv-loop μ-loop = search needs in
     omega (arith, trailing-le 64 (loop .loop .w))
 
-keep-requires : tie.Need-keep-requires Inv-loop μ-loop
-keep-requires c κs =
+append-if-near-requires : tie.Need-append-if-near-requires Inv-loop μ-loop
+append-if-near-requires c κs =
     let in-loop : tie.In-loop Inv-loop μ-loop = search needs in
     let loop : tie.At-loop Inv-loop μ-loop = search needs in
     let top = start in-loop in
@@ -129,14 +130,14 @@ loop-less c =
 
 loop-again : tie.Need-loop-again Inv-loop μ-loop
 loop-again c =
-    let keep : tie.After-keep Inv-loop μ-loop = search needs in
+    let append-if-near : tie.After-append-if-near Inv-loop μ-loop = search needs in
     let d : tie.In-loop Inv-loop μ-loop = search needs in
     let loop : tie.At-loop Inv-loop μ-loop = search needs in
     let top = start d in
     let a = top .args in
     let l = loop .loop in
     let i = l .inv in
-    let call = keep .keep in
+    let call = append-if-near .append-if-near in
     let bounds = boundsBox (a .b) in
     let skipped = near-skip bounds (boxes top) (a .rows .now) (a .m) (a .i) (i .1 .1 .1) _ (mark-next (a .rows .now) (a .i) (l .j) (a .q) (l .w) (fits d) (i .0 .0) (i .1 .0) _ (mark d)) in
     let there = mark-there (a .rows .now) (a .i) (l .j) (a .q) (l .w) (fits d) (i .0 .0) (i .1 .0) _ (mark d) in (
@@ -188,7 +189,7 @@ collect-word-spec =
     loop-holds
     cast-j
     add-j
-    keep-requires
+    append-if-near-requires
     cast-w
     shr-w
     add-j-2

@@ -1,9 +1,9 @@
 use borrow.Author.Needs.{needs}
-use Rattle.base_boxes.proofs.boxes.is_clear.Statement.{statement}
-use Rattle.base_boxes.proofs.boxes.is_clear.Tie as tie
+use Rattle.base_boxes.proofs.boxes.is_separate.Statement.{statement}
+use Rattle.base_boxes.proofs.boxes.is_separate.Tie as tie
 
-pub is-clear-spec : {M : Type 1} → statement M
-is-clear-spec =
+pub is-separate-spec : {M : Type 1} → statement M
+is-separate-spec =
     tie.close
     (tie.spec
     (λ c. search needs)
