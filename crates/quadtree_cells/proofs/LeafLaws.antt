@@ -7,11 +7,10 @@ use native.Mathlib.Omega.{arith}
 use lib.ListN.{length, getD, set, length-map}
 use lib.Seq.{sets}
 use Rattle.theory_lists.proofs.ListsLaws.{sets-join}
-use Rattle.theory_lists.proofs.PartLaws.{part-length}
+use Rattle.theory_lists.proofs.PartLaws.{part-length, part-none, part-snoc}
 use Rattle.theory_orthtree.specs.Entries.{emptyMark}
 use Rattle.spec_charts.specs.Cells.{orMark}
-use Rattle.quadtree_cells.specs.Stack.{part}
-use Rattle.quadtree_cells.proofs.StackLaws.{part-none, part-snoc}
+use Rattle.theory_lists.specs.Lists.{part}
 
 -- one element more of a list that is stored with h added
 pub stored-item : (h : ℕ) (out out′ stack : List ℕ) (f k at : ℕ) → f ≤ k → k < length stack

@@ -4,8 +4,8 @@ use Prim.Native.Nat.{_+_, _-_, _≤_}
 use native.Mathlib.Omega.{arith}
 use lib.Seq.{sets}
 use Rattle.theory_lists.proofs.ListsLaws.{sets-length}
-use Rattle.quadtree_cells.specs.Stack.{part}
-use Rattle.quadtree_cells.proofs.StackLaws.{part-none}
+use Rattle.theory_lists.specs.Lists.{part}
+use Rattle.theory_lists.proofs.PartLaws.{part-none}
 use Rattle.quadtree_cells.proofs.LeafLaws.{stored-item}
 use borrow.Author.Needs.{needs}
 use Rattle.quadtree_cells.proofs.leaves.put_candidates.Statement.{statement}
