@@ -7,12 +7,11 @@ use native.Mathlib.Nat.{sub-self}
 use native.Mathlib.Omega.{arith}
 use lib.ListN.{length, getD, drop, set, length-drop}
 use lib.Seq.{sets, getD-drop}
-use Rattle.theory_lists.proofs.PartLaws.{part-length}
+use Rattle.theory_lists.proofs.PartLaws.{part-length, part-none}
 use Rattle.theory_orthtree.specs.Entries.{emptyMark}
 use Rattle.spec_charts.specs.Cells.{orMark}
 use Rattle.base_lists.proofs.CopyLaws.{Copying, copying-start, copying-next, copying-end}
-use Rattle.quadtree_cells.specs.Stack.{part}
-use Rattle.quadtree_cells.proofs.StackLaws.{part-none}
+use Rattle.theory_lists.specs.Lists.{part}
 
 -- the entries of the candidates from f up to k, of those up to t, are stored from place a on
 pub record Storing (head : ℕ) (stack out out′ : List ℕ) (f k t a : ℕ) : Type 0 where

@@ -7,8 +7,8 @@ ghost use Prim.Native.Nat.{_+_, _-_, _≤_, _<_, max};
 ghost use lib.ListN.{length};
 ghost use lib.Seq.{sets};
 ghost use Rattle.spec_charts.specs.Cells.{orMark, maxEntries};
+ghost use Rattle.theory_lists.specs.Lists.{part};
 ghost use Rattle.base_entries.specs.Packed.{maxHead};
-ghost use Rattle.quadtree_cells.specs.Stack.{part};
 
 // One entry for each candidate from `from` up to `to`.
 fn put_candidates(stack: &[u16], from: usize, to: usize, head: u64, out: &mut [u64], at: usize)
