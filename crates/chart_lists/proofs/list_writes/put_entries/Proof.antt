@@ -1,3 +1,4 @@
+-- The three lists hold key, level and item of the entries before i, and else what they held.
 use Prim.Native.Nat.{_-_}
 use native.Mathlib.Omega.{arith}
 use borrow.Author.Needs.{needs}

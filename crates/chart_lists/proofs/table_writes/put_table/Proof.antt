@@ -1,3 +1,4 @@
+-- The table holds the numbers before i, and else what it held.
 use mathlib.Core.Path.{refl, sym, _∙_, ap}
 use mathlib.Core.List.{map, map-id}
 use Prim.Native.Nat.{_-_}

@@ -1,3 +1,4 @@
+-- The faults found are 0 exactly when every entry before i is linked to the one beside it.
 use mathlib.Core.Path.{_≡_, sym, _∙_, ap}
 use Prim.Native.Nat.{_≤_, _-_}
 use native.Mathlib.Omega.{arith}

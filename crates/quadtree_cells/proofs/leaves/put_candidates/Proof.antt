@@ -1,3 +1,4 @@
+-- The entries of the candidates before k are stored, and nothing else of the list has changed.
 use Prim.Native.Nat.{_-_}
 use native.Mathlib.Omega.{arith}
 use borrow.Author.Needs.{needs}
