@@ -24,9 +24,9 @@ tested : (c : tie.After-shares-side Inv-loop μ-loop) →
     let top : tie.Start Inv-loop μ-loop = search needs in
     c .shares-side .result ≡ sharesSide (triangleOf (top .args .s)) (triangleOf (rotated (top .args .u) (loop .loop .k)))
 tested c =
-    let rotated : tie.After-rotated Inv-loop μ-loop = search needs in
+    let turned : tie.After-rotated Inv-loop μ-loop = search needs in
     let top : tie.Start Inv-loop μ-loop = search needs in
-    c .shares-side .ensures ∙ ap (λ v. sharesSide (triangleOf (top .args .s)) (triangleOf v)) (rotated .rotated .ensures)
+    c .shares-side .ensures ∙ ap (λ v. sharesSide (triangleOf (top .args .s)) (triangleOf v)) (turned .rotated .ensures)
 
 returns : tie.Need-returns Inv-loop μ-loop
 returns c =
