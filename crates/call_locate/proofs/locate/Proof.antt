@@ -17,9 +17,6 @@ abbrev chart : tie.Start → Chart
 chart c =
     let a = c .args in held (a .table) (a .keys) (a .levels) (a .items) (a .triangles) (a .entries)
 
-judge-requires : tie.Need-judge-requires
-judge-requires c κs = search needs
-
 enum-told : tie.Need-enum-told
 enum-told c = search needs
 
@@ -54,9 +51,6 @@ first-holding-requires c κs =
     let top : tie.Start = search needs in
     table-holds (chart top) (fine b .0) (fine b .1) (top .args .p) (listed c)
 
-enum-known-r : tie.Need-enum-known-r
-enum-known-r c = search needs
-
 -- an earlier place, found from a later one
 abbrev enum-told-to-top : tie.After-enum-told → tie.Start
 enum-told-to-top c = search needs
@@ -77,12 +71,4 @@ returns-2 c =
 
 pub locate-spec : {M : Type 1} → statement M
 locate-spec =
-    tie.close
-    (tie.spec
-    judge-requires
-    enum-told
-    listing-requires
-    first-holding-requires
-    enum-known-r
-    returns
-    returns-2)
+    tie.close (tie.spec (λ c κs. search needs) enum-told listing-requires first-holding-requires (λ c. search needs) returns returns-2)

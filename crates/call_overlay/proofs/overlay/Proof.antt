@@ -85,15 +85,6 @@ rules c =
     let chain-rule : tie.After-chain-rule = search needs in
     sym (judged-chains d) ∙ not-false (chain-rule .chain-rule .result && d .chain-rule2 .result) (c .if2 .left)
 
-too-short-requires : tie.Need-too-short-requires
-too-short-requires c κs = search needs
-
-too-short-requires-2 : tie.Need-too-short-requires-2
-too-short-requires-2 c κs = search needs
-
-refused-requires : tie.Need-refused-requires
-refused-requires c κs = search needs
-
 returns : tie.Need-returns
 returns c =
     let then1 : tie.Then1 = search needs in
@@ -112,9 +103,6 @@ chain-rule-requires-2 c κs =
     let top = else1-to-top else1 in
     second-long (first top) (second top) (top .args .pairs .now) (long else1)
 
-refused-requires-2 : tie.Need-refused-requires-2
-refused-requires-2 c κs = search needs
-
 returns-2 : tie.Need-returns-2
 returns-2 c =
     let then2 : tie.Then2 = search needs in
@@ -123,9 +111,6 @@ returns-2 c =
     let else1 : tie.Else1 = search needs in
     let top = else1-to-top else1 in
     overlay-broken (first top) (second top) (top .args .pairs .now) (long else1) (sym (judged-chains d) ∙ not-true (chain-rule .chain-rule .result && d .chain-rule2 .result) (then2 .if2 .taken)) (c .refused2 .ensures)
-
-slice-aggregate-mark-pairs : tie.Need-slice-aggregate-mark-pairs
-slice-aggregate-mark-pairs c = search needs
 
 mark-pairs-requires : tie.Need-mark-pairs-requires
 mark-pairs-requires c κs =
@@ -138,9 +123,6 @@ mark-pairs-requires c κs =
     let p = first-passed (first top) (second top) l s r in
     let q = second-passed (first top) (second top) l s r in
     ((p .entries, (p .lists .forKeys, p .lists .forItems)), ((q .entries, (q .lists .forKeys, q .lists .forItems)), (search needs, λ k h. zeros-empty rowsLength k)))
-
-slice-aggregate-put-pairs : tie.Need-slice-aggregate-put-pairs
-slice-aggregate-put-pairs c = search needs
 
 put-pairs-requires : tie.Need-put-pairs-requires
 put-pairs-requires c κs =
@@ -162,9 +144,6 @@ finish-requires c κs =
     let top = else1-to-top else1 in
     let room = pairs-long (first top) (second top) (top .args .pairs .now) (long else1) in
     search needs
-
-same-length : tie.Need-same-length
-same-length c = search needs
 
 returns-3 : tie.Need-returns-3
 unfolding chartTable chartEntries
@@ -188,20 +167,6 @@ returns-3 c =
 
 pub overlay-spec : {M : Type 1} → statement M
 overlay-spec =
-    tie.close
-    (tie.spec
-    too-short-requires
-    too-short-requires-2
-    refused-requires
-    returns
-    chain-rule-requires
-    chain-rule-requires-2
-    refused-requires-2
-    returns-2
-    slice-aggregate-mark-pairs
-    mark-pairs-requires
-    slice-aggregate-put-pairs
-    put-pairs-requires
-    finish-requires
-    same-length
-    returns-3)
+    tie.close (tie.spec (λ c κs. search needs) (λ c κs. search needs) (λ c κs. search needs) returns chain-rule-requires chain-rule-requires-2
+    (λ c κs. search needs) returns-2 (λ c. search needs) mark-pairs-requires (λ c. search needs) put-pairs-requires finish-requires
+    (λ c. search needs) returns-3)

@@ -74,17 +74,5 @@ returns c =
 
 pub append-rows-spec : {M : Type 1} → statement M
 append-rows-spec =
-    tie.close
-    (tie.spec
-    Inv-loop
-    μ-loop
-    loop-holds
-    sub-put-triangle
-    add-put-triangle
-    triangle-at-requires
-    put-triangle-requires
-    (λ c. search needs)
-    loop-less
-    loop-again
-    same-length
-    returns)
+    tie.close (tie.spec Inv-loop μ-loop loop-holds sub-put-triangle add-put-triangle triangle-at-requires put-triangle-requires (λ c. search needs)
+    loop-less loop-again same-length returns)
