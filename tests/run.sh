@@ -26,12 +26,13 @@ build_model() {
         rustc --edition 2021 -O --test -o target/model/tests model/main.rs
 }
 
-# the model's own tests: all pass, none is passed over, and there are as many as there were
+# the model's own tests: as many pass as the model has, and none is passed over
 test_model() {
-    local said
+    local said written
     said=$(target/model/tests -q 2>&1) || { echo "$said"; return 1; }
     echo "$said" | grep '^test result:'
-    [[ $said =~ test\ result:\ ok\.\ 23\ passed\;\ 0\ failed\;\ 0\ ignored ]]
+    written=$(cat model/*.rs | grep -c '^ *#\[test\]')
+    [ "$written" -gt 0 ] && [[ $said =~ test\ result:\ ok\.\ $written\ passed\;\ 0\ failed\;\ 0\ ignored ]]
 }
 
 # rt starts crates and edits in groups and waits for the slowest of each; groups of four leave a processor idle less often
