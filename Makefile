@@ -1,5 +1,5 @@
 # make alone prints the targets. Each target first tells what it needs and is not here.
-TARGETS := run test bench model map mutants
+TARGETS := run test bench stack model map mutants
 
 run.does := proves, builds and runs the command program on document 01's example
 run.needs := rt rustc python3
@@ -15,6 +15,11 @@ bench.does := time per build beside hand-written engines in C, in one run, as ra
 bench.needs := rt cc python3
 bench.takes := a minute, and the proofs of bench_build and what is below it that are not made yet
 bench.by := bash bench/run.sh
+
+stack.does := the stack that each public call uses, on small and on full tables
+stack.needs := rt cc python3
+stack.takes := a minute, and the proofs of the public calls that are not made yet
+stack.by := python3 tests/stack.py
 
 model.does := builds the reference model, runs its own tests and the stored command streams
 model.needs := rustc python3

@@ -15,7 +15,6 @@ import collections
 import os
 import random
 import re
-import shutil
 import subprocess
 import sys
 
@@ -438,29 +437,6 @@ EXPECTED += [f"flip of sides {k} {l}{way}" for k in range(3) for l in range(3) f
 EXPECTED += ["overlay pairs with i and j different", "worked streams"]
 
 
-def prepare():
-    """A repository of the crates that the cases stand on, with what is proved of them, so that it is not proved again."""
-    shutil.rmtree(SCRATCH, ignore_errors=True)
-    for c in CRATES:
-        for part in (f"crates/{c}", f"target/rlib/{c}.rlib", f"target/stamp/{c}"):
-            source, copy = os.path.join(ROOT, part), os.path.join(SCRATCH, part)
-            os.makedirs(os.path.dirname(copy), exist_ok=True)
-            if os.path.isdir(source):
-                shutil.copytree(source, copy)
-            elif os.path.isfile(source):
-                shutil.copyfile(source, copy)
-    needs = crates.needs()
-    lines = [f"{c}: {' '.join(needs[c])}\n" for c in CRATES] + [f"{t}: {' '.join(CRATES)}\n" for t in TRIALS]
-    write("crates.txt", "".join(lines))
-
-
-def write(path, text):
-    path = os.path.join(SCRATCH, path)
-    os.makedirs(os.path.dirname(path), exist_ok=True)
-    with open(path, "w", encoding="utf-8") as f:
-        f.write(text)
-
-
 def main():
     seed, count = int(sys.argv[1]), int(sys.argv[2])
     rng = random.Random(seed)
@@ -476,16 +452,16 @@ def main():
     print("met: " + ", ".join(f"{n} {k}" for k, n in sorted(met.items())))
     if not engines.all_met(dict.fromkeys(EXPECTED, 1), met):
         sys.exit(1)
-    prepare()
+    crates.copy(SCRATCH, CRATES, dict.fromkeys(TRIALS, CRATES))
     texts = dict.fromkeys(TRIALS, HEADER)
     for kind, fs in facts.items():
         for k, (given, want) in enumerate(fs):
             fact = f"\n{kind}-{k} : {given} ≡ {want}\nunfolding evaluate logging\n{kind}-{k} = refl\n"
             texts[TRIALS[kind == "worked"]] += fact
     for trial, text in texts.items():
-        write(f"crates/{trial}/src/lib.rt", "// Facts to try.\n")
-        write(f"crates/{trial}/proofs/Lib.antt", "pub mod Cases\n")
-        write(f"crates/{trial}/proofs/Cases.antt", text)
+        files = {"src/lib.rt": "// Facts to try.\n", "proofs/Lib.antt": "pub mod Cases\n", "proofs/Cases.antt": text}
+        for file, said in files.items():
+            crates.write(os.path.join(SCRATCH, "crates", trial, file), said)
     cases = sum(map(len, facts.values()))
     print(f"checking {cases} cases, seed {seed}", flush=True)
     run = subprocess.run(["rt", "check", *TRIALS], cwd=SCRATCH, stdout=subprocess.PIPE, stderr=subprocess.STDOUT, text=True)
