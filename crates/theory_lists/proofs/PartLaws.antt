@@ -9,13 +9,7 @@ use lib.ListN.{length, getD, take, drop, length-take, length-drop, length-map, L
 use lib.Seq.{getD-take, getD-drop, ext-getD}
 use Rattle.theory_lists.specs.Lists.{placesFrom, countFrom}
 use Rattle.theory_lists.proofs.Reflects.{Reflects, reflects-iff, test-true, test-false}
-use Rattle.theory_lists.proofs.ListsLaws.{Every, every-cons}
-use Rattle.theory_lists.proofs.EveryLaws.{every-nil}
-
--- what holds at each place of a list holds of every element
-every-places : {A : Type 0} (P : A → Type 0) (l : List A) (d : A) → ((i : ℕ) → i < length l → P (getD l i d)) → Every P l
-every-places P [] d h = every-nil P
-every-places P (x ∷ xs) d h = every-cons (h 0 (omega arith), every-places P xs d (λ i l. h (suc i) (omega arith)))
+use Rattle.theory_lists.proofs.ListsLaws.{Every, every-places}
 
 -- a part up to a place within the list has as many elements as places
 pub part-length : {A : Type 0} (f t : ℕ) (l : List A) → t ≤ length l → length (take (t - f) (drop f l)) ≡ t - f
