@@ -4,12 +4,14 @@ pub mod SoundLaws
 pub mod AreaLaws
 pub mod TriangleLaws
 pub mod OutcomeLaws
+pub mod CountedLaws
 pub mod RotationLaws
 pub mod GridLaws
 pub mod EditLaws
 pub mod FlipLaws
 pub mod LoadTable
 pub mod MergeLaws
+pub mod ProposedLaws
 pub mod EventTable
 pub mod EventArea
 pub mod FlipUnique
