@@ -10,7 +10,7 @@ use Rattle.theory_lists.proofs.Order.{Ordered, ordered-places}
 use Rattle.theory_lists.proofs.OrderLaws.{ordered-unique}
 use Rattle.spec_charts.specs.Table.{Table}
 use Rattle.spec_charts.specs.Edits.{Event}
-use Rattle.spec_charts.specs.Overlay.{Pair, Earlier, cellMeetings}
+use Rattle.spec_charts.specs.Overlay.{Pair, pair, Earlier, cellMeetings}
 use Rattle.spec_calls.specs.Buffers.{Chart}
 use Rattle.spec_calls.specs.Calls.{Overlaid}
 use Rattle.laws_histories.specs.Histories.{overlayAnswer, TablesOverlaid, HistoriesOverlaid}
@@ -23,14 +23,14 @@ earlier-once p q (inr h) (inl g) = omega arith
 earlier-once p q (inr h) (inr g) = omega arith
 
 -- the list stands in its order
-ascends : {s t : Table} {before : List ℕ} {o : Overlaid} (a : TablesOverlaid s t before o) → Ordered (λ p q. Earlier p q) (a .shared)
-ascends a = ordered-places (a .shared) (λ m n d h l. a .ascending m n d (omega arith) (omega arith))
+shared-ascends : {s t : Table} {before : List ℕ} {o : Overlaid} (a : TablesOverlaid s t before o) → Ordered (λ p q. Earlier p q) (a .shared)
+shared-ascends a = ordered-places (a .shared) (pair 0 0) (λ m n h l. a .ascending m n (pair 0 0) (omega arith) (omega arith))
 
 -- the overlay of two plain tables has one answer
 pub one-answer : (s t : Table) (before : List ℕ) {o p : Overlaid} → TablesOverlaid s t before o → TablesOverlaid s t before p → o ≡ p
 one-answer s t before a b =
     let same =
-    ordered-unique earlier-once (ascends a) (ascends b)
+    ordered-unique earlier-once (shared-ascends a) (shared-ascends b)
     (λ p m. b .exactly (p .i) (p .j) .1 (a .exactly (p .i) (p .j) .0 m))
     (λ p m. a .exactly (p .i) (p .j) .1 (b .exactly (p .i) (p .j) .0 m)) in
     a .answer ∙ ap (λ ps. overlayAnswer ps (cellMeetings s t) before) same ∙ sym (b .answer)

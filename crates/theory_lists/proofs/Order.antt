@@ -33,12 +33,12 @@ ordered-at zero (suc j) d (ordered-more {xs = xs} r o) h l = r (getD xs j d) (ge
 ordered-at (suc i) (suc j) d (ordered-more r o) h l = ordered-at i j d o (omega arith) (omega arith)
 
 -- and back
-pub ordered-places : {A : Type 0} {R : A → A → Type 0} (l : List A)
-    → ((i j : ℕ) (d : A) → i < j → j < length l → R (getD l i d) (getD l j d)) → Ordered R l
-ordered-places [] h = ordered-none
-ordered-places {R = R} (x ∷ xs) h =
-    ordered-more (every-places (λ y. R x y) xs x (λ j l. h 0 (suc j) x (omega arith) (omega arith)))
-    (ordered-places xs (λ i j d b l. h (suc i) (suc j) d (omega arith) (omega arith)))
+pub ordered-places : {A : Type 0} {R : A → A → Type 0} (l : List A) (d : A)
+    → ((i j : ℕ) → i < j → j < length l → R (getD l i d) (getD l j d)) → Ordered R l
+ordered-places [] d h = ordered-none
+ordered-places {R = R} (x ∷ xs) d h =
+    ordered-more (every-places (λ y. R x y) xs d (λ j l. h 0 (suc j) (omega arith) (omega arith)))
+    (ordered-places xs d (λ i j b l. h (suc i) (suc j) (omega arith) (omega arith)))
 
 -- of two elements either they are the same, or one stands before the other
 pub ordered-pair : {A : Type 0} {R : A → A → Type 0} {l : List A} {x y : A} → Ordered R l → List·Memᴰ x l → List·Memᴰ y l
