@@ -17,6 +17,7 @@ pub mod EventArea
 pub mod FlipUnique
 pub mod TakeOutUnique
 pub mod CellsLaws
+pub mod OneSide
 pub mod ReadingLaws
 pub mod OverlayLaws
 pub mod EntriesOfTable

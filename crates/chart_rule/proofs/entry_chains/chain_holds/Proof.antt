@@ -24,9 +24,6 @@ returns c =
     let a = top .args in
     no-entries (a .count) (zipEntries (a .keys .now) (a .levels .now) (a .items .now)) (c .if1 .taken)
 
-levels-fit-requires : tie.Need-levels-fit-requires
-levels-fit-requires c κs = search needs
-
 returns-2 : tie.Need-returns-2
 returns-2 c =
     let levels-fit : tie.After-levels-fit = search needs in
@@ -44,42 +41,6 @@ levels-ok c =
     let levels-fit : tie.After-levels-fit = search needs in
     let fit = levels-fit .levels-fit in sym (fit .ensures) ∙ not-false (fit .result) (c .if2 .left)
 
-sub-last : tie.Need-sub-last
-sub-last c = search needs
-
-count-for-all-requires : tie.Need-count-for-all-requires
-count-for-all-requires c κs = search needs
-
-cast-most : tie.Need-cast-most
-cast-most c = search needs
-
-sub-faults : tie.Need-sub-faults
-sub-faults c = search needs
-
-part-faults-start : tie.Need-part-faults-start
-part-faults-start c = search needs
-
-part-faults-end : tie.Need-part-faults-end
-part-faults-end c = search needs
-
-sub-faults-2 : tie.Need-sub-faults-2
-sub-faults-2 c = search needs
-
-part-faults-start-2 : tie.Need-part-faults-start-2
-part-faults-start-2 c = search needs
-
-part-faults-end-2 : tie.Need-part-faults-end-2
-part-faults-end-2 c = search needs
-
-sub-faults-3 : tie.Need-sub-faults-3
-sub-faults-3 c = search needs
-
-part-faults-start-3 : tie.Need-part-faults-start-3
-part-faults-start-3 c = search needs
-
-part-faults-end-3 : tie.Need-part-faults-end-3
-part-faults-end-3 c = search needs
-
 faults-requires : tie.Need-faults-requires
 faults-requires c κs =
     let else2 : tie.Else2 = search needs in
@@ -95,18 +56,6 @@ faults-requires c κs =
         all-below-fewer (λ i. leb (getD levels i 0) depth) (omega arith) (levels-ok else2),
       ),
     )
-
-shared-slice-read-result : tie.Need-shared-slice-read-result
-shared-slice-read-result c = search needs
-
-mul-ends-tree : tie.Need-mul-ends-tree
-mul-ends-tree c = search needs
-
-shared-slice-read-ends-tree : tie.Need-shared-slice-read-ends-tree
-shared-slice-read-ends-tree c = search needs
-
-shared-slice-read-ends-tree-2 : tie.Need-shared-slice-read-ends-tree-2
-shared-slice-read-ends-tree-2 c = search needs
 
 ends-tree-requires : tie.Need-ends-tree-requires
 ends-tree-requires c κs =
@@ -137,24 +86,24 @@ chain-holds-spec =
     tie.close
     (tie.spec
     returns
-    levels-fit-requires
+    (λ c κs. search needs)
     returns-2
-    sub-last
-    count-for-all-requires
-    cast-most
-    sub-faults
-    part-faults-start
-    part-faults-end
-    sub-faults-2
-    part-faults-start-2
-    part-faults-end-2
-    sub-faults-3
-    part-faults-start-3
-    part-faults-end-3
+    (λ c. search needs)
+    (λ c κs. search needs)
+    (λ c. search needs)
+    (λ c. search needs)
+    (λ c. search needs)
+    (λ c. search needs)
+    (λ c. search needs)
+    (λ c. search needs)
+    (λ c. search needs)
+    (λ c. search needs)
+    (λ c. search needs)
+    (λ c. search needs)
     faults-requires
-    shared-slice-read-result
-    mul-ends-tree
-    shared-slice-read-ends-tree
-    shared-slice-read-ends-tree-2
+    (λ c. search needs)
+    (λ c. search needs)
+    (λ c. search needs)
+    (λ c. search needs)
     ends-tree-requires
     returns-3)
