@@ -1,3 +1,2 @@
 pub mod BoxesLaws
-pub mod KeepLaws
 pub mod NearLaws

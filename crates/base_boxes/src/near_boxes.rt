@@ -1,20 +1,20 @@
-// The boxes before a place that overlap a box, on a list: 16 at a time are tested without a branch, and only where some overlap are they
-// looked at one by one.
+// The boxes before a place that overlap a box, on a list: so many as there are lanes are tested at a time without a branch, and only where
+// some of them overlap are they looked at one by one.
 
 use crate::boxes;
-use crate::boxes::Bounds;
+use base_geometry::bounds::Bounds;
 ghost use mathlib.Core.Path.{_≡_};
-ghost use Prim.Native.Nat.{_+_, _≤_, _<_};
-ghost use lib.ListN.{length};
+ghost use Prim.Native.Nat.{_+_, _≤_};
 ghost use Rattle.theory_lists.specs.Lists.{all, upTo};
-ghost use Rattle.base_boxes.specs.Boxes.{clear, boundsBox, boxAt, Places};
-ghost use Rattle.base_boxes.specs.Near.{blockSize, Near};
+ghost use Rattle.base_geometry.specs.Bounds.{boundsBox};
+ghost use Rattle.base_boxes.specs.Boxes.{separate, boxesHeld, boxesGiven, Places};
+ghost use Rattle.base_boxes.specs.Near.{lanes, Near, Collectable, Collected};
 
 // How many boxes are tested at a time.
-const BLOCK: usize = 16;
+const LANES: usize = 16;
 
-// A box is clear of all boxes of the block that starts at place j: no branch, so that they are compared side by side.
-fn block_clear(
+// A box is separate from all boxes in the lanes from place j on: no branch, so that they are compared side by side.
+fn lanes_separate(
     b: Bounds,
     lefts: &[u16],
     tops: &[u16],
@@ -22,13 +22,13 @@ fn block_clear(
     bottoms: &[u16],
     j: usize,
 ) -> bool
-    requires { ⌜ Places (now lefts) (now tops) (now rights) (now bottoms) (j + blockSize) ⌝ }
-    ensures { λ o. ⌜ o ≡ all (λ k. clear (boundsBox b) (boxAt (now (lefts .entry)) (now (tops .entry)) (now (rights .entry)) (now (bottoms .entry)) (j + k))) (upTo blockSize) ⌝ }
+    requires { ⌜ Places (now lefts) (now tops) (now rights) (now bottoms) (j + lanes) ⌝ }
+    ensures { λ o. ⌜ o ≡ all (λ k. separate (boundsBox b) (boxesGiven lefts tops rights bottoms (j + k))) (upTo lanes) ⌝ }
 {
     let mut o = true;
     let mut k = 0;
-    while k < BLOCK {
-        o = o & boxes::is_clear(b, lefts, tops, rights, bottoms, j + k);
+    while k < LANES {
+        o = o & boxes::is_separate(b, lefts, tops, rights, bottoms, j + k);
         k += 1;
     }
     o
@@ -46,22 +46,21 @@ fn collect(
     near: &mut [usize],
     c: usize,
 ) -> usize
-    requires { ⌜ Places (now lefts) (now tops) (now rights) (now bottoms) m × ((j ≤ m) × (m ≤ length (now near))) ⌝ }
-    requires { ⌜ Near (boundsBox b) (boxAt (now lefts) (now tops) (now rights) (now bottoms)) (now near) j c ⌝ }
-    ensures { λ r. ⌜ Near (boundsBox b) (boxAt (now (lefts .entry)) (now (tops .entry)) (now (rights .entry)) (now (bottoms .entry))) (now (near .exit)) m r ⌝ }
-    ensures { λ r. ⌜ length (now (near .exit)) ≡ length (now (near .entry)) ⌝ }
+    requires { ⌜ Collectable (now lefts) (now tops) (now rights) (now bottoms) (now near) m × (j ≤ m) ⌝ }
+    requires { ⌜ Near (boundsBox b) (boxesHeld lefts tops rights bottoms) (now near) j c ⌝ }
+    ensures { λ r. ⌜ Collected (boundsBox b) (boxesGiven lefts tops rights bottoms) (now (near .entry)) (now (near .exit)) m r ⌝ }
 {
     let mut n = c;
     let mut k = j;
     while k < m {
-        n = boxes::keep(b, lefts, tops, rights, bottoms, k, m, near, n);
+        n = boxes::append_if_near(b, lefts, tops, rights, bottoms, k, m, near, n);
         k += 1;
     }
     n
 }
 
-// Those of the block that starts at place j.
-fn collect_block(
+// Those in the lanes from place j on.
+fn collect_lanes(
     b: Bounds,
     lefts: &[u16],
     tops: &[u16],
@@ -71,18 +70,17 @@ fn collect_block(
     near: &mut [usize],
     c: usize,
 ) -> usize
-    requires { ⌜ Places (now lefts) (now tops) (now rights) (now bottoms) (j + blockSize) × (j + blockSize ≤ length (now near)) ⌝ }
-    requires { ⌜ Near (boundsBox b) (boxAt (now lefts) (now tops) (now rights) (now bottoms)) (now near) j c ⌝ }
-    ensures { λ r. ⌜ Near (boundsBox b) (boxAt (now (lefts .entry)) (now (tops .entry)) (now (rights .entry)) (now (bottoms .entry))) (now (near .exit)) (j + blockSize) r ⌝ }
-    ensures { λ r. ⌜ length (now (near .exit)) ≡ length (now (near .entry)) ⌝ }
+    requires { ⌜ Collectable (now lefts) (now tops) (now rights) (now bottoms) (now near) (j + lanes) ⌝ }
+    requires { ⌜ Near (boundsBox b) (boxesHeld lefts tops rights bottoms) (now near) j c ⌝ }
+    ensures { λ r. ⌜ Collected (boundsBox b) (boxesGiven lefts tops rights bottoms) (now (near .entry)) (now (near .exit)) (j + lanes) r ⌝ }
 {
-    if block_clear(b, lefts, tops, rights, bottoms, j) {
+    if lanes_separate(b, lefts, tops, rights, bottoms, j) {
         return c;
     }
-    collect(b, lefts, tops, rights, bottoms, j, j + BLOCK, near, c)
+    collect(b, lefts, tops, rights, bottoms, j, j + LANES, near, c)
 }
 
-// All places before i whose boxes overlap b: block by block, then the few that are left.
+// All places before i whose boxes overlap b: so many as there are lanes at a time, then the few that are left.
 pub fn collect_before(
     b: Bounds,
     lefts: &[u16],
@@ -92,15 +90,14 @@ pub fn collect_before(
     i: usize,
     near: &mut [usize],
 ) -> usize
-    requires { ⌜ Places (now lefts) (now tops) (now rights) (now bottoms) i × (i ≤ length (now near)) ⌝ }
-    ensures { λ r. ⌜ Near (boundsBox b) (boxAt (now (lefts .entry)) (now (tops .entry)) (now (rights .entry)) (now (bottoms .entry))) (now (near .exit)) i r ⌝ }
-    ensures { λ r. ⌜ length (now (near .exit)) ≡ length (now (near .entry)) ⌝ }
+    requires { ⌜ Collectable (now lefts) (now tops) (now rights) (now bottoms) (now near) i ⌝ }
+    ensures { λ r. ⌜ Collected (boundsBox b) (boxesGiven lefts tops rights bottoms) (now (near .entry)) (now (near .exit)) i r ⌝ }
 {
     let mut c = 0;
     let mut j = 0;
-    while BLOCK <= i - j {
-        c = collect_block(b, lefts, tops, rights, bottoms, j, near, c);
-        j += BLOCK;
+    while LANES <= i - j {
+        c = collect_lanes(b, lefts, tops, rights, bottoms, j, near, c);
+        j += LANES;
     }
     collect(b, lefts, tops, rights, bottoms, j, i, near, c)
 }

@@ -1,5 +1,6 @@
-// Numbers, D, triangles, common interior points.
+// Numbers, D, triangles, bounding boxes, common interior points.
 
+pub mod bounds;
 pub mod geometry;
 pub mod interiors;
 pub mod numbers;

@@ -1,4 +1,4 @@
-// Arithmetic on numbers of a chart: widening, the smaller and larger of two.
+// Arithmetic on numbers of a chart: widening, the smaller and larger of two and of three.
 
 ghost use mathlib.Core.Path.{_≡_};
 ghost use Prim.Native.Nat.{_<_, min, max};
@@ -15,6 +15,20 @@ pub fn larger(a: u16, b: u16) -> u16
     ensures { λ r. ⌜ r ≡ max a b ⌝ }
 {
     if a < b { b } else { a }
+}
+
+// The smallest of three numbers.
+pub fn smallest(a: u16, b: u16, c: u16) -> u16
+    ensures { λ r. ⌜ r ≡ min a (min b c) ⌝ }
+{
+    smaller(a, smaller(b, c))
+}
+
+// The largest of three numbers.
+pub fn largest(a: u16, b: u16, c: u16) -> u16
+    ensures { λ r. ⌜ r ≡ max a (max b c) ⌝ }
+{
+    larger(a, larger(b, c))
 }
 
 // The same number in 64 bits.

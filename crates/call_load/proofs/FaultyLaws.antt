@@ -8,8 +8,8 @@ use Prim.Native.Nat.{ℕ, suc, _+_, _≤_, _<_}
 use native.Mathlib.Nat.{add-zero, zero-add}
 use native.Mathlib.Omega.{arith}
 use lib.ListN.{length}
-use Rattle.theory_lists.specs.Lists.{all, placesFrom, runLength}
-use Rattle.theory_lists.proofs.Runs.{run-unique}
+use Rattle.theory_lists.specs.Lists.{all, placesFrom, prefixLength}
+use Rattle.theory_lists.proofs.Prefixes.{prefix-unique}
 use Rattle.spec_plane.specs.Triangle.{proper}
 use Rattle.spec_charts.specs.Table.{Table, tableOf, triangleAt, numbered, noTriangle}
 use Rattle.spec_charts.specs.declared.Refusal.the-variants.{FaultyTriangle}
@@ -24,7 +24,7 @@ pub faulty-found : (ns : List ℕ) (n i : ℕ) → i ≤ n → ((k : ℕ) → k 
 unfolding numbered
 faulty-found ns n i h p q =
     let e = tableOf-length ns n in
-    run-unique (λ s. proper s) (tableOf ns n) i noTriangle (omega arith)
+    prefix-unique (λ s. proper s) (tableOf ns n) i noTriangle (omega arith)
     (λ k l. ap (λ s. proper s) (numbered-at ns n k (omega arith)) ∙ p k l)
     (λ l. ap (λ s. proper s) (numbered-at ns n i (omega arith)) ∙ q (omega arith))
 
@@ -37,7 +37,7 @@ all-choice false m n h f = absurd (omega arith)
 
 -- the search ends at the end of the table: each triangle has D > 0
 pub faulty-none : (t : Table) → length t ≤ firstFaulty t → all (λ s. proper s) t ≡ true
-unfolding all runLength
+unfolding all prefixLength
 faulty-none [] h = refl
 faulty-none (s ∷ t) h = all-choice (proper s) (firstFaulty t) (length t) h (faulty-none t)
 
@@ -63,7 +63,7 @@ some-choice false k m n is u h f = ap (λ i. refused (FaultyTriangle i)) (sym (a
 -- refusal 5 with the lowest place, where the first triangle has place k
 refuse-some : (k : ℕ) (t u : Table) → firstFaulty t < length t
     → refuseFaulty (placesFrom (λ s. not (proper s)) k t) u ≡ refused (FaultyTriangle (k + firstFaulty t))
-unfolding runLength placesFrom refuseFaulty
+unfolding prefixLength placesFrom refuseFaulty
 refuse-some k [] u h = absurd (omega arith)
 refuse-some k (s ∷ t) u h =
     some-choice (proper s) k (firstFaulty t) (length t) (placesFrom (λ s. not (proper s)) (suc k) t) u h (refuse-some (suc k) t u)

@@ -24,6 +24,7 @@ pub mod OverlayLaws
 pub mod EntriesOfTable
 pub mod ChainOfTable
 pub mod MeetingsOfTable
+pub mod CellOfPoint
 pub mod SharedGround
 pub mod LocateOfChain
 pub mod LocateOfTable

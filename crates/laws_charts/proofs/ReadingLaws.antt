@@ -21,20 +21,20 @@ Sound table =
     (i j : ℕ) → i < length table → j < length table → (i ≡ j → ⊥) → CommonInterior (numbered table i) (numbered table j) → ⊥
 
 -- different numbers, or no common interior point
-abbrev Apart : Table → ℕ → ℕ → Type 0
-Apart table i j = (i ≡ j → ⊥) → T (interiorsMeet (numbered table i) (numbered table j)) → ⊥
+abbrev Disjoint : Table → ℕ → ℕ → Type 0
+Disjoint table i j = (i ≡ j → ⊥) → T (interiorsMeet (numbered table i) (numbered table j)) → ⊥
 
-apart-reflects : (i j : ℕ) (b : Bool) → Reflects (eqb i j || not b) ((i ≡ j → ⊥) → T b → ⊥)
-apart-reflects i j b = go (eqb i j) (reflects-eqb i j)
+disjoint-reflects : (i j : ℕ) (b : Bool) → Reflects (eqb i j || not b) ((i ≡ j → ⊥) → T b → ⊥)
+disjoint-reflects i j b = go (eqb i j) (reflects-eqb i j)
   where
     go : (e : Bool) → Reflects e (i ≡ j) → Reflects (e || not b) ((i ≡ j → ⊥) → T b → ⊥)
     go true r = record { to = λ t n u. n (r .to tt); from = λ h. tt }
     go false r = record { to = λ t n u. T-not b t u; from = λ h. not-T b (h (r .from)) }
 
-every-apart : (table : Table) → Reflects (sound table) (Every (λ i. Every (λ j. Apart table i j) (upTo (length table))) (upTo (length table)))
+every-disjoint : (table : Table) → Reflects (sound table) (Every (λ i. Every (λ j. Disjoint table i j) (upTo (length table))) (upTo (length table)))
 unfolding sound
-every-apart table =
-    all-reflects _ (λ i. all-reflects _ (λ j. apart-reflects i j (interiorsMeet (numbered table i) (numbered table j))) (upTo (length table))) (upTo (length table))
+every-disjoint table =
+    all-reflects _ (λ i. all-reflects _ (λ j. disjoint-reflects i j (interiorsMeet (numbered table i) (numbered table j))) (upTo (length table))) (upTo (length table))
 
 module _ (table : Table) (good : Every (λ t. T (proper t)) table) where
   -- soundness is yes exactly when no two different triangle numbers have a common interior point
@@ -46,4 +46,4 @@ module _ (table : Table) (good : Every (λ t. T (proper t)) table) where
       let hi = upTo-to mi in
       let hj = upTo-to mj in
       s i j hi hj n (interiors-meet-iff _ _ (numbered-proper table good i hi) (numbered-proper table good j hj) .1 t))
-      (every-apart table)
+      (every-disjoint table)

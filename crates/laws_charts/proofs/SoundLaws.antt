@@ -17,49 +17,49 @@ use Rattle.spec_charts.specs.Table.{triangleAt, tableOf, numbered}
 use Rattle.spec_charts.specs.Reading.{sound}
 use Rattle.laws_charts.proofs.TableLaws.{numbered-at, tableOf-length}
 
--- triangle i shares no ground with triangle j
-abbrev pub trianglesApart : List ℕ → ℕ → ℕ → Bool
-trianglesApart ns i j = not (interiorsMeet (triangleAt ns i) (triangleAt ns j))
+-- triangle i has no common interior point with triangle j
+abbrev pub trianglesDisjoint : List ℕ → ℕ → ℕ → Bool
+trianglesDisjoint ns i j = not (interiorsMeet (triangleAt ns i) (triangleAt ns j))
 
 module _ (ns : List ℕ) (n : ℕ) where
   -- the test of the definition
-  abbrev pairApart : ℕ → ℕ → Bool
-  pairApart i j = eqb i j || not (interiorsMeet (numbered (tableOf ns n) i) (numbered (tableOf ns n) j))
+  abbrev pairDisjoint : ℕ → ℕ → Bool
+  pairDisjoint i j = eqb i j || not (interiorsMeet (numbered (tableOf ns n) i) (numbered (tableOf ns n) j))
 
   -- of two different numbers, by the table's numbers
-  pair-apart : (i j : ℕ) → i < n → j < n → (i ≡ j → ⊥) → pairApart i j ≡ trianglesApart ns i j
-  pair-apart i j h k d = rw (ne-eqb i j d, numbered-at ns n i h, numbered-at ns n j k) refl
+  pair-disjoint : (i j : ℕ) → i < n → j < n → (i ≡ j → ⊥) → pairDisjoint i j ≡ trianglesDisjoint ns i j
+  pair-disjoint i j h k d = rw (ne-eqb i j d, numbered-at ns n i h, numbered-at ns n j k) refl
 
   -- and the other way round
-  pair-reversed : (i j : ℕ) → i < n → j < n → (i ≡ j → ⊥) → pairApart i j ≡ trianglesApart ns j i
-  pair-reversed i j h k d = pair-apart i j h k d ∙ ap not (interiorsMeet-sym (triangleAt ns i) (triangleAt ns j))
+  pair-reversed : (i j : ℕ) → i < n → j < n → (i ≡ j → ⊥) → pairDisjoint i j ≡ trianglesDisjoint ns j i
+  pair-reversed i j h k d = pair-disjoint i j h k d ∙ ap not (interiorsMeet-sym (triangleAt ns i) (triangleAt ns j))
 
   -- what both decide
   abbrev Below : Type 0
-  Below = (i : ℕ) → i < n → (j : ℕ) → j < i → T (trianglesApart ns i j)
+  Below = (i : ℕ) → i < n → (j : ℕ) → j < i → T (trianglesDisjoint ns i j)
 
   -- the pairs with j < i
-  below-reflects : Reflects (all (λ i. all (λ j. trianglesApart ns i j) (upTo i)) (upTo n)) Below
+  below-reflects : Reflects (all (λ i. all (λ j. trianglesDisjoint ns i j) (upTo i)) (upTo n)) Below
   below-reflects =
       reflects-iff
-      (λ h i l. all-below-reflects (λ j. trianglesApart ns i j) i .to (h i l))
-      (λ h i l. all-below-reflects (λ j. trianglesApart ns i j) i .from (h i l))
-      (all-below-reflects (λ i. all (λ j. trianglesApart ns i j) (upTo i)) n)
+      (λ h i l. all-below-reflects (λ j. trianglesDisjoint ns i j) i .to (h i l))
+      (λ h i l. all-below-reflects (λ j. trianglesDisjoint ns i j) i .from (h i l))
+      (all-below-reflects (λ i. all (λ j. trianglesDisjoint ns i j) (upTo i)) n)
 
   -- all pairs
-  pairs-reflects : Reflects (all (λ i. all (λ j. pairApart i j) (upTo n)) (upTo n)) Below
+  pairs-reflects : Reflects (all (λ i. all (λ j. pairDisjoint i j) (upTo n)) (upTo n)) Below
   pairs-reflects =
       reflects-iff
-      (λ h i l j k. rw (pair-apart i j l (omega arith) (λ e. omega arith)) at (all-below-reflects (λ j. pairApart i j) n .to (h i l) j (omega arith)))
-      (λ h i l. all-below-reflects (λ j. pairApart i j) n .from (λ j k. go h i j l k (decLe i j) (decLe j i)))
-      (all-below-reflects (λ i. all (λ j. pairApart i j) (upTo n)) n)
+      (λ h i l j k. rw (pair-disjoint i j l (omega arith) (λ e. omega arith)) at (all-below-reflects (λ j. pairDisjoint i j) n .to (h i l) j (omega arith)))
+      (λ h i l. all-below-reflects (λ j. pairDisjoint i j) n .from (λ j k. go h i j l k (decLe i j) (decLe j i)))
+      (all-below-reflects (λ i. all (λ j. pairDisjoint i j) (upTo n)) n)
     where
-      go : Below → (i j : ℕ) → i < n → j < n → Dec (i ≤ j) → Dec (j ≤ i) → T (pairApart i j)
+      go : Below → (i j : ℕ) → i < n → j < n → Dec (i ≤ j) → Dec (j ≤ i) → T (pairDisjoint i j)
       go h i j l k (yes u) (yes v) = rw (eq-eqb i j (omega arith)) tt
       go h i j l k (yes u) (no v) = rw (pair-reversed i j l k (λ e. omega arith)) (h j k i (omega arith))
-      go h i j l k (no u) v = rw (pair-apart i j l k (λ e. omega arith)) (h i l j (omega arith))
+      go h i j l k (no u) v = rw (pair-disjoint i j l k (λ e. omega arith)) (h i l j (omega arith))
 
   -- soundness asks it of the pairs with j < i only
-  pub sound-below : all (λ i. all (λ j. trianglesApart ns i j) (upTo i)) (upTo n) ≡ sound (tableOf ns n)
+  pub sound-below : all (λ i. all (λ j. trianglesDisjoint ns i j) (upTo i)) (upTo n) ≡ sound (tableOf ns n)
   unfolding sound
   sound-below = rw (tableOf-length ns n) (reflects-same below-reflects pairs-reflects)

@@ -92,14 +92,14 @@ parted a b c d e f z w m s t h k =
     let u = s m .1 (h .0) (h .1 .0) (h .1 .1) in let v = t m .0 (k .0) (k .1 .0) (k .1 .1) in omega arith
 
 -- two boxes have no more than a border in common
-abbrev pub Clear : Box → Box → Type 0
-Clear b d = (((b .right ≤ d .left) ⊎ (d .right ≤ b .left)) ⊎ (b .bottom ≤ d .top)) ⊎ (d .bottom ≤ b .top)
+abbrev pub Separate : Box → Box → Type 0
+Separate b d = (((b .right ≤ d .left) ⊎ (d .right ≤ b .left)) ⊎ (b .bottom ≤ d .top)) ⊎ (d .bottom ≤ b .top)
 
 -- two triangles with D > 0 whose bounding boxes have no more than a border in common share no ground
-pub clear-apart : (s t : Triangle) → T (proper s) → T (proper t) → Clear (triangleBox s) (triangleBox t)
+pub separate-disjoint : (s t : Triangle) → T (proper s) → T (proper t) → Separate (triangleBox s) (triangleBox t)
     → interiorsMeet s t ≡ false
 unfolding triangleBox
-clear-apart s t ds dt k =
+separate-disjoint s t ds dt k =
     test-false λ h.
     let c = interiors-meet-iff s t ds dt .1 h in
     let p = c .point in

@@ -13,11 +13,11 @@ use lib.Pow.{shr-le}
 use lib.Dec.{leb, ltb}
 use lib.ListN.{length, getD, set}
 use Rattle.spec_plane.specs.Box.{Box}
-use Rattle.base_boxes.specs.Boxes.{clear, boxesOverlap}
-use Rattle.base_boxes.proofs.KeepLaws.{kept-none, kept-more, kept-skip}
+use Rattle.base_boxes.specs.Boxes.{separate, boxesOverlap}
+use Rattle.theory_lists.proofs.CompactLaws.{compact-none, compact-more, compact-skip}
 use Rattle.overlay_marks.specs.Bits.{wordBit, hasBit}
 use Rattle.overlay_marks.specs.PairMarks.{rowWords}
-use Rattle.overlay_candidates.specs.RowCandidates.{markedAt, isNear, NearInRow}
+use Rattle.overlay_candidates.specs.RowCandidates.{markedAt, isNear, NearInRow, Collected}
 use Rattle.overlay_candidates.proofs.WordLaws.{Lowest, trailing-lowest, bits-before, bit-there, bit-within, bits-after, bits-none}
 
 -- j is below m, or not
@@ -37,21 +37,21 @@ passes-not false j m = below-not j m
 module _ (b : Box) (box : ℕ → Box) (rows : List ℕ) (m i : ℕ) where
   -- before the first
   pub near-none : (near : List ℕ) → NearInRow b box rows m i near 0 0
-  near-none near = kept-none (λ k. isNear b box rows m i k) near
+  near-none near = compact-none (λ k. isNear b box rows m i k) near
 
   module _ {near : List ℕ} {j c : ℕ} (n : NearInRow b box rows m i near j c) where
     -- triangle j, which is marked
     pub near-more : markedAt rows i j ≡ true → (near′ : List ℕ) (r : ℕ) → c < length near → near′ ≡ set near c j
-        → r ≡ cond (clear b (box j) || leb m j) c (c + 1) → NearInRow b box rows m i near′ (j + 1) r
+        → r ≡ cond (separate b (box j) || leb m j) c (c + 1) → NearInRow b box rows m i near′ (j + 1) r
     near-more marked near′ r l e g =
-        let a = clear b (box j) in
+        let a = separate b (box j) in
         let test : isNear b box rows m i j ≡ not (a || leb m j) = ap (λ b. b && not a && ltb j m) marked ∙ passes-not a j m in
-        kept-more (λ k. isNear b box rows m i k) n (a || leb m j) test near′ r l e g
+        compact-more (λ k. isNear b box rows m i k) n (a || leb m j) test near′ r l e g
 
     -- triangles that are not marked
     pub near-skip : (s : ℕ) → ((k : ℕ) → k < s → markedAt rows i (j + k) ≡ false) → NearInRow b box rows m i near (j + s) c
     near-skip s none =
-        kept-skip (λ k. isNear b box rows m i k) n s
+        compact-skip (λ k. isNear b box rows m i k) n s
         (λ k l. ap (λ a. a && boxesOverlap b box (j + k) && ltb (j + k) m) (none k l))
 
 -- ---- the marks of a word
@@ -96,3 +96,18 @@ module _ (rows : List ℕ) (i j q w : ℕ) (fits : getD rows (rowWords * i + q) 
     mark-past =
         bits-after (getD rows (rowWords * i + q) 0) (j - 64 * q) w t left l
         ∙ ap (λ x. getD rows (rowWords * i + q) 0 / 2 ^ x) (omega arith)
+
+-- ---- what the loops have done
+
+module _ (b : Box) (box : ℕ → Box) (rows : List ℕ) (m i : ℕ) (start near : List ℕ) where
+  -- the words before word q of row i are looked at
+  pub record WordsDone (q c : ℕ) : Type 0 where
+    pub within : q ≤ rowWords
+    pub collected : Collected b box rows m i start near (64 * q) c
+
+  -- of word q of row i the marks before place j are looked at, and w has those that are left
+  pub record MarksDone (q w j c : ℕ) : Type 0 where
+    pub low : 64 * q ≤ j
+    pub high : j ≤ 64 * (q + 1)
+    pub left : w ≡ getD rows (rowWords * i + q) 0 / 2 ^ (j - 64 * q)
+    pub collected : Collected b box rows m i start near j c

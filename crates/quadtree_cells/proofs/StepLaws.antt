@@ -15,7 +15,7 @@ squared : (m : ℕ) → 2 ^ m * 2 ^ m ≡ 4 ^ m
 squared zero = refl
 squared (suc m) = rw (pow-succ' 2 m, pow-succ' 4 m, ← squared m) (omega arith)
 
-pub key-step-is : (level : ℕ) → level < 16 → (32768 / 2 ^ level * (32768 / 2 ^ level) ≡ span arity depth (suc level)) × (32768 / 2 ^ level * (32768 / 2 ^ level) ≤ 1073741824)
+pub key-step-is : (level : ℕ) → level < depth → (32768 / 2 ^ level * (32768 / 2 ^ level) ≡ span arity depth (suc level)) × (32768 / 2 ^ level * (32768 / 2 ^ level) ≤ arity ^ (depth - 1))
 unfolding span sideAt
 key-step-is level h =
     let e = shift-half level h in

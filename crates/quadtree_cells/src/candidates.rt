@@ -5,20 +5,18 @@ use base_geometry::numbers;
 use quadtree_shapes::box_tests;
 use quadtree_shapes::shapes::Frame;
 ghost use mathlib.Core.Path.{_≡_};
-ghost use Prim.Native.Nat.{_+_, _-_, _≤_, _<_};
+ghost use Prim.Native.Nat.{_≤_, _<_};
 ghost use lib.ListN.{length};
 ghost use lib.Seq.{sets};
-ghost use Rattle.theory_lists.specs.Lists.{filter, upTo};
-ghost use Rattle.spec_plane.specs.Box.{Framed};
+ghost use Rattle.theory_lists.specs.Lists.{upTo};
 ghost use Rattle.spec_charts.specs.Table.{maxTriangles};
-ghost use Rattle.quadtree_shapes.specs.Shape.{boxOf, triangleMeetsAt};
-ghost use Rattle.quadtree_cells.specs.Stack.{only, part, Fits};
+ghost use Rattle.quadtree_shapes.specs.Shape.{frameBox, triangleMeetsAt};
+ghost use Rattle.quadtree_cells.specs.Stack.{Pushed, Narrowable, Narrowing};
 
 // i on top of the stack where the test passed.
 fn push_when(b: bool, stack: &mut [u16], top: usize, i: u16) -> usize
     requires { ⌜ top < length (now stack) ⌝ }
-    ensures { λ r. ⌜ now (stack .exit) ≡ sets (now (stack .entry)) top (only b i) ⌝ }
-    ensures { λ r. ⌜ r ≡ top + length (only b i) ⌝ }
+    ensures { λ r. ⌜ Pushed b i (now (stack .entry)) (now (stack .exit)) top r ⌝ }
 {
     if b {
         stack[top] = i;
@@ -36,10 +34,8 @@ pub fn narrow(
     to: usize,
     f: Frame,
 ) -> usize
-    requires { ⌜ Fits from to (now shape) (now offsets) (now stack) ⌝ }
-    requires { ⌜ (to + (to - from) ≤ length (now stack)) × Framed (boxOf f) ⌝ }
-    ensures { λ r. ⌜ now (stack .exit) ≡ sets (now (stack .entry)) to (filter (λ i. triangleMeetsAt (now (shape .entry)) (now (offsets .entry)) i (boxOf f)) (part from to (now (stack .entry)))) ⌝ }
-    ensures { λ r. ⌜ r ≡ to + length (filter (λ i. triangleMeetsAt (now (shape .entry)) (now (offsets .entry)) i (boxOf f)) (part from to (now (stack .entry)))) ⌝ }
+    requires { ⌜ Narrowable from to (now shape) (now offsets) (now stack) (frameBox f) ⌝ }
+    ensures { λ r. ⌜ Narrowing (λ i. triangleMeetsAt (now (shape .entry)) (now (offsets .entry)) i (frameBox f)) (now (stack .entry)) (now (stack .exit)) from to to r ⌝ }
 {
     let mut top = to;
     let mut k = from;

@@ -3,12 +3,11 @@
 use quadtree_shapes::shapes::Frame;
 use spec_squares::Square;
 ghost use mathlib.Core.Path.{_≡_};
-ghost use Prim.Native.Nat.{suc, _+_, _*_, _≤_, _<_};
+ghost use Prim.Native.Nat.{suc, _-_, _^_, _≤_, _<_};
 ghost use lib.ListN.{getD};
-ghost use Rattle.spec_plane.specs.Box.{Framed};
 ghost use Rattle.theory_orthtree.specs.Entries.{span};
-ghost use Rattle.spec_squares.specs.Square.{arity, depth, squareKey, squareBox, quarters, Aligned};
-ghost use Rattle.quadtree_shapes.specs.Shape.{boxOf};
+ghost use Rattle.spec_squares.specs.Square.{arity, depth, squareKey, quarters, Aligned};
+ghost use Rattle.quadtree_cells.specs.Quarters.{Keyed, HasQuarter, FrameOf};
 
 // A square with its key.
 pub struct KeyedSquare {
@@ -19,7 +18,7 @@ pub struct KeyedSquare {
 // The square with its whole border.
 pub fn frame_of(s: Square) -> Frame
     requires { ⌜ Aligned s ⌝ }
-    ensures { λ f. ⌜ (boxOf f ≡ squareBox s) × Framed (boxOf f) ⌝ }
+    ensures { λ f. ⌜ FrameOf s f ⌝ }
 {
     let side = s.side();
     let right = s.x + side;
@@ -34,7 +33,7 @@ pub fn frame_of(s: Square) -> Frame
 
 // Quarter k of a square, in their order.
 fn quarter(s: Square, k: u32) -> Square
-    requires { ⌜ (k < 4) × ((s .level < 16) × ((s .x ≤ 65536) × (s .y ≤ 65536))) ⌝ }
+    requires { ⌜ HasQuarter s k ⌝ }
     ensures { λ q. ⌜ q ≡ getD (quarters s) k s ⌝ }
 {
     if k == 0 {
@@ -51,8 +50,8 @@ fn quarter(s: Square, k: u32) -> Square
 
 // How many keys a quarter of a square of this level covers: 4^(15 - level).
 fn key_step(level: u32) -> u64
-    requires { ⌜ level < 16 ⌝ }
-    ensures { λ r. ⌜ (r ≡ span arity depth (suc level)) × (r ≤ 1073741824) ⌝ }
+    requires { ⌜ level < depth ⌝ }
+    ensures { λ r. ⌜ (r ≡ span arity depth (suc level)) × (r ≤ arity ^ (depth - 1)) ⌝ }
 {
     let side = 32768u64 >> level;
     side * side
@@ -60,7 +59,7 @@ fn key_step(level: u32) -> u64
 
 // Quarter k of a square with its key.
 pub fn keyed_quarter(s: KeyedSquare, k: u32) -> KeyedSquare
-    requires { ⌜ (Aligned (s .square) × (s .key ≡ squareKey (s .square))) × ((s .square .level < 16) × (k < 4)) ⌝ }
+    requires { ⌜ Keyed s × HasQuarter (s .square) k ⌝ }
     ensures { λ q. ⌜ (q .square ≡ getD (quarters (s .square)) k (s .square)) × (q .key ≡ squareKey (q .square)) ⌝ }
 {
     let square = s.square;

@@ -3,7 +3,7 @@
 -- Assumes nothing.
 use mathlib.Core.Path.{_≡_, refl, sym, _∙_, ap, ap₂}
 use mathlib.Core.Bool.{Bool, true, false, cond, not, _&&_, _||_}
-use mathlib.Core.List.{List, flatMap, List·Memᴰ}
+use mathlib.Core.List.{List, [], _∷_, map, flatMap, List·Memᴰ}
 use Prim.Native.Nat.{ℕ, _+_, _*_, _≤_, _<_}
 use native.Mathlib.Omega.{arith}
 use borrow.Author.Tests.{leb-true, leb-false, ltb-true, ltb-false}
@@ -13,11 +13,12 @@ use lib.Seq.{getD-take}
 use Rattle.theory_lists.proofs.ListsLaws.{getD-stride, getD-member}
 use Rattle.spec_plane.specs.declared.Point.{Point}
 use Rattle.spec_plane.specs.Point.{distance}
-use Rattle.spec_plane.specs.Triangle.{Triangle}
+use Rattle.spec_plane.specs.Triangle.{Triangle, sides}
 use Rattle.spec_plane.specs.Box.{Box, Framed, apart, sideBox, triangleBox, allInner, allOuter, sideMeets, triangleMeets}
 use Rattle.spec_plane.proofs.ExtremeLaws.{offset, OnGrid, CornersOnGrid, allOuter-extreme, allInner-extreme}
 use Rattle.spec_charts.specs.Table.{Table, numbered, noTriangle}
-use Rattle.quadtree_shapes.specs.Shape.{atMost, chosen, sideShape, boxShape, shapeOf, sideOffset, offsetsOf, cornersOf, Shaped, reachAt, baseAt, touchesAt, triangleMeetsAt, sideMeetsAt}
+use Rattle.quadtree_shapes.specs.Shape.{triangleSides, triangleCorners, lineNumbers, shapeNumbers, secondSide, thirdSide, wholeBox, atMost, chosen, lineShape, sideShape, shapeOf, sideOffset, offsetsOf, cornersOf, Shaped, largestAt, smallestAt, touchesAt, triangleMeetsAt, sideMeetsAt}
+use Rattle.quadtree_shapes.specs.Masks.{sidesMet}
 
 -- ---- one side
 
@@ -83,34 +84,34 @@ not-apart d b = simp (not-or, not-ltb)
 
 -- ---- the numbers of a triangle
 
-pub shape-length : (t : Triangle) → length (shapeOf t) ≡ 28
-unfolding shapeOf sideShape boxShape
+pub shape-length : (t : Triangle) → length (shapeOf t) ≡ shapeNumbers
+unfolding shapeOf sideShape lineShape
 shape-length t = refl
 
-pub offsets-length : (t : Triangle) → length (offsetsOf t) ≡ 3
+pub offsets-length : (t : Triangle) → length (offsetsOf t) ≡ triangleSides
 unfolding offsetsOf
 offsets-length t = refl
 
-pub corners-length : (t : Triangle) → length (cornersOf t) ≡ 3
+pub corners-length : (t : Triangle) → length (cornersOf t) ≡ triangleCorners
 unfolding cornersOf
 corners-length t = refl
 
 module _ (table : Table) (s o : List ℕ) (h : Shaped table s o) (i : ℕ) (l : i < length table) where
-  number : (k m : ℕ) → k ≡ 28 * i + m → m < 28 → getD s k 0 ≡ getD (shapeOf (numbered table i)) m 0
+  number : (k m : ℕ) → k ≡ shapeNumbers * i + m → m < shapeNumbers → getD s k 0 ≡ getD (shapeOf (numbered table i)) m 0
   unfolding numbered
   number k m e lt =
-      sym (getD-take (28 * length table) s k 0 (omega arith))
+      sym (getD-take (shapeNumbers * length table) s k 0 (omega arith))
       ∙ ap (λ r. getD r k 0) (h .shapes)
       ∙ ap (λ j. getD (flatMap (λ t. shapeOf t) table) j 0) e
-      ∙ getD-stride (λ t. shapeOf t) 28 shape-length table i m noTriangle l lt
+      ∙ getD-stride (λ t. shapeOf t) shapeNumbers shape-length table i m noTriangle l lt
 
-  offset-at : (k m : ℕ) → k ≡ 3 * i + m → m < 3 → getD o k 0 ≡ getD (offsetsOf (numbered table i)) m 0
+  offset-at : (k m : ℕ) → k ≡ triangleSides * i + m → m < triangleSides → getD o k 0 ≡ getD (offsetsOf (numbered table i)) m 0
   unfolding numbered
   offset-at k m e lt =
-      sym (getD-take (3 * length table) o k 0 (omega arith))
+      sym (getD-take (triangleSides * length table) o k 0 (omega arith))
       ∙ ap (λ r. getD r k 0) (h .offs)
       ∙ ap (λ j. getD (flatMap (λ t. offsetsOf t) table) j 0) e
-      ∙ getD-stride (λ t. offsetsOf t) 3 offsets-length table i m noTriangle l lt
+      ∙ getD-stride (λ t. offsetsOf t) triangleSides offsets-length table i m noTriangle l lt
 
 -- ---- tests on the kept numbers
 
@@ -130,15 +131,15 @@ record BoxAt (s : List ℕ) (k : ℕ) (d : Box) : Type 0 where
 
 module _ (s : List ℕ) (k v : ℕ) {p q : Point} (a : SideAt s k p q) (e : v ≡ sideOffset p q) (on : OnGrid p) (b : Box) (f : Framed b) where
   -- the largest V is at least V(p) unless all corners are outside
-  reach-outer : leb v (reachAt s k b) ≡ not (allOuter p q b)
-  unfolding reachAt
-  reach-outer =
+  largest-outer : leb v (largestAt s k b) ≡ not (allOuter p q b)
+  unfolding largestAt
+  largest-outer =
       rw (e, sideOffset-offset p q, a .steepX, a .steepY, a .growsX, a .growsY, chosen-atMost (q .y) (p .y), chosen-atMost (p .x) (q .x), allOuter-extreme p q on b f, not-ltb)
 
   -- the smallest is at most V(p) unless all corners are inside
-  base-inner : leb (baseAt s k b) v ≡ not (allInner p q b)
-  unfolding baseAt
-  base-inner =
+  smallest-inner : leb (smallestAt s k b) v ≡ not (allInner p q b)
+  unfolding smallestAt
+  smallest-inner =
       rw (e, sideOffset-offset p q, a .steepX, a .steepY, a .growsX, a .growsY, chosen-atMost (q .y) (p .y), chosen-atMost (p .x) (q .x), allInner-extreme p q on b f, not-ltb)
 
 touches-box : (s : List ℕ) (k : ℕ) (d b : Box) → BoxAt s k d → touchesAt s k b ≡ not (apart d b)
@@ -146,8 +147,8 @@ unfolding touchesAt
 touches-box s k d b a = rw (a .left, a .top, a .right, a .bottom, not-apart d b)
 
 module _ (table : Table) (s o : List ℕ) (h : Shaped table s o) (i : ℕ) (l : i < length table) where
-  -- what stands at m of the triangle's own numbers stands at 28 i + m
-  side-at : {p q : Point} (k m : ℕ) → k ≡ 28 * i + m → m + 4 ≤ 28 → SideAt (shapeOf (numbered table i)) m p q → SideAt s k p q
+  -- what stands at m of the triangle's own numbers stands at the start of its numbers + m
+  side-at : {p q : Point} (k m : ℕ) → k ≡ shapeNumbers * i + m → m + lineNumbers ≤ shapeNumbers → SideAt (shapeOf (numbered table i)) m p q → SideAt s k p q
   side-at k m e lt a =
       let r = number table s o h i l in
       record {
@@ -157,7 +158,7 @@ module _ (table : Table) (s o : List ℕ) (h : Shaped table s o) (i : ℕ) (l : 
         growsY = r (k + 3) (m + 3) (omega arith) (omega arith) ∙ a .growsY;
       }
 
-  box-at : {d : Box} (k m : ℕ) → k ≡ 28 * i + m → m + 4 ≤ 28 → BoxAt (shapeOf (numbered table i)) m d → BoxAt s k d
+  box-at : {d : Box} (k m : ℕ) → k ≡ shapeNumbers * i + m → m + lineNumbers ≤ shapeNumbers → BoxAt (shapeOf (numbered table i)) m d → BoxAt s k d
   box-at k m e lt a =
       let r = number table s o h i l in
       record {
@@ -168,21 +169,21 @@ module _ (table : Table) (s o : List ℕ) (h : Shaped table s o) (i : ℕ) (l : 
       }
 
   -- the three sides and the triangle's box
-  first-side : SideAt s (28 * i) (numbered table i .a) (numbered table i .b)
-  unfolding shapeOf sideShape
-  first-side = side-at (28 * i) 0 (omega arith) (omega arith) (record { steepX = refl; steepY = refl; growsX = refl; growsY = refl })
+  first-side : SideAt s (shapeNumbers * i) (numbered table i .a) (numbered table i .b)
+  unfolding shapeOf sideShape lineShape
+  first-side = side-at (shapeNumbers * i) 0 (omega arith) (omega arith) (record { steepX = refl; steepY = refl; growsX = refl; growsY = refl })
 
-  second-side : SideAt s (28 * i + 8) (numbered table i .b) (numbered table i .c)
-  unfolding shapeOf sideShape
-  second-side = side-at (28 * i + 8) 8 refl (omega arith) (record { steepX = refl; steepY = refl; growsX = refl; growsY = refl })
+  second-side : SideAt s (shapeNumbers * i + secondSide) (numbered table i .b) (numbered table i .c)
+  unfolding shapeOf sideShape lineShape
+  second-side = side-at (shapeNumbers * i + secondSide) secondSide refl (omega arith) (record { steepX = refl; steepY = refl; growsX = refl; growsY = refl })
 
-  third-side : SideAt s (28 * i + 16) (numbered table i .c) (numbered table i .a)
-  unfolding shapeOf sideShape
-  third-side = side-at (28 * i + 16) 16 refl (omega arith) (record { steepX = refl; steepY = refl; growsX = refl; growsY = refl })
+  third-side : SideAt s (shapeNumbers * i + thirdSide) (numbered table i .c) (numbered table i .a)
+  unfolding shapeOf sideShape lineShape
+  third-side = side-at (shapeNumbers * i + thirdSide) thirdSide refl (omega arith) (record { steepX = refl; steepY = refl; growsX = refl; growsY = refl })
 
-  whole-box : BoxAt s (28 * i + 24) (triangleBox (numbered table i))
-  unfolding shapeOf sideShape boxShape triangleBox
-  whole-box = box-at (28 * i + 24) 24 refl (omega arith) (record { left = refl; top = refl; right = refl; bottom = refl })
+  whole-box : BoxAt s (shapeNumbers * i + wholeBox) (triangleBox (numbered table i))
+  unfolding shapeOf sideShape lineShape triangleBox
+  whole-box = box-at (shapeNumbers * i + wholeBox) wholeBox refl (omega arith) (record { left = refl; top = refl; right = refl; bottom = refl })
 
   -- the corners of the triangle are grid points
   module _ (grid : (t : Triangle) → List·Memᴰ t table → CornersOnGrid t) (b : Box) (f : Framed b) where
@@ -197,46 +198,42 @@ module _ (table : Table) (s o : List ℕ) (h : Shaped table s o) (i : ℕ) (l : 
         let t = numbered table i in
         let on = corners-on in
         let v = offset-at table s o h i l in
-        let ab = reach-outer s (28 * i) (getD o (3 * i) 0) first-side (v (3 * i) 0 (omega arith) (omega arith)) (on .a) b f in
-        let bc = reach-outer s (28 * i + 8) (getD o (3 * i + 1) 0) second-side (v (3 * i + 1) 1 refl (omega arith)) (on .b) b f in
-        let ca = reach-outer s (28 * i + 16) (getD o (3 * i + 2) 0) third-side (v (3 * i + 2) 2 refl (omega arith)) (on .c) b f in
-        ap₂ _&&_ (ap₂ _&&_ (ap₂ _&&_ (touches-box s (28 * i + 24) (triangleBox t) b whole-box) ab) bc) ca
+        let ab = largest-outer s (shapeNumbers * i) (getD o (triangleSides * i) 0) first-side (v (triangleSides * i) 0 (omega arith) (omega arith)) (on .a) b f in
+        let bc = largest-outer s (shapeNumbers * i + secondSide) (getD o (triangleSides * i + 1) 0) second-side (v (triangleSides * i + 1) 1 refl (omega arith)) (on .b) b f in
+        let ca = largest-outer s (shapeNumbers * i + thirdSide) (getD o (triangleSides * i + 2) 0) third-side (v (triangleSides * i + 2) 2 refl (omega arith)) (on .c) b f in
+        ap₂ _&&_ (ap₂ _&&_ (ap₂ _&&_ (touches-box s (shapeNumbers * i + wholeBox) (triangleBox t) b whole-box) ab) bc) ca
         ∙ sym (not-or4 (apart (triangleBox t) b) (allOuter (t .a) (t .b) b) (allOuter (t .b) (t .c) b) (allOuter (t .c) (t .a) b))
 
     -- the test on a side's numbers, which start at k, is the side's, where not all corners are outside
-    side-meets : {p q : Point} (k v : ℕ) → SideAt s k p q → BoxAt s (k + 4) (sideBox (record { start = p; end = q })) → OnGrid p → v ≡ sideOffset p q
+    side-meets : {p q : Point} (k v : ℕ) → SideAt s k p q → BoxAt s (k + lineNumbers) (sideBox (record { start = p; end = q })) → OnGrid p → v ≡ sideOffset p q
         → allOuter p q b ≡ false → sideMeetsAt s k v b ≡ sideMeets (record { start = p; end = q }) b
     unfolding sideMeetsAt sideMeets
     side-meets {p} {q} k v a d on e r =
         let far = apart (sideBox (record { start = p; end = q })) b in
-        ap₂ _&&_ (touches-box s (k + 4) (sideBox (record { start = p; end = q })) b d) (base-inner s k v a e on b f)
+        ap₂ _&&_ (touches-box s (k + lineNumbers) (sideBox (record { start = p; end = q })) b d) (smallest-inner s k v a e on b f)
         ∙ sym (not-or far (allInner p q b))
         ∙ ap not (sym (ap (λ x. far || allInner p q b || x) r ∙ or-false (far || allInner p q b)))
 
     -- so for the sides of a triangle that meets the box
-    pub first-meets : T (triangleMeets (numbered table i) b) → (v : ℕ) → v ≡ getD o (3 * i) 0
-        → sideMeetsAt s (28 * i) v b ≡ sideMeets (record { start = numbered table i .a; end = numbered table i .b }) b
-    unfolding offsetsOf sideBox shapeOf sideShape
-    first-meets m v e =
-        side-meets (28 * i) v first-side
-        (box-at (28 * i + 4) 4 refl (omega arith) (record { left = refl; top = refl; right = refl; bottom = refl }))
-        (corners-on .a)
-        (e ∙ offset-at table s o h i l (3 * i) 0 (omega arith) (omega arith)) (reached (numbered table i) b m .0)
-
-    pub second-meets : T (triangleMeets (numbered table i) b) → (v : ℕ) → v ≡ getD o (3 * i + 1) 0
-        → sideMeetsAt s (28 * i + 8) v b ≡ sideMeets (record { start = numbered table i .b; end = numbered table i .c }) b
-    unfolding offsetsOf sideBox shapeOf sideShape
-    second-meets m v e =
-        side-meets (28 * i + 8) v second-side
-        (box-at (28 * i + 8 + 4) 12 (omega arith) (omega arith) (record { left = refl; top = refl; right = refl; bottom = refl }))
-        (corners-on .b)
-        (e ∙ offset-at table s o h i l (3 * i + 1) 1 refl (omega arith)) (reached (numbered table i) b m .1 .0)
-
-    pub third-meets : T (triangleMeets (numbered table i) b) → (v : ℕ) → v ≡ getD o (3 * i + 2) 0
-        → sideMeetsAt s (28 * i + 16) v b ≡ sideMeets (record { start = numbered table i .c; end = numbered table i .a }) b
-    unfolding offsetsOf sideBox shapeOf sideShape
-    third-meets m v e =
-        side-meets (28 * i + 16) v third-side
-        (box-at (28 * i + 16 + 4) 20 (omega arith) (omega arith) (record { left = refl; top = refl; right = refl; bottom = refl }))
-        (corners-on .c)
-        (e ∙ offset-at table s o h i l (3 * i + 2) 2 refl (omega arith)) (reached (numbered table i) b m .1 .1)
+    pub sides-meet : T (triangleMeets (numbered table i) b) → sidesMet s o b i ≡ map (λ d. sideMeets d b) (sides (numbered table i))
+    unfolding sidesMet offsetsOf sideBox shapeOf sideShape lineShape
+    sides-meet m =
+        let on = corners-on in
+        let v = offset-at table s o h i l in
+        let out = reached (numbered table i) b m in
+        let ab =
+        side-meets (shapeNumbers * i) _ first-side
+        (box-at (shapeNumbers * i + lineNumbers) lineNumbers refl (omega arith) (record { left = refl; top = refl; right = refl; bottom = refl }))
+        (on .a) (v (triangleSides * i) 0 (omega arith) (omega arith)) (out .0)
+        in
+        let bc =
+        side-meets (shapeNumbers * i + secondSide) _ second-side
+        (box-at (shapeNumbers * i + secondSide + lineNumbers) (secondSide + lineNumbers) (omega arith) (omega arith) (record { left = refl; top = refl; right = refl; bottom = refl }))
+        (on .b) (v (triangleSides * i + 1) 1 refl (omega arith)) (out .1 .0)
+        in
+        let ca =
+        side-meets (shapeNumbers * i + thirdSide) _ third-side
+        (box-at (shapeNumbers * i + thirdSide + lineNumbers) (thirdSide + lineNumbers) (omega arith) (omega arith) (record { left = refl; top = refl; right = refl; bottom = refl }))
+        (on .c) (v (triangleSides * i + 2) 2 refl (omega arith)) (out .1 .1)
+        in
+        ap₂ _∷_ ab (ap₂ _∷_ bc (ap (λ x. x ∷ []) ca))

@@ -1,29 +1,18 @@
 -- The sides of a triangle as masks of three bits, and points packed into numbers.
 -- Assumes nothing.
-use mathlib.Core.Bool.{Bool, true, false, cond}
+use mathlib.Core.Bool.{Bool, cond}
 use mathlib.Core.List.{List, [], _∷_}
-use Prim.Native.Nat.{ℕ, _+_, _*_, _/_, _%_}
+use Prim.Native.Nat.{ℕ, _+_, _*_, _/_, _%_, _^_}
 use lib.Dec.{eqb}
 use lib.ListN.{getD}
 use Rattle.spec_plane.specs.declared.Point.{Point}
 use Rattle.spec_plane.specs.Triangle.{Triangle}
 use Rattle.spec_plane.specs.Box.{Box}
-use Rattle.quadtree_shapes.specs.Shape.{sideMeetsAt}
+use Rattle.quadtree_shapes.specs.Shape.{triangleSides, shapeNumbers, secondSide, thirdSide, sideMeetsAt}
 
--- 1 where the test passes, else 0
-abbrev pub bit : Bool → ℕ
-bit false = 0
-bit true = 1
-
--- tests as one number, the first at its lowest bit
-unfoldable pub maskOf : List Bool → ℕ
-maskOf [] = 0
-maskOf (b ∷ bs) = bit b + 2 * maskOf bs
-
--- the elements of a list whose bit the mask has
-unfoldable pub masked : {A : Type 0} → ℕ → List A → List A
-masked m [] = []
-masked m (x ∷ xs) = cond (eqb (m % 2) 1) (x ∷ masked (m / 2) xs) (masked (m / 2) xs)
+-- how many masks of a triangle's sides there are
+abbrev pub sideMasks : ℕ
+sideMasks = 2 ^ triangleSides
 
 -- the point that a number stands for, y above the 16 bits of x
 unfoldable pub unpacked : ℕ → Point
@@ -40,7 +29,7 @@ startOf m a b c = cond (eqb (m % 2) 1) a (cond (eqb (m / 2 % 2) 1) b c)
 -- which of the sides of triangle i meet the box, where the triangle does
 unfoldable pub sidesMet : List ℕ → List ℕ → Box → ℕ → List Bool
 sidesMet s o b i =
-    sideMeetsAt s (28 * i) (getD o (3 * i) 0) b
-    ∷ sideMeetsAt s (28 * i + 8) (getD o (3 * i + 1) 0) b
-    ∷ sideMeetsAt s (28 * i + 16) (getD o (3 * i + 2) 0) b
+    sideMeetsAt s (shapeNumbers * i) (getD o (triangleSides * i) 0) b
+    ∷ sideMeetsAt s (shapeNumbers * i + secondSide) (getD o (triangleSides * i + 1) 0) b
+    ∷ sideMeetsAt s (shapeNumbers * i + thirdSide) (getD o (triangleSides * i + 2) 0) b
     ∷ []

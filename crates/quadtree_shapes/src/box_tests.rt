@@ -4,15 +4,15 @@ use crate::shapes;
 use crate::shapes::Frame;
 use base_geometry::numbers;
 ghost use mathlib.Core.Path.{_≡_};
-ghost use Prim.Native.Nat.{_+_, _*_, _≤_};
+ghost use Prim.Native.Nat.{_+_, _≤_};
 ghost use lib.ListN.{length};
 ghost use Rattle.spec_plane.specs.Box.{Framed};
-ghost use Rattle.quadtree_shapes.specs.Shape.{boxOf, touchesAt, triangleMeetsAt, sideMeetsAt};
+ghost use Rattle.quadtree_shapes.specs.Shape.{boxNumbers, sideNumbers, frameBox, Testable, touchesAt, triangleMeetsAt, sideMeetsAt};
 
 // The box whose numbers start at k is not strictly apart from the frame.
 fn touches(shape: &[u16], k: usize, f: Frame) -> bool
-    requires { ⌜ k + 4 ≤ length (now shape) ⌝ }
-    ensures { λ o. ⌜ o ≡ touchesAt (now (shape .entry)) k (boxOf f) ⌝ }
+    requires { ⌜ k + boxNumbers ≤ length (now shape) ⌝ }
+    ensures { λ o. ⌜ o ≡ touchesAt (now (shape .entry)) k (frameBox f) ⌝ }
 {
     (f.left <= numbers::wide(shape[k + 2]))
         & (numbers::wide(shape[k]) <= f.right)
@@ -22,21 +22,23 @@ fn touches(shape: &[u16], k: usize, f: Frame) -> bool
 
 // Triangle i meets the frame.
 pub fn triangle_meets(shape: &[u16], offsets: &[u64], i: usize, f: Frame) -> bool
-    requires { ⌜ (28 * i + 28 ≤ length (now shape)) × ((3 * i + 3 ≤ length (now offsets)) × Framed (boxOf f)) ⌝ }
-    ensures { λ o. ⌜ o ≡ triangleMeetsAt (now (shape .entry)) (now (offsets .entry)) i (boxOf f) ⌝ }
+    requires { ⌜ Testable i (now shape) (now offsets) (frameBox f) ⌝ }
+    ensures { λ o. ⌜ o ≡ triangleMeetsAt (now (shape .entry)) (now (offsets .entry)) i (frameBox f) ⌝ }
 {
-    if touches(shape, 28 * i + 24, f) {
-        return (offsets[3 * i] <= shapes::reach(shape, 28 * i, f))
-            & (offsets[3 * i + 1] <= shapes::reach(shape, 28 * i + 8, f))
-            & (offsets[3 * i + 2] <= shapes::reach(shape, 28 * i + 16, f));
+    let k = shapes::SHAPE_NUMBERS * i;
+    if touches(shape, k + shapes::WHOLE_BOX, f) {
+        let v = shapes::TRIANGLE_SIDES * i;
+        return (offsets[v] <= shapes::largest_value(shape, k, f))
+            & (offsets[v + 1] <= shapes::largest_value(shape, k + shapes::SECOND_SIDE, f))
+            & (offsets[v + 2] <= shapes::largest_value(shape, k + shapes::THIRD_SIDE, f));
     }
     false
 }
 
 // The side whose numbers start at k, with the offset v, meets the frame, where its triangle does: V reaches v then.
 pub fn side_meets(shape: &[u16], k: usize, v: u64, f: Frame) -> bool
-    requires { ⌜ (k + 8 ≤ length (now shape)) × Framed (boxOf f) ⌝ }
-    ensures { λ o. ⌜ o ≡ sideMeetsAt (now (shape .entry)) k v (boxOf f) ⌝ }
+    requires { ⌜ (k + sideNumbers ≤ length (now shape)) × Framed (frameBox f) ⌝ }
+    ensures { λ o. ⌜ o ≡ sideMeetsAt (now (shape .entry)) k v (frameBox f) ⌝ }
 {
-    touches(shape, k + 4, f) & (shapes::base(shape, k, f) <= v)
+    touches(shape, k + shapes::LINE_NUMBERS, f) & (shapes::smallest_value(shape, k, f) <= v)
 }

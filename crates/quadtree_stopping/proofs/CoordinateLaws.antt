@@ -6,9 +6,9 @@ use Prim.Native.Nat.{ℕ, zero, suc, _+_, _*_, _/_, _%_, _<_}
 use native.Mathlib.Omega.{arith}
 use lib.ListN.{length, getD}
 use Rattle.spec_plane.specs.declared.Point.{Point}
-use Rattle.spec_charts.specs.Table.{pointAt}
-use Rattle.quadtree_shapes.specs.Shape.{coordinates}
-use Rattle.quadtree_shapes.specs.Masks.{unpacked}
+use Rattle.spec_charts.specs.Table.{numbersPerTriangle, pointAt, triangleAt}
+use Rattle.quadtree_shapes.specs.Shape.{triangleCorners, coordinates}
+use Rattle.quadtree_shapes.specs.Masks.{unpacked, unpackedTriangle}
 use Rattle.quadtree_cells.specs.Stack.{Rows, Ready}
 
 -- ---- coordinates
@@ -20,7 +20,7 @@ coordinates-length [] = refl
 coordinates-length (p ∷ ps) = ap (λ n. suc (suc n)) (coordinates-length ps) ∙ omega arith
 
 -- the corners of the candidates are there
-pub ready-rows : {n f t : ℕ} {shape offsets l : List ℕ} (cs : List ℕ) → Ready n f t (coordinates cs) shape offsets l → Rows 3 f t cs l
+pub ready-rows : {n f t : ℕ} {shape offsets l : List ℕ} (cs : List ℕ) → Ready n f t (coordinates cs) shape offsets l → Rows triangleCorners f t cs l
 ready-rows cs r = λ k a b. let h = r .held k a b in omega (arith, r .tables, coordinates-length cs)
 
 -- x of point j
@@ -42,13 +42,23 @@ y-at (p ∷ ps) (suc j) =
     ap (λ k. getD (p % 65536 ∷ p / 65536 ∷ coordinates ps) k 0) e ∙ y-at ps j
 
 -- point j
-pub point-kept : (ps : List ℕ) (j k : ℕ) → k ≡ 2 * j → unpacked (getD ps j 0) ≡ pointAt (coordinates ps) k
+point-kept : (ps : List ℕ) (j k : ℕ) → k ≡ 2 * j → unpacked (getD ps j 0) ≡ pointAt (coordinates ps) k
 unfolding unpacked pointAt
 point-kept ps j k e =
     let p : _≡_ {A = Point} (record { x = getD ps j 0 % 65536; y = getD ps j 0 / 65536 }) (record { x = getD (coordinates ps) (2 * j) 0; y = getD (coordinates ps) (2 * j + 1) 0 }) =
     λ i. record { x = sym (x-at ps j) i; y = sym (y-at ps j) i }
     in
     p ∙ ap (λ m. pointAt (coordinates ps) m) (sym e)
+
+-- triangle i
+pub triangle-kept : (ps : List ℕ) (i : ℕ)
+    → unpackedTriangle (getD ps (triangleCorners * i) 0) (getD ps (triangleCorners * i + 1) 0) (getD ps (triangleCorners * i + 2) 0) ≡ triangleAt (coordinates ps) i
+unfolding unpackedTriangle triangleAt
+triangle-kept ps i =
+    let a = point-kept ps (triangleCorners * i) (numbersPerTriangle * i) (omega arith) in
+    let b = point-kept ps (triangleCorners * i + 1) (numbersPerTriangle * i + 2) (omega arith) in
+    let c = point-kept ps (triangleCorners * i + 2) (numbersPerTriangle * i + 4) (omega arith) in
+    λ j. record { a = a j; b = b j; c = c j }
 
 -- they are numbers of 16 bits
 pub coordinates-small : (ps : List ℕ) → ((k : ℕ) → getD ps k 0 < 4294967296) → (k : ℕ) → getD (coordinates ps) k 0 < 65536

@@ -12,23 +12,23 @@ use borrow.Author.Tests.{ne-eqb}
 use lib.Bits.{bitOr}
 use lib.Dec.{T, eqb}
 use lib.ListN.{length, getD}
-use Rattle.theory_lists.specs.Lists.{all, countFrom, upTo}
+use Rattle.theory_lists.specs.Lists.{all, countFrom, upTo, part}
+use Rattle.theory_lists.specs.Masks.{maskOf, masked}
 use Rattle.theory_lists.proofs.Reflects.{test-true}
 use Rattle.theory_lists.proofs.IndexLaws.{all-cons, all-append, all-below-at}
 use Rattle.theory_lists.proofs.FlatMapLaws.{flatMap-append}
+use Rattle.theory_lists.proofs.PartLaws.{part-snoc, part-none, part-split}
+use Rattle.theory_lists.proofs.MaskLaws.{masked-zero}
 use Rattle.base_geometry.proofs.BitLaws.{or-zero}
 use Rattle.spec_plane.specs.declared.Point.{Point}
 use Rattle.spec_plane.specs.Point.{samePoint}
 use Rattle.spec_plane.specs.Triangle.{Side, sides}
 use Rattle.spec_plane.specs.Box.{Box}
 use Rattle.spec_plane.proofs.PointLaws.{samePoint-reflects}
-use Rattle.spec_charts.specs.Table.{pointAt, triangleAt, numbersPerTriangle}
+use Rattle.spec_charts.specs.Table.{triangleAt}
 use Rattle.spec_charts.specs.Cells.{isEnd, commonEnd}
-use Rattle.quadtree_shapes.specs.Masks.{maskOf, masked, unpacked, unpackedTriangle, startOf, sidesMet}
+use Rattle.quadtree_shapes.specs.Masks.{sideMasks, unpacked, unpackedTriangle, startOf, sidesMet}
 use Rattle.quadtree_stopping.specs.Stopping.{sidesAt, eitherEnd, Skipped, Tested}
-use Rattle.quadtree_cells.specs.Stack.{part}
-use Rattle.quadtree_shapes.proofs.MaskLaws.{masked-zero}
-use Rattle.quadtree_cells.proofs.StackLaws.{part-snoc, part-none, part-split}
 
 -- ---- the ends of the first side
 
@@ -59,12 +59,12 @@ first-too d ds =
     (all-cons (λ e. isEnd (d .end) e) d ds ∙ ap (λ b. b && all (λ e. isEnd (d .end) e) ds) (end-own d)))
 
 -- a mask that is not 0 has a bit
-some-cases : all (λ m. eqb m 0 || (eqb (m % 2) 1 || (eqb (m / 2 % 2) 1 || eqb (m / 2 / 2 % 2) 1))) (upTo 8) ≡ true
+some-cases : all (λ m. eqb m 0 || (eqb (m % 2) 1 || (eqb (m / 2 % 2) 1 || eqb (m / 2 / 2 % 2) 1))) (upTo sideMasks) ≡ true
 unfolding all upTo countFrom
 some-cases = refl
 
 -- the ends of the first side that a mask has
-first-ends : (m a b c : ℕ) → 0 < m → m < 8 → (ds : List Side)
+first-ends : (m a b c : ℕ) → 0 < m → m < sideMasks → (ds : List Side)
     → commonEnd (masked m (sides (unpackedTriangle a b c)) ++ ds)
     ≡ eitherEnd (unpacked (startOf m a b c)) (unpacked (startOf m b c a)) (masked m (sides (unpackedTriangle a b c)) ++ ds)
 unfolding masked unpackedTriangle
@@ -200,50 +200,46 @@ module _ (S : ℕ → List Side) (l : List ℕ) where
 pub record Read (table s o : List ℕ) (box : Box) (j i m a b c : ℕ) : Type 0 where
   pub number : i ≡ j
   pub mask : m ≡ maskOf (sidesMet s o box i)
-  pub first : unpacked a ≡ pointAt table (numbersPerTriangle * i)
-  pub second : unpacked b ≡ pointAt table (numbersPerTriangle * i + 2)
-  pub third : unpacked c ≡ pointAt table (numbersPerTriangle * i + 4)
+  pub triangle : unpackedTriangle a b c ≡ triangleAt table i
 
-module _ (table s o : List ℕ) (box : Box) where
-  -- a mask of 0: no side meets the box
-  pub sides-absent : (m i : ℕ) → m ≡ maskOf (sidesMet s o box i) → m ≡ 0 → sidesAt table s o box i ≡ []
-  unfolding sidesAt
-  sides-absent m i e z = ap (λ x. masked x (sides (triangleAt table i))) (sym e ∙ z) ∙ masked-zero (sides (triangleAt table i))
+-- a mask of 0: no side meets the box
+pub sides-absent : (table s o : List ℕ) (box : Box) (i : ℕ) {m : ℕ} → m ≡ maskOf (sidesMet s o box i) → m ≡ 0 → sidesAt table s o box i ≡ []
+unfolding sidesAt
+sides-absent table s o box i e z = ap (λ x. masked x (sides (triangleAt table i))) (sym e ∙ z) ∙ masked-zero (sides (triangleAt table i))
 
+module _ {table s o : List ℕ} {box : Box} where
   -- the sides by the mask and the packed corners
-  sides-read : (j i m a b c : ℕ) → Read table s o box j i m a b c → masked m (sides (unpackedTriangle a b c)) ≡ sidesAt table s o box j
-  unfolding sidesAt triangleAt unpackedTriangle
-  sides-read j i m a b c r = rw (← r .number, r .mask, r .first, r .second, r .third) refl
+  sides-read : {j i m a b c : ℕ} → Read table s o box j i m a b c → masked m (sides (unpackedTriangle a b c)) ≡ sidesAt table s o box j
+  unfolding sidesAt
+  sides-read r = rw (← r .number, r .mask, r .triangle) refl
 
-  -- one candidate more, as code tests it
-  pub tested-more : (l : List ℕ) (p q f t k x y i m a b c x′ y′ : ℕ) → t ≤ length l
-      → Tested (sidesAt table s o box) l (unpacked p) (unpacked q) f t k x y → k < t
-      → Read table s o box (getD l k 0) i m a b c
-      → eqb x′ 0 ≡ all (isEnd (unpacked p)) (masked m (sides (unpackedTriangle a b c)))
-      → eqb y′ 0 ≡ all (isEnd (unpacked q)) (masked m (sides (unpackedTriangle a b c)))
-      → Tested (sidesAt table s o box) l (unpacked p) (unpacked q) f t (k + 1) (bitOr x x′) (bitOr y y′)
-  tested-more l p q f t k x y i m a b c x′ y′ w v h r ex ey =
-      let e = sides-read (getD l k 0) i m a b c r in
-      tested-next (sidesAt table s o box) l (unpacked p) (unpacked q) f t k x y x′ y′ w v h
-      (ex ∙ ap (all (isEnd (unpacked p))) e) (ey ∙ ap (all (isEnd (unpacked q))) e)
+  module _ {l : List ℕ} {t : ℕ} (w : t ≤ length l) where
+    -- one candidate more, as code tests it
+    pub tested-more : (p q x′ y′ : ℕ) {f k x y i m a b c : ℕ} → Tested (sidesAt table s o box) l (unpacked p) (unpacked q) f t k x y → k < t
+        → Read table s o box (getD l k 0) i m a b c
+        → eqb x′ 0 ≡ all (isEnd (unpacked p)) (masked m (sides (unpackedTriangle a b c)))
+        → eqb y′ 0 ≡ all (isEnd (unpacked q)) (masked m (sides (unpackedTriangle a b c)))
+        → Tested (sidesAt table s o box) l (unpacked p) (unpacked q) f t (k + 1) (bitOr x x′) (bitOr y y′)
+    tested-more p q x′ y′ {f} {k} {x} {y} v h r ex ey =
+        let e = sides-read r in
+        tested-next (sidesAt table s o box) l (unpacked p) (unpacked q) f t k x y x′ y′ w v h
+        (ex ∙ ap (all (isEnd (unpacked p))) e) (ey ∙ ap (all (isEnd (unpacked q))) e)
 
-  -- the first candidate, as code tests it
-  pub tested-read : (l : List ℕ) (p q f t i m a b c x y : ℕ) → f < t → t ≤ length l
-      → Read table s o box (getD l f 0) i m a b c
-      → eqb x 0 ≡ all (isEnd (unpacked p)) (masked m (sides (unpackedTriangle a b c)))
-      → eqb y 0 ≡ all (isEnd (unpacked q)) (masked m (sides (unpackedTriangle a b c)))
-      → Tested (sidesAt table s o box) l (unpacked p) (unpacked q) f t (f + 1) x y
-  tested-read l p q f t i m a b c x y h w r ex ey =
-      let e = sides-read (getD l f 0) i m a b c r in
-      tested-first (sidesAt table s o box) l (unpacked p) (unpacked q) f t x y h w
-      (ex ∙ ap (all (isEnd (unpacked p))) e) (ey ∙ ap (all (isEnd (unpacked q))) e)
+    -- the first candidate, as code tests it
+    pub tested-read : (p q : ℕ) {f i m a b c x y : ℕ} → f < t → Read table s o box (getD l f 0) i m a b c
+        → eqb x 0 ≡ all (isEnd (unpacked p)) (masked m (sides (unpackedTriangle a b c)))
+        → eqb y 0 ≡ all (isEnd (unpacked q)) (masked m (sides (unpackedTriangle a b c)))
+        → Tested (sidesAt table s o box) l (unpacked p) (unpacked q) f t (f + 1) x y
+    tested-read p q {f} {x = x} {y = y} h r ex ey =
+        let e = sides-read r in
+        tested-first (sidesAt table s o box) l (unpacked p) (unpacked q) f t x y h w
+        (ex ∙ ap (all (isEnd (unpacked p))) e) (ey ∙ ap (all (isEnd (unpacked q))) e)
 
-  -- the test from the first candidate with a side on, as code makes it
-  pub common-read : (l : List ℕ) (f k t i m a b c p q : ℕ) → Skipped (sidesAt table s o box) l f t k → k < t → t ≤ length l
-      → Read table s o box (getD l k 0) i m a b c → 0 < m → m < 8
-      → p ≡ startOf m a b c → q ≡ startOf m b c a
-      → eitherEnd (unpacked p) (unpacked q) (flatMap (sidesAt table s o box) (part k t l)) ≡ commonEnd (flatMap (sidesAt table s o box) (part f t l))
-  common-read l f k t i m a b c p q v h w r lo hi ep eq =
-      ap₂ (λ x y. eitherEnd (unpacked x) (unpacked y) (flatMap (sidesAt table s o box) (part k t l))) ep eq
-      ∙ common-from (sidesAt table s o box) l f k t (unpacked (startOf m a b c)) (unpacked (startOf m b c a)) v h w
-      (λ ds. rw (sides-read (getD l k 0) i m a b c r) at (first-ends m a b c lo hi ds))
+    -- the test from the first candidate with a side on, as code makes it
+    pub common-read : {f k i m a b c p q : ℕ} → Skipped (sidesAt table s o box) l f t k → k < t
+        → Read table s o box (getD l k 0) i m a b c → 0 < m → m < sideMasks → p ≡ startOf m a b c → q ≡ startOf m b c a
+        → eitherEnd (unpacked p) (unpacked q) (flatMap (sidesAt table s o box) (part k t l)) ≡ commonEnd (flatMap (sidesAt table s o box) (part f t l))
+    common-read {f} {k} {m = m} {a = a} {b = b} {c = c} v h r lo hi ep eq =
+        ap₂ (λ x y. eitherEnd (unpacked x) (unpacked y) (flatMap (sidesAt table s o box) (part k t l))) ep eq
+        ∙ common-from (sidesAt table s o box) l f k t (unpacked (startOf m a b c)) (unpacked (startOf m b c a)) v h w
+        (λ ds. rw (sides-read r) at (first-ends m a b c lo hi ds))

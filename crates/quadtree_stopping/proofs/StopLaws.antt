@@ -12,26 +12,27 @@ use borrow.Author.Tests.{eq-eqb, ne-eqb}
 use lib.Dec.{T}
 use lib.ListN.{length, getD}
 use Rattle.theory_lists.specs.Lists.{filter, upTo}
+use Rattle.theory_lists.specs.Masks.{maskOf, masked}
 use Rattle.theory_lists.proofs.Reflects.{reflects-test}
 use Rattle.theory_lists.proofs.ListsLaws.{Every, all-reflects}
 use Rattle.theory_lists.proofs.Order.{rising-members}
 use Rattle.theory_lists.proofs.EditedLists.{places-pass}
 use Rattle.theory_lists.proofs.EveryLaws.{every-map, flatMap-agree}
+use Rattle.theory_lists.proofs.MaskLaws.{masked-filter}
 use Rattle.spec_plane.specs.Triangle.{Triangle, Side, sides, proper}
 use Rattle.spec_plane.specs.Box.{Box, Framed, sideMeets, triangleMeets}
 use Rattle.spec_plane.proofs.ExtremeLaws.{OnGrid, CornersOnGrid}
 use Rattle.spec_charts.specs.Table.{Table, pointAt, triangleAt, tableOf, numbered, noTriangle, numbersPerTriangle}
 use Rattle.spec_squares.specs.declared.Square.{Square}
-use Rattle.spec_squares.specs.Square.{squareBox, Aligned}
+use Rattle.spec_squares.specs.Square.{depth, squareBox, Aligned}
+use Rattle.spec_squares.proofs.SquareLaws.{squareBox-framed}
 use Rattle.spec_charts.specs.Cells.{sidesMeeting, commonEnd, stopped, trianglesMeeting}
 use Rattle.laws_charts.proofs.EntriesOfTable.{sides-narrow}
 use Rattle.laws_charts.proofs.ChainOfTable.{meeting-rising}
 use Rattle.laws_charts.proofs.TableLaws.{numbered-at, tableOf-length}
-use Rattle.quadtree_shapes.proofs.ShapeLaws.{first-meets, second-meets, third-meets}
-use Rattle.quadtree_shapes.specs.Masks.{maskOf, masked, sidesMet}
+use Rattle.quadtree_shapes.proofs.ShapeLaws.{sides-meet}
 use Rattle.quadtree_stopping.specs.Stopping.{sidesAt}
 use Rattle.quadtree_cells.specs.Stack.{Prepared}
-use Rattle.quadtree_shapes.proofs.MaskLaws.{masked-filter}
 
 -- ---- the triangles of a table
 
@@ -47,17 +48,14 @@ module _ (n : ℕ) (ns s o : List ℕ) (h : Prepared n ns s o) (b : Box) (f : Fr
   -- the sides of triangle i that meet the box, where the triangle does
   sides-at : (i : ℕ) → i < n → T (triangleMeets (numbered (tableOf ns n) i) b)
       → sidesAt ns s o b i ≡ filter (λ d. sideMeets d b) (sides (numbered (tableOf ns n) i))
-  unfolding sidesAt sidesMet triangleAt
+  unfolding sidesAt triangleAt
   sides-at i l t =
       let table = tableOf ns n in
       let k : i < length table = rw (tableOf-length ns n) l in
       let g = corners-small ns n (h .small) in
       let at = numbered-at ns n i l in
       let m : Side → Bool = λ d. sideMeets d b in
-      let x = rw at at (first-meets table s o (h .shaped) i k g b f t (getD o (3 * i) 0) refl) in
-      let y = rw at at (second-meets table s o (h .shaped) i k g b f t (getD o (3 * i + 1) 0) refl) in
-      let z = rw at at (third-meets table s o (h .shaped) i k g b f t (getD o (3 * i + 2) 0) refl) in
-      ap (λ bs. masked (maskOf bs) (sides (triangleAt ns i))) (ap₂ _∷_ x (ap₂ _∷_ y (ap (λ c. c ∷ []) z)))
+      ap (λ bs. masked (maskOf bs) (sides (triangleAt ns i))) (rw at at (sides-meet table s o (h .shaped) i k g b f t))
       ∙ masked-filter m (sides (triangleAt ns i))
       ∙ ap (λ t. filter m (sides t)) (sym at)
 
@@ -68,10 +66,7 @@ module _ (n : ℕ) (ns s o : List ℕ) (h : Prepared n ns s o) (b : Box) (f : Fr
 
 -- ---- squares
 
-pub framed : (s : Square) → Aligned s → Framed (squareBox s)
-unfolding squareBox
-framed s p = record { wide = omega arith; tall = omega arith; right = p .right; bottom = p .bottom }
-
+-- the triangles that meet a square are of the table
 pub meeting-below : (table : Table) (s : Square) → Every (λ i. i < length table) (trianglesMeeting table s)
 meeting-below table s i m = rising-members (meeting-rising table s) i m .1
 
@@ -96,7 +91,7 @@ module _ (n : ℕ) (ns sh o : List ℕ) (h : Prepared n ns sh o) (s : Square) wh
       let table = tableOf ns n in
       let below : Every (λ i. i < n) is = λ i m. rw (tableOf-length ns n) at (meeting-below table s i (rw e at m)) in
       let met : Every (λ i. T (triangleMeets (numbered table i) (squareBox s))) is = λ i m. meeting-meets table s i (rw e at m) in
-      ap commonEnd (sides-all n ns sh o h (squareBox s) (framed s p) is below met)
+      ap commonEnd (sides-all n ns sh o h (squareBox s) (squareBox-framed s p) is below met)
       ∙ ap (λ x. commonEnd (flatMap (λ i. filter (λ d. sideMeets d (squareBox s)) (sides (numbered table i))) x)) e
       ∙ ap commonEnd (sym (sides-narrow table good s))
       ∙ sym (ap (λ b. b || commonEnd (sidesMeeting table s)) (ne-eqb (s .level) 16 d))

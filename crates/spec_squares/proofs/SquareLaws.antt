@@ -16,8 +16,9 @@ use Rattle.theory_orthtree.specs.Entries.{span}
 use Rattle.theory_orthtree.proofs.MortonRangeLaws.{morton-aligned}
 use Rattle.theory_orthtree.proofs.LeavesLaws.{Tree}
 use Rattle.theory_orthtree.proofs.MortonChildLaws.{childCorner, child-key}
+use Rattle.spec_plane.specs.Box.{Framed}
 use Rattle.spec_squares.specs.declared.Square.{Square}
-use Rattle.spec_squares.specs.Square.{depth, arity, sideAt, wholeSquare, topLeft, topRight, bottomLeft, bottomRight, quarters, zOrder, squareKey, Aligned}
+use Rattle.spec_squares.specs.Square.{depth, arity, sideAt, wholeSquare, topLeft, topRight, bottomLeft, bottomRight, quarters, zOrder, squareKey, squareBox, Aligned}
 
 -- a side is twice that of a quarter
 pub side-half : (level : ℕ) → level < depth → sideAt level ≡ 2 * sideAt (suc level)
@@ -89,6 +90,11 @@ module _ (s : Square) (ok : Aligned s) (l : s .level < depth) where
   quarter-key (suc (suc zero)) h = simp (zero-mul, one-mul, add-zero) at (corner-key 2 h)
   quarter-key (suc (suc (suc zero))) h = simp one-mul at (corner-key 3 h)
   quarter-key (suc (suc (suc (suc k)))) h = absurd (omega arith)
+
+-- a square of the tree with its border is a box of the grid
+pub squareBox-framed : (s : Square) → Aligned s → Framed (squareBox s)
+unfolding squareBox
+squareBox-framed s p = record { wide = omega arith; tall = omega arith; right = p .right; bottom = p .bottom }
 
 -- the corner's coordinates are multiples of the side
 pub corner-multiples : (s : Square) → Aligned s → Every (λ c. c % 2 ^ (depth - s .level) ≡ 0) (s .x ∷ s .y ∷ [])

@@ -1,11 +1,15 @@
--- `filter` of joined lists, and of lists whose elements all pass or all fail; what the elements that pass have.
+-- `filter` of joined lists, and of lists whose elements all pass or all fail; how many pass, and what they have.
 -- Each law is an induction on the list.
 -- Assumes nothing.
 use mathlib.Core.Path.{_≡_, refl, sym, _∙_, ap, ap₂}
 use mathlib.Core.Bool.{Bool, true, false, _&&_}
 use mathlib.Core.List.{List, [], _∷_, _++_}
+use Prim.Native.Nat.{suc, _≤_}
+use native.Mathlib.Nat.{le-refl}
+use native.Mathlib.Omega.{arith}
 use lib.Dec.{T}
-use Rattle.theory_lists.specs.Lists.{filter}
+use lib.ListN.{length}
+use Rattle.theory_lists.specs.Lists.{filter, only}
 use Rattle.theory_lists.proofs.ListsLaws.{Every, every-cons, every-uncons}
 use Rattle.theory_lists.proofs.EveryLaws.{every-nil}
 
@@ -30,6 +34,25 @@ module _ {A : Type 0} (f : A → Bool) where
   unfolding filter
   filter-append [] ys = refl
   filter-append (x ∷ xs) ys = choice-append (f x) x (filter f xs) (filter f ys) (filter-append xs ys)
+
+  -- of one element more at the end
+  pub filter-snoc : (xs : List A) (x : A) → filter f (xs ++ (x ∷ [])) ≡ filter f xs ++ only (f x) x
+  unfolding filter
+  filter-snoc xs x = filter-append xs (x ∷ []) ∙ ap (λ r. filter f xs ++ r) (go (f x))
+    where
+      go : (b : Bool) → (elim b [ true ↦ x ∷ [] | false ↦ [] ]) ≡ only b x
+      go true = refl
+      go false = refl
+
+  -- no more than there are
+  pub filter-length : (l : List A) → length (filter f l) ≤ length l
+  unfolding filter
+  filter-length [] = le-refl 0
+  filter-length (x ∷ xs) = go (f x) (filter-length xs)
+    where
+      go : (b : Bool) → length (filter f xs) ≤ length xs → length {A = A} (elim b [ true ↦ x ∷ filter f xs | false ↦ filter f xs ]) ≤ suc (length xs)
+      go true h = omega arith
+      go false h = omega arith
 
   -- where all pass
   pub filter-all : (xs : List A) → Every (λ x. f x ≡ true) xs → filter f xs ≡ xs

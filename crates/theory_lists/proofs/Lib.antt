@@ -9,7 +9,7 @@ pub mod MemberLaws
 pub mod OrderLaws
 pub mod SumLaws
 pub mod LowestLaws
-pub mod Runs
+pub mod Prefixes
 pub mod IndexLaws
 pub mod Examples
 pub mod PartLaws
@@ -20,3 +20,4 @@ pub mod FoldLaws
 pub mod StoredLaws
 pub mod TestLaws
 pub mod CompactLaws
+pub mod MaskLaws

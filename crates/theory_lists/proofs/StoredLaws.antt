@@ -6,12 +6,19 @@ use Prim.Native.Nat.{ℕ, zero, suc, _+_, _-_, _≤_, _<_}
 use native.Mathlib.Nat.{zero-add, suc-add}
 use native.Mathlib.Omega.{arith}
 use lib.ListN.{length, getD, take, drop, set}
-use lib.Seq.{sets, sets-eq, drop-at, take-at, take-set-le, take-take, take-nil, getD-take, length-take-le}
+use lib.Seq.{sets, sets-eq, drop-at, take-at, take-set-le, take-take, take-nil, getD-take, getD-set-other, length-take-le}
+use Rattle.theory_lists.specs.Lists.{part}
 
 -- what stands before it is kept
 pub take-before : (l : List ℕ) (i : ℕ) (v : List ℕ) (k : ℕ) → k ≤ i → take k (sets l i v) ≡ take k l
 take-before l i [] k h = refl
 take-before l i (x ∷ v) k h = take-before (set l i x) (suc i) v k (omega arith) ∙ take-set-le k l i x h
+
+-- and so is each number before it
+pub getD-before : (l : List ℕ) (i : ℕ) (v : List ℕ) (k : ℕ) → k < i → getD (sets l i v) k 0 ≡ getD l k 0
+getD-before l i [] k h = refl
+getD-before l i (x ∷ v) k h =
+    getD-before (set l i x) (suc i) v k (omega arith) ∙ getD-set-other l i k x 0 (λ e. absurd (omega arith))
 
 -- what is kept up to t is kept up to any place before it
 pub take-less : (k t : ℕ) (l l′ : List ℕ) → k ≤ t → take t l′ ≡ take t l → take k l′ ≡ take k l
@@ -28,7 +35,7 @@ drop-take (suc f) m [] = rw (suc-add f m) (sym (take-nil m))
 drop-take (suc f) m (y ∷ ys) = rw (suc-add f m) (drop-take f m ys)
 
 -- what is stored from i on stands there
-pub part-stored : (l v : List ℕ) (i : ℕ) → i + length v ≤ length l → take (i + length v - i) (drop i (sets l i v)) ≡ v
+pub part-stored : (l v : List ℕ) (i : ℕ) → i + length v ≤ length l → part i (i + length v) (sets l i v) ≡ v
 part-stored l v i h =
     let e : i + length v - i ≡ length v = omega arith in
     let t : length (take i l) ≡ i = length-take-le i l (omega arith) in
@@ -39,10 +46,10 @@ part-stored l v i h =
     ∙ take-at v (drop (i + length v) l) (length v) refl
 
 -- and each part up to there
-pub part-kept : (f t : ℕ) (l l′ : List ℕ) → f ≤ t → take t l′ ≡ take t l → take (t - f) (drop f l′) ≡ take (t - f) (drop f l)
+pub part-kept : (f t : ℕ) (l l′ : List ℕ) → f ≤ t → take t l′ ≡ take t l → part f t l′ ≡ part f t l
 part-kept f t l l′ h e = part-take l′ ∙ ap (drop f) e ∙ sym (part-take l)
   where
-    part-take : (x : List ℕ) → take (t - f) (drop f x) ≡ drop f (take t x)
+    part-take : (x : List ℕ) → part f t x ≡ drop f (take t x)
     part-take x =
         let p : t ≡ f + (t - f) = omega arith in
         sym (ap (λ n. drop f (take n x)) p ∙ drop-take f (t - f) x)

@@ -1,3 +1,4 @@
+-- So far the sum is that of the triangles before i, each of them below 2^34, so it fits 64 bits.
 use mathlib.Core.Path.{_≡_, sym, _∙_, ap, ap₂}
 use Prim.Native.Nat.{_+_, _*_, _≤_, _-_}
 use native.Mathlib.Omega.{arith}

@@ -1,3 +1,4 @@
+-- No listed triangle before place k holds the point, so the first of the rest is the first of all.
 use mathlib.Core.Path.{_≡_, refl, sym, _∙_, ap}
 use Prim.Native.Nat.{_-_, _≤_}
 use native.Mathlib.Omega.{arith}

@@ -1,3 +1,4 @@
+-- So far every triangle before i has D > 0, or the answer is no.
 use mathlib.Core.Path.{_≡_, sym, _∙_, ap}
 use Prim.Native.Nat.{_≤_, _-_}
 use native.Mathlib.Omega.{arith}

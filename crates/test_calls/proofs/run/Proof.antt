@@ -1,3 +1,4 @@
+-- Buffers and the step read keep their lengths from one step to the next.
 use lib.ListN.{length}
 use mathlib.Core.Path.{_≡_}
 use native.Mathlib.Omega.{arith}

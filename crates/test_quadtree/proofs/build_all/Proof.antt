@@ -1,3 +1,4 @@
+-- The lists keep their lengths from table to table.
 use mathlib.Core.Path.{_≡_}
 use native.Mathlib.Omega.{arith}
 use lib.ListN.{length}

@@ -1,3 +1,4 @@
+-- The place stays within the entries.
 use Prim.Native.Nat.{_≤_, _-_}
 use native.Mathlib.Omega.{arith}
 use Rattle.test_quadtree.proofs.print_entries.Statement.{statement}

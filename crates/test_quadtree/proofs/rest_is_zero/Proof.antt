@@ -1,3 +1,4 @@
+-- Each place is looked at once; nothing has to be remembered of those before it.
 use Prim.Native.Nat.{_-_}
 use native.Mathlib.Omega.{arith}
 use Rattle.test_quadtree.proofs.rest_is_zero.Statement.{statement}

@@ -1,3 +1,4 @@
+-- Turn after turn, a number that falls: nothing else is kept from one to the next.
 use native.Mathlib.Omega.{arith}
 use Rattle.test_replay.proofs.main.Statement.{statement}
 use Rattle.test_replay.proofs.main.Tie as tie

@@ -1,3 +1,4 @@
+-- Two bytes for each number before k, and the list keeps its length.
 use Prim.Native.Nat.{_≤_, _-_}
 use borrow.Author.Needs.{needs}
 use lib.ListN.{length}

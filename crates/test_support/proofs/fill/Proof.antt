@@ -1,3 +1,4 @@
+-- The buffers keep their lengths.
 use Prim.Native.Nat.{_-_}
 use lib.ListN.{length}
 use mathlib.Core.Path.{_≡_}

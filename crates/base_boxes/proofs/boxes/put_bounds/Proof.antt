@@ -8,13 +8,13 @@ returns : tie.Need-returns
 returns c =
     let top : tie.Start = search needs in
     let a = top .args in
-    let e = c .triangle-box .ensures in (
-      ap (λ b. set (a .lefts .now) (a .i) (b .left)) e,
-      (
-        ap (λ b. set (a .tops .now) (a .i) (b .top)) e,
-        (ap (λ b. set (a .rights .now) (a .i) (b .right)) e, ap (λ b. set (a .bottoms .now) (a .i) (b .bottom)) e),
-      ),
-    )
+    let e = c .triangle-box .ensures in
+    record {
+      left = ap (λ b. set (a .lefts .now) (a .i) (b .left)) e;
+      top = ap (λ b. set (a .tops .now) (a .i) (b .top)) e;
+      right = ap (λ b. set (a .rights .now) (a .i) (b .right)) e;
+      bottom = ap (λ b. set (a .bottoms .now) (a .i) (b .bottom)) e;
+    }
 
 pub put-bounds-spec : {M : Type 1} → statement M
 put-bounds-spec =

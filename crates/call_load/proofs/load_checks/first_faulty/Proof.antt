@@ -1,3 +1,4 @@
+-- Every triangle before i has D > 0, so the first that has not is the lowest.
 use mathlib.Core.Path.{_≡_, sym, _∙_, ap}
 use mathlib.Core.Bool.{true}
 use Prim.Native.Nat.{ℕ, _≤_, _<_, _-_}

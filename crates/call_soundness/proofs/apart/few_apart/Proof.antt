@@ -1,3 +1,4 @@
+-- No two triangles before i have a common interior point.
 use mathlib.Core.Path.{_≡_, sym, _∙_, ap}
 use mathlib.Core.Bool.{true}
 use Prim.Native.Nat.{_≤_, _-_}

@@ -1,3 +1,4 @@
+-- No triangle before place k of the list has a common interior point with triangle i.
 use mathlib.Core.Path.{_≡_, sym, _∙_, ap, ap₂}
 use mathlib.Core.Bool.{true, not}
 use Prim.Native.Nat.{_≤_, _-_}

@@ -1,3 +1,4 @@
+-- The count found is the lowest for which every item before i fits.
 use mathlib.Core.Path.{_≡_, sym, _∙_, ap}
 use Prim.Native.Nat.{ℕ, _≤_, _-_}
 use native.Mathlib.Omega.{arith}

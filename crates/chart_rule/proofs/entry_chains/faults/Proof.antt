@@ -1,3 +1,4 @@
+-- The faults found are 0 exactly when every entry before i is linked to the one beside it.
 use mathlib.Core.Path.{_≡_, sym, _∙_, ap}
 use Prim.Native.Nat.{_≤_, _-_}
 use native.Mathlib.Omega.{arith}
@@ -30,8 +31,8 @@ loop-holds c =
 abbrev loop-to-top : tie.At-loop Inv-loop μ-loop → tie.Start Inv-loop μ-loop
 loop-to-top c = search needs
 
-fault-requires : tie.Need-fault-requires Inv-loop μ-loop
-fault-requires c κs =
+link-fault-requires : tie.Need-link-fault-requires Inv-loop μ-loop
+link-fault-requires c κs =
     let in-loop : tie.In-loop Inv-loop μ-loop = search needs in
     let loop : tie.At-loop Inv-loop μ-loop = search needs in
     let top = loop-to-top loop in
@@ -47,10 +48,10 @@ loop-again c =
     let a = top .args in
     let l = loop .loop in (
       omega arith,
-      or-zero (l .found) (c .fault .result)
+      or-zero (l .found) (c .link-fault .result)
           ∙ all-below-step
           (λ k. linkedAt (a .keys .now) (a .levels .now) (a .items .now) (a .next-keys .now) (a .next-levels .now) (a .next-items .now) k)
-          (l .i) (l .inv .1) (c .fault .ensures),
+          (l .i) (l .inv .1) (c .link-fault .ensures),
     )
 
 returns : tie.Need-returns Inv-loop μ-loop
@@ -79,7 +80,7 @@ faults-spec =
     (λ c. search needs)
     (λ c. search needs)
     (λ c. search needs)
-    fault-requires
+    link-fault-requires
     (λ c. search needs)
     (λ c. search needs)
     loop-again

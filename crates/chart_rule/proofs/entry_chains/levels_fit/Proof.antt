@@ -1,3 +1,4 @@
+-- So far every level before i is at most 16, or the answer is no.
 use mathlib.Core.Path.{_≡_, refl, sym, _∙_, ap}
 use Prim.Native.Nat.{_≤_, _-_}
 use native.Mathlib.Omega.{arith}

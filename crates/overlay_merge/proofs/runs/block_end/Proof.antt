@@ -1,3 +1,4 @@
+-- Both cells are passed, and each ends at the next key or where the tree does.
 use mathlib.Core.Path.{_∙_, ap₂}
 use Prim.Native.Nat.{max}
 use borrow.Author.Needs.{needs}
@@ -15,7 +16,7 @@ returns c =
       q = cell-end2 .cell-end2 .result;
       first = cell-end .cell-end .ensures;
       second = cell-end2 .cell-end2 .ensures;
-      end = c .later .ensures ∙ ap₂ max (key-from .key-from .ensures) (key-from2 .key-from2 .ensures);
+      end = c .larger-end .ensures ∙ ap₂ max (key-from .key-from .ensures) (key-from2 .key-from2 .ensures);
     }
 
 pub block-end-spec : {M : Type 1} → statement M

@@ -9,13 +9,14 @@ returns : tie.Need-returns
 unfolding squareBox
 returns c =
     let side : tie.After-side = search needs in
-    let top-2 : tie.Start = search needs in
-    let s = top-2 .args .s in
-    let p = top-2 .pre in
-    let e = side .side .ensures .0 in (
-      λ i. record { left = s .x; top = s .y; right = s .x + e i; bottom = s .y + e i },
-      record { wide = omega arith; tall = omega arith; right = omega (arith, p .right); bottom = omega (arith, p .bottom) },
-    )
+    let start : tie.Start = search needs in
+    let s = start .args .s in
+    let p = start .pre in
+    let e = side .side .ensures .0 in
+    record {
+      box = λ i. record { left = s .x; top = s .y; right = s .x + e i; bottom = s .y + e i };
+      framed = record { wide = omega arith; tall = omega arith; right = omega (arith, p .right); bottom = omega (arith, p .bottom) };
+    }
 
 pub frame-of-spec : {M : Type 1} → statement M
 frame-of-spec =

@@ -1,10 +1,10 @@
 -- The key of quarter k is k steps on from the square's.
 use mathlib.Core.Path.{sym, _∙_, ap, ap₂}
-use Prim.Native.Nat.{_+_, _*_, _≤_}
+use Prim.Native.Nat.{_+_, _*_, _-_, _^_, _≤_}
 use native.Mathlib.Nat.{mul-le-mul}
 use native.Mathlib.Omega.{arith}
 use borrow.Author.Needs.{needs}
-use Rattle.spec_squares.specs.Square.{squareKey}
+use Rattle.spec_squares.specs.Square.{arity, depth, squareKey}
 use Rattle.spec_squares.proofs.SquareLaws.{quarter-key}
 use Rattle.quadtree_cells.proofs.StepLaws.{key-small}
 use Rattle.quadtree_cells.proofs.quarters.keyed_quarter.Statement.{statement}
@@ -14,20 +14,17 @@ key-step-requires : tie.Need-key-step-requires
 key-step-requires c κs = search needs
 
 quarter-requires : tie.Need-quarter-requires
-quarter-requires c κs =
-    let top : tie.Start = search needs in
-    let s = top .pre .0 .0 in
-    (top .pre .1 .1, (top .pre .1 .0, (omega (arith, s .right), omega (arith, s .bottom))))
+quarter-requires c κs = search needs
 
 -- the steps up to the quarter
 steps-small : (c : tie.After-quarter) →
     let key-step : tie.After-key-step = search needs in
     let top : tie.Start = search needs in
-    top .args .k * key-step .key-step .result ≤ 4 * 1073741824
+    top .args .k * key-step .key-step .result ≤ arity * arity ^ (depth - 1)
 steps-small c =
     let key-step : tie.After-key-step = search needs in
     let top : tie.Start = search needs in
-    mul-le-mul {n₂ = 4} {m₂ = 1073741824} (omega (arith, top .pre .1 .1)) (key-step .key-step .ensures .1)
+    mul-le-mul {n₂ = arity} {m₂ = arity ^ (depth - 1)} (omega (arith, top .pre .1 .number)) (key-step .key-step .ensures .1)
 
 mul-t7 : tie.Need-mul-t7
 mul-t7 c = omega (arith, steps-small c)
@@ -36,7 +33,7 @@ add-t8 : tie.Need-add-t8
 add-t8 c =
     let quarter : tie.After-quarter = search needs in
     let top : tie.Start = search needs in
-    omega (arith, steps-small quarter, top .pre .0 .1, key-small (top .args .s .square))
+    omega (arith, steps-small quarter, top .pre .0 .key, key-small (top .args .s .square))
 
 returns : tie.Need-returns
 returns c =
@@ -46,8 +43,8 @@ returns c =
     let a = top .args in
     let q = quarter .quarter .ensures in (
       q,
-      ap₂ _+_ (top .pre .0 .1) (ap (λ d. a .k * d) (key-step .key-step .ensures .0))
-          ∙ sym (ap squareKey q ∙ quarter-key (a .s .square) (top .pre .0 .0) (top .pre .1 .0) (a .k) (top .pre .1 .1)),
+      ap₂ _+_ (top .pre .0 .key) (ap (λ d. a .k * d) (key-step .key-step .ensures .0))
+          ∙ sym (ap squareKey q ∙ quarter-key (a .s .square) (top .pre .0 .aligned) (top .pre .1 .level) (a .k) (top .pre .1 .number)),
     )
 
 pub keyed-quarter-spec : {M : Type 1} → statement M

@@ -11,7 +11,7 @@ unfolding sideMeetsAt
 returns c =
     let touches : tie.After-touches = search needs in
     let top : tie.Start = search needs in
-    ap₂ _&&_ (touches .touches .ensures) (ap (λ x. leb x (top .args .v)) (c .base .ensures))
+    ap₂ _&&_ (touches .touches .ensures) (ap (λ x. leb x (top .args .v)) (c .smallest-value .ensures))
 
 pub side-meets-spec : {M : Type 1} → statement M
 side-meets-spec =

@@ -1,6 +1,7 @@
 use native.Mathlib.Omega.{arith}
 use lib.Dec.{eqb}
-use Rattle.quadtree_shapes.proofs.MaskLaws.{bit-most, missed-none}
+use Rattle.theory_lists.proofs.MaskLaws.{bit-most}
+use Rattle.quadtree_shapes.proofs.MaskLaws.{missed-none}
 use borrow.Author.Needs.{needs}
 use Rattle.quadtree_shapes.proofs.side_masks.missed.Statement.{statement}
 use Rattle.quadtree_shapes.proofs.side_masks.missed.Tie as tie

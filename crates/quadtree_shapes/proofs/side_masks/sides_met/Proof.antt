@@ -1,9 +1,9 @@
 use mathlib.Core.Path.{sym, ap, ap₂}
 use mathlib.Core.List.{[], _∷_}
 use native.Mathlib.Omega.{arith}
-use Rattle.quadtree_shapes.specs.Shape.{boxOf}
+use Rattle.quadtree_shapes.specs.Shape.{frameBox}
 use Rattle.quadtree_shapes.specs.Masks.{sidesMet}
-use Rattle.quadtree_shapes.proofs.MaskLaws.{bit-most, mask-three}
+use Rattle.theory_lists.proofs.MaskLaws.{bit-most, mask-three}
 use borrow.Author.Needs.{needs}
 use Rattle.quadtree_shapes.proofs.side_masks.sides_met.Statement.{statement}
 use Rattle.quadtree_shapes.proofs.side_masks.sides_met.Tie as tie
@@ -35,7 +35,7 @@ returns c =
     let side-meets : tie.After-side-meets = search needs in
     let top : tie.Start = search needs in
     let a = top .args in
-    mask-three (side-meets .side-meets .result) (side-meets2 .side-meets2 .result) (c .side-meets3 .result) (sidesMet (a .shape .now) (a .offsets .now) (boxOf (a .f)) (a .i))
+    mask-three (side-meets .side-meets .result) (side-meets2 .side-meets2 .result) (c .side-meets3 .result) (sidesMet (a .shape .now) (a .offsets .now) (frameBox (a .f)) (a .i))
     (sym (ap₂ _∷_ (side-meets .side-meets .ensures) (ap₂ _∷_ (side-meets2 .side-meets2 .ensures) (ap (λ b. b ∷ []) (c .side-meets3 .ensures)))))
 
 pub sides-met-spec : {M : Type 1} → statement M
@@ -51,11 +51,7 @@ sides-met-spec =
     (λ c. search needs)
     (λ c. search needs)
     (λ c. search needs)
-    (λ c. search needs)
-    (λ c. search needs)
     (λ c κs. search needs)
-    (λ c. search needs)
-    (λ c. search needs)
     (λ c. search needs)
     (λ c. search needs)
     (λ c. search needs)

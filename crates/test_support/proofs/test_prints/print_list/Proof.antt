@@ -1,3 +1,4 @@
+-- The place stays within the list.
 use native.Mathlib.Omega.{arith}
 use Prim.Native.Nat.{_≤_, _-_}
 use lib.ListN.{length}
