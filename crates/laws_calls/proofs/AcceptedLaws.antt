@@ -29,9 +29,10 @@ use Rattle.laws_calls.proofs.BufferLaws.{ruled}
 use Rattle.laws_calls.proofs.IndexedLaws.{Editable, indexed-editable}
 use Rattle.laws_calls.proofs.OverwriteLaws.{Indexable, changed-number}
 
--- the chart c has come to hold a table, with its entries, in buffers that are long enough
-pub record Accepted (c d : Chart) : Type 0 where
+-- the chart c has come to hold the table that the event makes of its own, with its entries, in buffers that are long enough
+pub record Accepted (e : Event) (c d : Chart) : Type 0 where
   pub table : Table
+  pub made : eventOn e (chartTable c) ≡ done table
   pub is : d ≡ indexedChart c table
   pub long : tooShort c ≡ false
   pub fits : Indexable table
@@ -81,35 +82,36 @@ module _ (c : Chart) where
       (t .0, (t .1, ap (λ o. changedBy c o .chart) (t .1)))
 
   load-accepted : (e : Event) (t : Table) → ((table next : Table) → proposed e table ≡ done next → Drawable next)
-      → ifLong c (eventOn e (chartTable c)) ≡ done t → (tooShort c ≡ false) × Indexable t
+      → ifLong c (eventOn e (chartTable c)) ≡ done t → (tooShort c ≡ false) × (Indexable t × (eventOn e (chartTable c) ≡ done t))
   unfolding ifLong
   load-accepted e t draws d =
       let f = refuseIf-done (tooShort c) ShortBuffer d in
-      (false-of (tooShort c) (f .0), event-fits e (chartTable c) t (draws (chartTable c) t) (f .1))
+      (false-of (tooShort c) (f .0), (event-fits e (chartTable c) t (draws (chartTable c) t) (f .1), f .1))
 
-  edit-accepted : (e : Event) (t : Table) → ifIndexed c (eventOn e (chartTable c)) ≡ done t → (tooShort c ≡ false) × Indexable t
+  edit-accepted : (e : Event) (t : Table) → ifIndexed c (eventOn e (chartTable c)) ≡ done t
+      → (tooShort c ≡ false) × (Indexable t × (eventOn e (chartTable c) ≡ done t))
   unfolding ifIndexed ifChained ifLong
   edit-accepted e t d =
       let f = refuseIf-done (tooShort c) ShortBuffer d in
       let g = refuseIf-done (not (chainRule c)) BrokenChain (f .1) in
       let h = refuseIf-done (not (indexed c)) StaleEntries (g .1) in
       let drawable = rule-drawable (test-true (passed (chainRule c) (g .0))) in
-      (false-of (tooShort c) (f .0), event-fits e (chartTable c) t (proposed-drawable e (chartTable c) t drawable) (h .1))
+      (false-of (tooShort c) (f .0), (event-fits e (chartTable c) t (proposed-drawable e (chartTable c) t drawable) (h .1), h .1))
 
-  edit-leaves : (e : Event) → editCall e c .number ≡ 0 → Accepted c (editCall e c .chart)
+  edit-leaves : (e : Event) → editCall e c .number ≡ 0 → Accepted e c (editCall e c .chart)
   unfolding editCall
   edit-leaves e z =
       let t = changed-done (ifIndexed c (eventOn e (chartTable c))) z in
       let a = edit-accepted e (t .0) (t .1 .0) in
-      record { table = t .0; is = t .1 .1; long = a .0; fits = a .1 }
+      record { table = t .0; made = a .1 .1; is = t .1 .1; long = a .0; fits = a .1 .0 }
 
 -- an accepted load or edit of any chart leaves the chart of one table, with its entries
-pub event-accepted : (e : Event) (c : Chart) → eventCall e c .number ≡ 0 → Accepted c (eventCall e c .chart)
+pub event-accepted : (e : Event) (c : Chart) → eventCall e c .number ≡ 0 → Accepted e c (eventCall e c .chart)
 unfolding eventCall loadCall proposed
 event-accepted (load ns) c z =
     let t = changed-done c (ifLong c (eventOn (load ns) (chartTable c))) z in
     let a = load-accepted c (load ns) (t .0) (λ table next d. let l = load-done ns next d in record { few = l .few; oriented = l .oriented }) (t .1 .0) in
-    record { table = t .0; is = t .1 .1; long = a .0; fits = a .1 }
+    record { table = t .0; made = a .1 .1; is = t .1 .1; long = a .0; fits = a .1 .0 }
 event-accepted (split i p) c z = edit-leaves c (split i p) z
 event-accepted (takeOut p) c z = edit-leaves c (takeOut p) z
 event-accepted (flip i j) c z = edit-leaves c (flip i j) z

@@ -3,6 +3,7 @@ pub mod BufferLaws
 pub mod IndexedLaws
 pub mod JudgeLaws
 pub mod ReaderLaws
+pub mod LocateLaws
 pub mod OverwriteLaws
 pub mod EditCalls
 pub mod AcceptedLaws

@@ -13,6 +13,7 @@ pub mod LoadTable
 pub mod MergeLaws
 pub mod ProposedLaws
 pub mod EventTable
+pub mod EventPoint
 pub mod EventArea
 pub mod FlipUnique
 pub mod TakeOutUnique

@@ -11,11 +11,11 @@ use Rattle.spec_calls.proofs.Evaluate.{evaluate}
 use Rattle.laws_histories.specs.Histories.{overlayAnswer}
 
 -- a triangle whose cells are four of level 2, then three of level 1
-abbrev corner : Table
+abbrev pub corner : Table
 corner = record { a = at 0 0; b = at 65535 0; c = at 0 65535 } ∷ []
 
 -- two triangles whose cells are one of level 1, thirteen in the top right, one of level 1, four of level 2
-abbrev two : Table
+abbrev pub two : Table
 two =
     record { a = at 40000 5000; b = at 45000 5000; c = at 60000 45000 }
     ∷ record { a = at 65535 65535; b = at 0 40000; c = at 60000 45000 }

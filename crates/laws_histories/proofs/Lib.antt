@@ -1,4 +1,10 @@
 pub mod ChartHistory
 pub mod IndexedOverlay
+pub mod LeafCellsLaws
+pub mod Demand2
+pub mod OneChart
 pub mod Demand3
+pub mod OneAnswer
 pub mod Examples
+pub mod LeafCellsExamples
+pub mod OverlaidExamples

@@ -1,14 +1,20 @@
--- Every list of events is written as numbers: these stand for the same events.
+-- What is written for a list of events stands for the same events. The numbers are 16-bit where the events are expressible; of the others
+-- ClippedLaws.antt says what is written in their place.
 -- Assumes nothing.
 use mathlib.Core.Path.{_≡_, refl, sym, _∙_, ap}
 use mathlib.Core.List.{List, [], _∷_, _++_, flatMap}
 use Prim.Native.Nat.{ℕ, _+_}
 use native.Mathlib.Omega.{arith}
+use lib.Dec.{T}
 use lib.ListN.{length, getD, length-append, List·getD-append}
 use lib.Seq.{take-append-seam, drop-append-seam}
-use Rattle.spec_charts.specs.Table.{pointAt}
+use Rattle.theory_lists.specs.Lists.{all}
+use Rattle.theory_lists.proofs.ListsLaws.{all-reflects}
+use Rattle.theory_lists.proofs.EveryLaws.{every-flatMap}
+use Rattle.spec_charts.specs.Table.{pointAt, sixteenBit}
 use Rattle.spec_charts.specs.Edits.{Event, load, split, takeOut, flip}
-use Rattle.replay_calls.specs.Encoding.{callLength, wholeCall, IsCall, callEvent, decode, callNumbers, encode}
+use Rattle.laws_charts.proofs.GridLaws.{sixteenBit-reflects}
+use Rattle.replay_calls.specs.Encoding.{callLength, wholeCall, IsCall, callEvent, decode, callNumbers, encode, expressible}
 use Rattle.replay_calls.proofs.EncodingLaws.{length-two, whole-fits, decode-none, decode-more}
 
 module _ (call ns : List ℕ) (h : IsCall call) where
@@ -53,3 +59,10 @@ decode-encode [] = decode-none [] refl
 decode-encode (e ∷ es) =
     first-decoded (callNumbers e) (encode es) (event-call e) ∙ ap (λ f. f ∷ decode (encode es)) (event-same e)
     ∙ ap (λ fs. e ∷ fs) (decode-encode es)
+
+-- the numbers of expressible events are 16-bit
+pub encode-words : (es : List Event) → T (all (λ e. expressible e) es) → T (sixteenBit (encode es))
+unfolding encode expressible
+encode-words es h =
+    let each = all-reflects (λ e. sixteenBit (callNumbers e)) (λ e. sixteenBit-reflects (callNumbers e)) es .to h in
+    sixteenBit-reflects (encode es) .from (every-flatMap (λ e. callNumbers e) es each)

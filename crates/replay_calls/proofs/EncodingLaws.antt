@@ -8,15 +8,16 @@ use native.Mathlib.Nat.{add-zero}
 use native.Mathlib.Omega.{arith}
 use native.Mathlib.Decide.{decLe}
 use borrow.Author.Tests.{eq-eqb, ne-eqb, le-leb, lt-leb, eqb-true, eqb-false}
-use lib.Dec.{T, ltb, eqb}
+use lib.Dec.{T, eqb}
 use lib.ListN.{length, getD, take, drop, length-drop, take-append-drop}
 use lib.Seq.{length-take-le, getD-take, getD-drop}
 use Rattle.theory_lists.specs.Lists.{all}
-use Rattle.theory_lists.proofs.Reflects.{reflects-ltb, reflects-test}
-use Rattle.theory_lists.proofs.ListsLaws.{Every, every-cons, all-reflects}
+use Rattle.theory_lists.proofs.Reflects.{reflects-test}
+use Rattle.theory_lists.proofs.ListsLaws.{Every, every-cons, all-reflects, every-places}
 use Rattle.theory_lists.proofs.EveryLaws.{every-nil}
-use Rattle.spec_charts.specs.Table.{pointAt, sixteenBit}
+use Rattle.spec_charts.specs.Table.{pointAt}
 use Rattle.spec_charts.specs.Edits.{load, split, takeOut, flip, sixteenBitEvent}
+use Rattle.laws_charts.proofs.GridLaws.{sixteenBit-reflects}
 use Rattle.replay_calls.specs.Encoding.{callLength, wholeCall, IsCall, callEvent, decodeUpTo, decode}
 
 -- ---- how long a call is
@@ -178,18 +179,13 @@ module _ {P : ℕ → Type 0} (n : ℕ) (ns : List ℕ) (w : Every P ns) where
   every-drop : Every P (drop n ns)
   every-drop x m = w x (subst (List·Memᴰ x) (take-append-drop n ns) (Memᴰ·append-right (take n ns) m))
 
--- by places
-every-at : (ns : List ℕ) → ((i : ℕ) → getD ns i 0 < 65536) → Every (λ n. n < 65536) ns
-every-at [] w = every-nil (λ n. n < 65536)
-every-at (n ∷ ns) w = every-cons (w 0, every-at ns (λ i. w (suc i)))
-
 -- the event of 16-bit numbers has 16-bit numbers
 event-words : (ns : List ℕ) → Every (λ n. n < 65536) ns → T (sixteenBitEvent (callEvent ns))
-unfolding callEvent sixteenBitEvent sixteenBit
+unfolding callEvent sixteenBitEvent
 event-words ns w = go (eqb (getD ns 0 0) 2) (eqb (getD ns 0 0) 3) (eqb (getD ns 0 0) 4)
   where
     go : (a b c : Bool) → T (sixteenBitEvent (cond a (load (drop 2 ns)) (cond b (split (getD ns 1 0) (pointAt ns 2)) (cond c (takeOut (pointAt ns 1)) (flip (getD ns 1 0) (getD ns 2 0))))))
-    go true b c = all-reflects (λ n. ltb n 65536) (λ n. reflects-ltb n 65536) (drop 2 ns) .from (every-drop 2 ns w)
+    go true b c = sixteenBit-reflects (drop 2 ns) .from (every-drop 2 ns w)
     go false true c = tt
     go false false true = tt
     go false false false = tt
@@ -208,4 +204,4 @@ upTo-words (suc m) ns w = go (eqb (wholeCall ns) 0) (upTo-words m (drop (wholeCa
 pub decode-words : (ns : List ℕ) → ((i : ℕ) → getD ns i 0 < 65536) → T (all (λ e. sixteenBitEvent e) (decode ns))
 unfolding decode
 decode-words ns w =
-    all-reflects (λ e. sixteenBitEvent e) (λ e. reflects-test (sixteenBitEvent e)) (decode ns) .from (upTo-words (length ns) ns (every-at ns w))
+    all-reflects (λ e. sixteenBitEvent e) (λ e. reflects-test (sixteenBitEvent e)) (decode ns) .from (upTo-words (length ns) ns (every-places (λ n. n < 65536) ns 0 (λ i l. w i)))

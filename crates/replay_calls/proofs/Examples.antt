@@ -1,11 +1,14 @@
 -- Examples of Encoding.antt.
 -- Assumes nothing.
 use mathlib.Core.Path.{_≡_, refl}
+use mathlib.Core.Bool.{true, false}
 use mathlib.Core.List.{[], _∷_, map, flatMap}
-use Rattle.spec_charts.specs.Table.{pointAt}
+use lib.ListN.{replicate}
+use Rattle.theory_lists.specs.Lists.{all}
+use Rattle.spec_charts.specs.Table.{pointAt, sixteenBit}
 use Rattle.spec_charts.specs.Edits.{load, split, takeOut, flip}
 use Rattle.spec_charts.proofs.Written.{at}
-use Rattle.replay_calls.specs.Encoding.{callLength, wholeCall, callEvent, decodeUpTo, decode, callNumbers, encode}
+use Rattle.replay_calls.specs.Encoding.{callLength, wholeCall, callEvent, decodeUpTo, decode, callNumbers, encode, expressible, shortened, pointFits, clipped}
 
 -- for the commands 0 to 7, where 9 comes next
 callLength-example : map (λ k. callLength k 9) (0 ∷ 1 ∷ 2 ∷ 3 ∷ 4 ∷ 5 ∷ 6 ∷ 7 ∷ []) ≡ 0 ∷ 0 ∷ 11 ∷ 4 ∷ 3 ∷ 3 ∷ 0 ∷ 0 ∷ []
@@ -53,3 +56,39 @@ callNumbers-example = refl
 encode-example : encode (flip 3 4 ∷ load [] ∷ split 5 (at 6 7) ∷ []) ≡ 5 ∷ 3 ∷ 4 ∷ 2 ∷ 0 ∷ 3 ∷ 5 ∷ 6 ∷ 7 ∷ []
 unfolding encode callNumbers flatMap
 encode-example = refl
+
+-- the largest numbers that 16 bits hold, and one more; 65,535 numbers of a load, and one more
+expressible-example :
+    map (λ e. expressible e)
+    (split 65535 (at 65535 65535) ∷ split 65536 (at 0 0) ∷ split 0 (at 65536 0) ∷ takeOut (at 65535 65535) ∷ takeOut (at 0 65536)
+    ∷ flip 65535 65535 ∷ flip 65536 0 ∷ flip 0 65536 ∷ load (65535 ∷ []) ∷ load (65536 ∷ []) ∷ load (replicate 65535 0) ∷ load (replicate 65536 0)
+    ∷ [])
+    ≡ true ∷ false ∷ false ∷ true ∷ false ∷ true ∷ false ∷ false ∷ true ∷ false ∷ true ∷ false ∷ []
+unfolding expressible callNumbers sixteenBit all
+expressible-example = refl
+
+shortened-example :
+    map (λ e. shortened e)
+    (load (replicate 65535 0) ∷ load (replicate 65536 0) ∷ split 65535 (at 7 70000) ∷ split 65536 (at 7 8) ∷ takeOut (at 70000 7)
+    ∷ flip 65536 65534 ∷ flip 65535 70000
+    ∷ [])
+    ≡ load (replicate 65535 0) ∷ load (replicate 7 0) ∷ split 65535 (at 7 70000) ∷ split 65535 (at 7 8) ∷ takeOut (at 70000 7)
+    ∷ flip 65535 65534 ∷ flip 65535 65535
+    ∷ []
+unfolding shortened
+shortened-example = refl
+
+pointFits-example :
+    map (λ e. pointFits e)
+    (load (70000 ∷ []) ∷ flip 70000 70000 ∷ split 70000 (at 65535 65535) ∷ split 0 (at 65536 0) ∷ split 0 (at 0 65536)
+    ∷ takeOut (at 65535 65535) ∷ takeOut (at 65536 0) ∷ takeOut (at 0 65536)
+    ∷ [])
+    ≡ true ∷ true ∷ true ∷ false ∷ false ∷ true ∷ false ∷ false ∷ []
+unfolding pointFits sixteenBit all
+pointFits-example = refl
+
+clipped-example :
+    map (λ e. clipped e) (split 70000 (at 65535 6) ∷ split 3 (at 65536 6) ∷ takeOut (at 6 65536) ∷ takeOut (at 6 7) ∷ flip 70000 3 ∷ [])
+    ≡ split 65535 (at 65535 6) ∷ load (replicate 7 0) ∷ load (replicate 7 0) ∷ takeOut (at 6 7) ∷ flip 65535 3 ∷ []
+unfolding clipped shortened pointFits sixteenBit all
+clipped-example = refl

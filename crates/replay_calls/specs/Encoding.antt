@@ -3,12 +3,12 @@
 -- where the numbers end, or where no whole call stands.
 -- Assumes nothing.
 use mathlib.Core.Path.{_≡_}
-use mathlib.Core.Bool.{true, false, cond, _||_}
+use mathlib.Core.Bool.{Bool, true, false, cond, _||_}
 use mathlib.Core.List.{List, [], _∷_, flatMap}
-use Prim.Native.Nat.{ℕ, zero, suc, _+_, _<_}
-use lib.Dec.{leb, eqb}
-use lib.ListN.{length, getD, take, drop}
-use Rattle.spec_charts.specs.Table.{pointAt}
+use Prim.Native.Nat.{ℕ, zero, suc, _+_, _<_, min}
+use lib.Dec.{leb, ltb, eqb}
+use lib.ListN.{length, getD, take, drop, replicate}
+use Rattle.spec_charts.specs.Table.{pointAt, sixteenBit}
 use Rattle.spec_charts.specs.Edits.{Event, load, split, takeOut, flip}
 
 -- how many numbers a call takes with its command, by the command and the number after it; 0 where the command is another
@@ -55,3 +55,31 @@ callNumbers (flip i j) = 5 ∷ i ∷ j ∷ []
 -- the numbers of a list of calls
 unfoldable pub encode : List Event → List ℕ
 encode es = flatMap (λ e. callNumbers e) es
+
+-- Which events 16-bit numbers write, and what is written in place of the others
+
+-- each number of the event's call is 16-bit: t, x, y, i, j, and of a load its numbers and how many they are
+unfoldable pub expressible : Event → Bool
+expressible e = sixteenBit (callNumbers e)
+
+-- a load that is refused for its length
+abbrev pub refusedLoad : Event
+refusedLoad = load (replicate 7 0)
+
+-- a load of more than 65,535 numbers becomes that one; t, i and j from 65,536 on become 65,535, which no table has either
+unfoldable pub shortened : Event → Event
+shortened (load ns) = cond (ltb (length ns) 65536) (load ns) refusedLoad
+shortened (split t p) = split (min t 65535) p
+shortened (takeOut p) = takeOut p
+shortened (flip i j) = flip (min i 65535) (min j 65535)
+
+-- the point of a split or take-out is one of the grid, as every point is that code can hold
+unfoldable pub pointFits : Event → Bool
+pointFits (load ns) = true
+pointFits (split t p) = sixteenBit (p .x ∷ p .y ∷ [])
+pointFits (takeOut p) = sixteenBit (p .x ∷ p .y ∷ [])
+pointFits (flip i j) = true
+
+-- the event that is written in place of any event
+unfoldable pub clipped : Event → Event
+clipped e = cond (pointFits e) (shortened e) refusedLoad

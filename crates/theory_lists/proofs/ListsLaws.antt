@@ -87,6 +87,11 @@ getD-member [] i d h = absurd (omega arith)
 getD-member (x ∷ xs) zero d h = List·Memᴰ·head refl
 getD-member (x ∷ xs) (suc i) d h = List·Memᴰ·tail (getD-member xs i d (omega arith))
 
+-- what holds at each place of a list holds of every element
+pub every-places : {A : Type 0} (P : A → Type 0) (l : List A) (d : A) → ((i : ℕ) → i < length l → P (getD l i d)) → Every P l
+every-places P [] d h = λ x m. absurd (List·Memᴰ·not-nil m)
+every-places P (y ∷ ys) d h = every-cons (h 0 (omega arith), every-places P ys d (λ i l. h (suc i) (omega arith)))
+
 -- lists of one length each, one after another: what stands at place m of the i-th
 pub getD-stride : {A : Type 0} (f : A → List ℕ) (c : ℕ) → ((x : A) → length (f x) ≡ c)
     → (l : List A) (i m : ℕ) (d : A) → i < length l → m < c → getD (flatMap f l) (c * i + m) 0 ≡ getD (f (getD l i d)) m 0

@@ -1,6 +1,6 @@
 -- In a list of numbers in which each is below every later one, the first that passes a test is the lowest that passes it.
 -- Assumes nothing.
-use mathlib.Core.Path.{_≡_, refl, sym, _∙_}
+use mathlib.Core.Path.{_≡_, refl, sym, _∙_, ap}
 use mathlib.Core.Bool.{Bool, true, false, true≢false}
 use mathlib.Core.List.{List, _∷_, List·Memᴰ, List·Memᴰ·head, List·Memᴰ·tail}
 use mathlib.Core.Option.{Option, none, some}
@@ -23,6 +23,28 @@ module _ (f : ℕ → Bool) where
   pub data Lowest (l : List ℕ) : Option ℕ → Type 0 where
     found : {i : ℕ} → LowestAt l i → Lowest l (some i)
     nowhere : ((j : ℕ) → List·Memᴰ j l → f j ≡ false) → Lowest l none
+
+  -- so a number found is the lowest
+  pub lowest-found : {l : List ℕ} {i : ℕ} → Lowest l (some i) → LowestAt l i
+  lowest-found (found a) = a
+
+  -- and where nothing is found, none passes the test
+  pub lowest-nowhere : {l : List ℕ} → Lowest l none → (j : ℕ) → List·Memᴰ j l → f j ≡ false
+  lowest-nowhere (nowhere n) = n
+
+  -- the lowest that passes is what is found
+  pub lowest-is : {l : List ℕ} {o : Option ℕ} {i : ℕ} → Lowest l o → LowestAt l i → o ≡ some i
+  lowest-is {i = i} (found {i = j} a) b =
+      let l = a .lowest i (b .member) (b .passes) in
+      let g = b .lowest j (a .member) (a .passes) in
+      let e : j ≡ i = omega arith in
+      ap some e
+  lowest-is {i = i} (nowhere n) b = absurd (true≢false (sym (b .passes) ∙ n i (b .member)))
+
+  -- and nothing is found where none passes
+  pub lowest-none : {l : List ℕ} {o : Option ℕ} → Lowest l o → ((j : ℕ) → List·Memᴰ j l → f j ≡ false) → o ≡ none
+  lowest-none (found {i = j} a) n = absurd (true≢false (sym (a .passes) ∙ n j (a .member)))
+  lowest-none (nowhere h) n = refl
 
   -- a number in front that passes is the lowest
   lowest-pass : {x : ℕ} {xs : List ℕ} → Every (λ y. x < y) xs → f x ≡ true → Lowest (x ∷ xs) (some x)

@@ -10,7 +10,7 @@ use native.Mathlib.Omega.{arith}
 use lib.Dec.{T}
 use lib.ListN.{length, getD}
 use Rattle.theory_lists.specs.Lists.{filter, placesFrom}
-use Rattle.theory_lists.proofs.ListsLaws.{Every, every-cons, every-uncons, getD-member}
+use Rattle.theory_lists.proofs.ListsLaws.{Every, every-cons, every-uncons, getD-member, every-places}
 use Rattle.theory_lists.proofs.EveryLaws.{every-nil, every-imp, every-map}
 use Rattle.theory_lists.proofs.FilterLaws.{every-filter}
 
@@ -31,6 +31,14 @@ ordered-at i j d ordered-none h l = absurd (omega arith)
 ordered-at i zero d (ordered-more r o) h l = absurd (omega arith)
 ordered-at zero (suc j) d (ordered-more {xs = xs} r o) h l = r (getD xs j d) (getD-member xs j d (omega arith))
 ordered-at (suc i) (suc j) d (ordered-more r o) h l = ordered-at i j d o (omega arith) (omega arith)
+
+-- and back
+pub ordered-places : {A : Type 0} {R : A → A → Type 0} (l : List A) (d : A)
+    → ((i j : ℕ) → i < j → j < length l → R (getD l i d) (getD l j d)) → Ordered R l
+ordered-places [] d h = ordered-none
+ordered-places {R = R} (x ∷ xs) d h =
+    ordered-more (every-places (λ y. R x y) xs d (λ j l. h 0 (suc j) (omega arith) (omega arith)))
+    (ordered-places xs d (λ i j b l. h (suc i) (suc j) (omega arith) (omega arith)))
 
 -- of two elements either they are the same, or one stands before the other
 pub ordered-pair : {A : Type 0} {R : A → A → Type 0} {l : List A} {x y : A} → Ordered R l → List·Memᴰ x l → List·Memᴰ y l

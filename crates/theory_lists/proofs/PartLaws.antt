@@ -10,14 +10,8 @@ use lib.ListN.{length, getD, take, drop, length-take, length-drop, length-map, L
 use lib.Seq.{getD-take, getD-drop, ext-getD, take-suc, take-add, drop-drop}
 use Rattle.theory_lists.specs.Lists.{placesFrom, countFrom, part}
 use Rattle.theory_lists.proofs.Reflects.{Reflects, reflects-iff, test-true, test-false}
-use Rattle.theory_lists.proofs.ListsLaws.{Every, every-cons}
-use Rattle.theory_lists.proofs.EveryLaws.{every-nil}
+use Rattle.theory_lists.proofs.ListsLaws.{Every, every-places}
 use Rattle.theory_lists.proofs.EditedLists.{placesFrom-pass, placesFrom-fail}
-
--- what holds at each place of a list holds of every element
-every-places : {A : Type 0} (P : A → Type 0) (l : List A) (d : A) → ((i : ℕ) → i < length l → P (getD l i d)) → Every P l
-every-places P [] d h = every-nil P
-every-places P (x ∷ xs) d h = every-cons (h 0 (omega arith), every-places P xs d (λ i l. h (suc i) (omega arith)))
 
 -- a part up to a place within the list has as many elements as places
 pub part-length : {A : Type 0} (f t : ℕ) (l : List A) → t ≤ length l → length (part f t l) ≡ t - f

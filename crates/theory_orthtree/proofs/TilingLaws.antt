@@ -5,7 +5,7 @@
 use mathlib.Core.Path.{_≡_, refl, sym, _∙_, ap, ap₂, subst}
 use mathlib.Core.List.{List, [], _∷_, _++_, flatMap, List·Memᴰ, List·Memᴰ·head, List·Memᴰ·tail, List·Memᴰ·not-nil, List·Memᴰ·cases-cons}
 use mathlib.Core.Logic.{_⊎_, inl, inr}
-use Prim.Native.Nat.{ℕ, suc, _+_, _*_, _≤_, _<_}
+use Prim.Native.Nat.{ℕ, zero, suc, _+_, _*_, _≤_, _<_}
 use native.Mathlib.Decide.{decLe}
 use native.Mathlib.Omega.{arith}
 use lib.ListN.{length, getD}
@@ -47,6 +47,26 @@ module _ {Node : Type 0} (key size : Node → ℕ) where
   pub tiles-inside : {a b : ℕ} {ns : List Node} → Tiles key size a ns b → Every (λ n. (a ≤ key n) × (key n + size n ≤ b)) ns
   tiles-inside {a} {b} (done e) = every-nil (λ n. (a ≤ key n) × (key n + size n ≤ b))
   tiles-inside {a} {b} (next e t) = let h = tiles-le t in every-cons (omega arith, λ n m. let g = tiles-inside t n m in omega arith)
+
+  -- by places: the first node starts where the range does
+  pub tiles-first : {a b : ℕ} {ns : List Node} (d : Node) → Tiles key size a ns b → 0 < length ns → key (getD ns 0 d) ≡ a
+  tiles-first d (done e) l = absurd (omega arith)
+  tiles-first d (next e t) l = e
+
+  -- each next one where the one before it ends
+  pub tiles-next : {a b : ℕ} {ns : List Node} (d : Node) (i : ℕ) → Tiles key size a ns b → suc i < length ns
+      → key (getD ns (suc i) d) ≡ key (getD ns i d) + size (getD ns i d)
+  tiles-next d i (done e) l = absurd (omega arith)
+  tiles-next d zero (next e t) l = let f = tiles-first d t (omega arith) in omega arith
+  tiles-next d (suc i) (next e t) l = tiles-next d i t (omega arith)
+
+  -- and the last ends where the range does
+  pub tiles-last : {a b : ℕ} {ns : List Node} (d : Node) (i : ℕ) → Tiles key size a ns b → suc i ≡ length ns
+      → key (getD ns i d) + size (getD ns i d) ≡ b
+  tiles-last d i (done e) l = absurd (omega arith)
+  tiles-last d zero (next e (done f)) l = omega arith
+  tiles-last d zero (next e (next f t)) l = absurd (omega arith)
+  tiles-last d (suc i) (next e t) l = tiles-last d i t (omega arith)
 
   -- some node has the key
   pub tiles-cover : {a b : ℕ} {ns : List Node} (k : ℕ) → Tiles key size a ns b → a ≤ k → k < b → Some (λ n. Within (key n) (size n) k) ns

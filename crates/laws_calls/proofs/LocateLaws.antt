@@ -20,17 +20,17 @@ use Rattle.laws_charts.proofs.LocateOfTable.{first-of-table}
 use Rattle.laws_charts.proofs.TableLaws.{tableOf-length}
 use Rattle.spec_calls.specs.Buffers.{Chart, tooShort, chainRule, indexed, chartTable, chartEntries}
 use Rattle.spec_calls.specs.Calls.{locateCall}
 use Rattle.laws_calls.proofs.EntriesLaws.{sameEntries-reflects}
 use Rattle.laws_calls.proofs.BufferLaws.{ruled}
 use Rattle.laws_calls.proofs.ReaderLaws.{located-done}
 
 -- a table has as many triangles as its count says
-table-length : (c : Chart) → length (chartTable c) ≡ c .triangleCount
+chart-table-length : (c : Chart) → length (chartTable c) ≡ c .triangleCount
 unfolding chartTable
-table-length c = tableOf-length (c .table) (c .triangleCount)
+chart-table-length c = tableOf-length (c .table) (c .triangleCount)
 
 -- a chart whose entries are those of its table
-entries-indexed : (c : Chart) → indexed c ≡ true → chartEntries c ≡ entriesOf (chartTable c)
+pub entries-indexed : (c : Chart) → indexed c ≡ true → chartEntries c ≡ entriesOf (chartTable c)
 unfolding indexed
 entries-indexed c f = sameEntries-reflects (chartEntries c) (entriesOf (chartTable c)) .to (rw f tt)
 
@@ -45,7 +45,7 @@ module _ (c : Chart) (p : Point) (r : chainRule c ≡ true) where
   first-indexed g e f only =
       let rule = ruled c r in
       ap (λ es. first f (listing es p)) (entries-indexed c e)
-      ∙ first-of-table (chartTable c) (rw table-length (rule .triangles)) p g (rule .good) f only
+      ∙ first-of-table (chartTable c) (rw chart-table-length (rule .triangles)) p g (rule .good) f only
 
   module _ (s : tooShort c ≡ false) where
     found-first : locateCall c p .found ≡ first (λ i. holds (numbered (chartTable c) i) p) (listing (chartEntries c) p)

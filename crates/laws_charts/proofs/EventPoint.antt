@@ -1,0 +1,60 @@
+-- A split or take-out that is accepted has its point on the grid: one at another point changes nothing.
+-- The idea: a point at which a triangle is split lies inside it, and one that is taken out is a corner.
+-- Assumes nothing.
+use mathlib.Core.Path.{_≡_, refl, subst}
+use Prim.Native.Nat.{ℕ, _<_}
+use lib.Dec.{T}
+use lib.ListN.{length}
+use Rattle.theory_lists.proofs.ListsLaws.{getD-member}
+use Rattle.spec_plane.specs.declared.Point.{Point}
+use Rattle.spec_plane.specs.Triangle.{Triangle}
+use Rattle.spec_plane.proofs.ExtremeLaws.{OnGrid, CornersOnGrid}
+use Rattle.spec_charts.specs.Table.{Table, IsTable, numbered, noTriangle}
+use Rattle.spec_charts.specs.Refusals.{Outcome, refused, done, doneOr}
+use Rattle.spec_charts.specs.Edits.{Event, load, split, takeOut, flip, triangle, hasCorner, endingIn, proposed, eventOn, afterEvent}
+use Rattle.laws_charts.proofs.RotationLaws.{rotations-every, endingIn-rotation}
+use Rattle.laws_charts.proofs.GridLaws.{IsTriangle, table-triangles, inside-grid}
+use Rattle.laws_charts.proofs.EditLaws.{split-done, takeOut-done}
+use Rattle.laws_charts.proofs.EventTable.{event-proposed}
+
+-- the point of a split or take-out is on the grid
+abbrev pub PointOnGrid : Event → Type 0
+PointOnGrid (load ns) = Unit {0}
+PointOnGrid (split t p) = OnGrid p
+PointOnGrid (takeOut p) = OnGrid p
+PointOnGrid (flip i j) = Unit {0}
+
+-- a corner of a triangle on the grid is on the grid
+corner-grid : (p : Point) (t : Triangle) → IsTriangle t → T (hasCorner p t) → OnGrid p
+unfolding triangle
+corner-grid p t h c =
+    let e = endingIn-rotation p t c in
+    let turned = rotations-every CornersOnGrid (λ p q r g. record { a = g .b; b = g .c; c = g .a }) t (record { a = h .a; b = h .b; c = h .c }) in
+    subst OnGrid (e .1) (turned (endingIn p t) (e .0) .c)
+
+module _ {table : Table} (h : IsTable table) where
+  at : (i : ℕ) → i < length table → IsTriangle (numbered table i)
+  unfolding numbered
+  at i l = table-triangles h _ (getD-member table i noTriangle l)
+
+  proposed-point : (e : Event) (next : Table) → proposed e table ≡ done next → PointOnGrid e
+  unfolding proposed
+  proposed-point (load ns) next d = tt
+  proposed-point (split t p) next d =
+      let s = split-done t p table next d in inside-grid (numbered table t) p (at t (s .below)) (s .inside)
+  proposed-point (takeOut p) next d =
+      let s = takeOut-done p table next d in corner-grid p (numbered table (s .k)) (at (s .k) (s .below)) (s .cornerK)
+  proposed-point (flip i j) next d = tt
+
+  -- an accepted event has its point on the grid
+  pub event-point : (e : Event) (next : Table) → eventOn e table ≡ done next → PointOnGrid e
+  event-point e next d = proposed-point e next (event-proposed e table next d)
+
+  -- so an event whose point is not changes nothing
+  pub off-grid-stays : (e : Event) → (PointOnGrid e → ⊥) → afterEvent e table ≡ table
+  unfolding afterEvent
+  off-grid-stays e n = go (eventOn e table) (λ next d. n (event-point e next d))
+    where
+      go : (o : Outcome Table) → ((next : Table) → o ≡ done next → ⊥) → doneOr table o ≡ table
+      go (refused r) f = refl
+      go (done next) f = absurd (f next refl)

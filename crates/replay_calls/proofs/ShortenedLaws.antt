@@ -1,0 +1,65 @@
+-- A load of more than 65,535 numbers comes to what one of 7 numbers comes to, refusal 4, and an edit of triangle t, i or j from 65,536
+-- on to what one of 65,535 comes to, refusal 6.
+-- Assumes nothing.
+use mathlib.Core.Path.{_≡_, refl, sym, _∙_, ap}
+use mathlib.Core.Bool.{Bool, true, false, cond, or-true}
+use mathlib.Core.List.{List}
+use Prim.Native.Nat.{ℕ, _≤_, _<_, min}
+use native.Mathlib.Omega.{arith}
+use native.Mathlib.Decide.{decLe}
+use borrow.Author.Tests.{lt-ltb, le-leb, ltb-false}
+use lib.Dec.{ltb}
+use lib.ListN.{length}
+use Rattle.spec_plane.specs.declared.Point.{Point}
+use Rattle.spec_charts.specs.Table.{Table, maxTriangles, tableLength}
+use Rattle.spec_charts.specs.declared.Refusal.the-variants.{BadLength, NoSuchTriangle}
+use Rattle.spec_charts.specs.Refusals.{refused, refuseIf, andThen}
+use Rattle.spec_charts.specs.Edits.{Event, load, split, takeOut, flip, loadTable, splitTable, flipTable, proposed, withinLimit, eventOn}
+use Rattle.laws_charts.proofs.CountedLaws.{event-limited}
+use Rattle.replay_calls.specs.Encoding.{refusedLoad, shortened}
+
+-- a load that is too long
+load-long : (ns : List ℕ) → tableLength < length ns → loadTable ns ≡ refused BadLength
+unfolding loadTable refuseIf
+load-long ns h = rw (lt-ltb tableLength (length ns) h, or-true)
+
+-- a triangle that the table does not have
+split-none : (t : ℕ) (p : Point) (table : Table) → length table ≤ t → splitTable t p table ≡ refused NoSuchTriangle
+unfolding splitTable refuseIf
+split-none t p table h = rw (le-leb (length table) t h)
+
+flip-none-first : (i j : ℕ) (table : Table) → length table ≤ i → flipTable i j table ≡ refused NoSuchTriangle
+unfolding flipTable refuseIf
+flip-none-first i j table h = rw (le-leb (length table) i h)
+
+flip-none-second : (i j : ℕ) (table : Table) → length table ≤ j → flipTable i j table ≡ refused NoSuchTriangle
+unfolding flipTable refuseIf
+flip-none-second i j table h = rw (le-leb (length table) j h, or-true)
+
+module _ (table : Table) (few : length table ≤ maxTriangles) where
+  shortened-proposed : (e : Event) → proposed (shortened e) table ≡ proposed e table
+  unfolding shortened proposed loadTable refuseIf
+  shortened-proposed (load ns) = go (ltb (length ns) 65536) refl
+    where
+      go : (b : Bool) → ltb (length ns) 65536 ≡ b → proposed (cond b (load ns) refusedLoad) table ≡ loadTable ns
+      go true e = refl
+      go false e = let h = ltb-false (length ns) 65536 e in sym (load-long ns (omega arith))
+  shortened-proposed (split t p) = elim (decLe t 65535) [
+    | yes h ↦ let e : min t 65535 ≡ t = omega arith in rw e
+    | no h ↦ split-none (min t 65535) p table (omega arith) ∙ sym (split-none t p table (omega arith))
+  ]
+  shortened-proposed (takeOut p) = refl
+  shortened-proposed (flip i j) = elim (decLe i 65535) [
+    | yes h ↦ elim (decLe j 65535) [
+      | yes g ↦
+          let e : min i 65535 ≡ i = omega arith in
+          let f : min j 65535 ≡ j = omega arith in rw (e, f)
+      | no g ↦ flip-none-second (min i 65535) (min j 65535) table (omega arith) ∙ sym (flip-none-second i j table (omega arith))
+    ]
+    | no h ↦ flip-none-first (min i 65535) (min j 65535) table (omega arith) ∙ sym (flip-none-first i j table (omega arith))
+  ]
+
+  -- it comes to the same on every table, refusal 4 or 6 included
+  pub shortened-same : (e : Event) → eventOn (shortened e) table ≡ eventOn e table
+  shortened-same e =
+      event-limited (shortened e) table ∙ ap (λ o. andThen o (λ t. withinLimit t)) (shortened-proposed e) ∙ sym (event-limited e table)
