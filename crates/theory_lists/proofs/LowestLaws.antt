@@ -24,6 +24,14 @@ module _ (f : ℕ → Bool) where
     found : {i : ℕ} → LowestAt l i → Lowest l (some i)
     nowhere : ((j : ℕ) → List·Memᴰ j l → f j ≡ false) → Lowest l none
 
+  -- so a number found is the lowest
+  pub lowest-found : {l : List ℕ} {i : ℕ} → Lowest l (some i) → LowestAt l i
+  lowest-found (found a) = a
+
+  -- and where nothing is found, none passes the test
+  pub lowest-nowhere : {l : List ℕ} → Lowest l none → (j : ℕ) → List·Memᴰ j l → f j ≡ false
+  lowest-nowhere (nowhere n) = n
+
   -- a number in front that passes is the lowest
   lowest-pass : {x : ℕ} {xs : List ℕ} → Every (λ y. x < y) xs → f x ≡ true → Lowest (x ∷ xs) (some x)
   lowest-pass {x} r e = found (record {
