@@ -48,7 +48,7 @@ module _ (c : Chart) (p : Point) where
     -- its lists have entries, which satisfy the chain rule
     chained : ChainLists arity depth (c .triangleCount) (c .keys) (c .levels) (c .items) (c .entryCount)
     chained =
-        let h = searchable c s r in record { keys = h .0 .0; levels = h .0 .1 .0; items = h .0 .1 .1; rule = rw (h .1) tt }
+        let h = searchable c s r in record { keys = h .0 .forKeys; levels = h .0 .forLevels; items = h .0 .forItems; rule = rw (h .1) tt }
 
     -- they can be searched
     pub lists-searchable : ((c .entryCount ≤ length (c .keys)) × (c .entryCount ≤ length (c .items)))

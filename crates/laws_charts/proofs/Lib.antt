@@ -11,11 +11,13 @@ pub mod EditLaws
 pub mod FlipLaws
 pub mod LoadTable
 pub mod MergeLaws
+pub mod ProposedLaws
 pub mod EventTable
 pub mod EventArea
 pub mod FlipUnique
 pub mod TakeOutUnique
 pub mod CellsLaws
+pub mod OneSide
 pub mod ReadingLaws
 pub mod OverlayLaws
 pub mod EntriesOfTable

@@ -26,36 +26,6 @@ loop-holds c =
     let a = top .args in
     (search needs, sym (all-below-none (λ k. linkedAt (a .keys .now) (a .levels .now) (a .items .now) (a .next-keys .now) (a .next-levels .now) (a .next-items .now) k)))
 
-mul-link-fault : tie.Need-mul-link-fault Inv-loop μ-loop
-mul-link-fault c = search needs
-
-shared-slice-read-link-fault : tie.Need-shared-slice-read-link-fault Inv-loop μ-loop
-shared-slice-read-link-fault c = search needs
-
-shared-slice-read-link-fault-2 : tie.Need-shared-slice-read-link-fault-2 Inv-loop μ-loop
-shared-slice-read-link-fault-2 c = search needs
-
-mul-link-fault-2 : tie.Need-mul-link-fault-2 Inv-loop μ-loop
-mul-link-fault-2 c = search needs
-
-shared-slice-read-link-fault-3 : tie.Need-shared-slice-read-link-fault-3 Inv-loop μ-loop
-shared-slice-read-link-fault-3 c = search needs
-
-mul-link-fault-3 : tie.Need-mul-link-fault-3 Inv-loop μ-loop
-mul-link-fault-3 c = search needs
-
-shared-slice-read-link-fault-4 : tie.Need-shared-slice-read-link-fault-4 Inv-loop μ-loop
-shared-slice-read-link-fault-4 c = search needs
-
-shared-slice-read-link-fault-5 : tie.Need-shared-slice-read-link-fault-5 Inv-loop μ-loop
-shared-slice-read-link-fault-5 c = search needs
-
-mul-link-fault-4 : tie.Need-mul-link-fault-4 Inv-loop μ-loop
-mul-link-fault-4 c = search needs
-
-shared-slice-read-link-fault-6 : tie.Need-shared-slice-read-link-fault-6 Inv-loop μ-loop
-shared-slice-read-link-fault-6 c = search needs
-
 -- an earlier place, found from a later one
 abbrev loop-to-top : tie.At-loop Inv-loop μ-loop → tie.Start Inv-loop μ-loop
 loop-to-top c = search needs
@@ -68,12 +38,6 @@ link-fault-requires c κs =
     let levels = top .args .levels .now in
     let i = loop .loop .i in
     leb→le (getD levels i 0) depth (all-below-at (λ k. leb (getD levels k 0) depth) (top .pre .1 .1) (in-loop .loop-test .taken))
-
-add-i : tie.Need-add-i Inv-loop μ-loop
-add-i c = search needs
-
-loop-less : tie.Need-loop-less Inv-loop μ-loop
-loop-less c = search needs
 
 loop-again : tie.Need-loop-again Inv-loop μ-loop
 unfolding entryAt
@@ -105,18 +69,18 @@ faults-spec =
     Inv-loop
     μ-loop
     loop-holds
-    mul-link-fault
-    shared-slice-read-link-fault
-    shared-slice-read-link-fault-2
-    mul-link-fault-2
-    shared-slice-read-link-fault-3
-    mul-link-fault-3
-    shared-slice-read-link-fault-4
-    shared-slice-read-link-fault-5
-    mul-link-fault-4
-    shared-slice-read-link-fault-6
+    (λ c. search needs)
+    (λ c. search needs)
+    (λ c. search needs)
+    (λ c. search needs)
+    (λ c. search needs)
+    (λ c. search needs)
+    (λ c. search needs)
+    (λ c. search needs)
+    (λ c. search needs)
+    (λ c. search needs)
     link-fault-requires
-    add-i
-    loop-less
+    (λ c. search needs)
+    (λ c. search needs)
     loop-again
     returns)

@@ -1,0 +1,12 @@
+use mathlib.Core.Path.{refl}
+use borrow.Author.Needs.{needs}
+use Rattle.base_entries.specs.Packed.{packed}
+use Rattle.base_entries.proofs.pack.Statement.{statement}
+use Rattle.base_entries.proofs.pack.Tie as tie
+
+returns : tie.Need-returns
+unfolding packed
+returns c = refl
+
+pub pack-spec : {M : Type 1} → statement M
+pack-spec = tie.close (tie.spec (λ c. search needs) (λ c. search needs) (λ c. search needs) (λ c. search needs) returns)
