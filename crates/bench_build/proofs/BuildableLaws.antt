@@ -11,14 +11,13 @@ use Rattle.theory_lists.proofs.Reflects.{reflects-and, reflects-leb, reflects-e
 use Rattle.spec_plane.specs.Triangle.{proper}
 use Rattle.spec_charts.specs.Table.{tableOf, tableLength, numbersPerTriangle}
 use Rattle.spec_charts.specs.Cells.{maxEntries}
+use Rattle.spec_calls.specs.Buffers.{Roomy}
 use Rattle.bench_build.specs.Buildable.{lengthsFit, buildable}
 
 -- the lengths of a table and three lists that fit
-pub record Lengths (t k l i : List ℕ) : Type 0 where
-  pub table : length t ≤ tableLength
-  pub keys : maxEntries ≤ length k
-  pub levels : maxEntries ≤ length l
-  pub items : maxEntries ≤ length i
+pub record Lengths (table keys levels items : List ℕ) : Type 0 where
+  pub numbers : length table ≤ tableLength
+  pub lists : Roomy maxEntries keys levels items
 
 module _ (table keys levels items : List ℕ) where
   pub lengths-fit : {fit : Bool} → fit ≡ lengthsFit table keys levels items → fit ≡ true → Lengths table keys levels items
@@ -30,7 +29,7 @@ module _ (table keys levels items : List ℕ) where
       let l = reflects-leb maxEntries (length levels) in
       let i = reflects-leb maxEntries (length items) in
       let h = reflects-and (reflects-and (reflects-and (reflects-and whole few) k) l) i .to (subst T (sym (sym e ∙ y)) tt) in
-      record { table = h .0 .0 .0 .1; keys = h .0 .0 .1; levels = h .0 .1; items = h .1 }
+      record { numbers = h .0 .0 .0 .1; lists = record { forKeys = h .0 .0 .1; forLevels = h .0 .1; forItems = h .1 } }
 
   pub buildable-both : {fit turned : Bool} → fit ≡ lengthsFit table keys levels items → fit ≡ true
       → turned ≡ all (λ t. proper t) (tableOf table (length table / numbersPerTriangle)) → turned ≡ true

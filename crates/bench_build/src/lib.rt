@@ -7,9 +7,13 @@ ghost use mathlib.Core.Bool.{true, false};
 ghost use Prim.Native.Nat.{_/_};
 ghost use lib.ListN.{length};
 ghost use Rattle.spec_charts.specs.Table.{numbersPerTriangle, tableOf};
-ghost use Rattle.spec_charts.specs.Cells.{entriesOf};
-ghost use Rattle.chart_index.specs.Lists.{Listed};
-ghost use Rattle.bench_build.specs.Buildable.{lengthsFit, buildable};
+ghost use Rattle.spec_charts.specs.Cells.{entriesOf, maxEntries};
+ghost use Rattle.chart_lists.specs.Columns.{atEntry, atExit};
+ghost use Rattle.chart_index.specs.Lists.{ListedIn};
+ghost use Rattle.bench_build.specs.Buildable.{lengthsFit, buildableLent, notBuilt};
+
+// The answer where nothing can be built.
+const NOT_BUILT: usize = base_tables::MOST_ENTRIES + 2;
 
 // The numbers are whole triangles, at most 512, and the three lists have 16384 places.
 fn lengths_fit(table: &[u16], keys: &[u32], levels: &[u8], items: &[u16]) -> bool
@@ -23,7 +27,7 @@ fn lengths_fit(table: &[u16], keys: &[u32], levels: &[u8], items: &[u16]) -> boo
 }
 
 // The number of the table's entries, which then stand in the three lists, zeros after them; 16385 where they are more than
-// 16384, and 16386 for a table or lists of the wrong length or a triangle with D <= 0, and the lists stay as they were.
+// 16384, and `NOT_BUILT` for a table or lists of the wrong length or a triangle with D <= 0, and the lists stay as they were.
 #[no_mangle]
 pub extern "C" fn build_table(
     table: &[u16],
@@ -31,8 +35,8 @@ pub extern "C" fn build_table(
     levels: &mut [u8],
     items: &mut [u16],
 ) -> usize
-    ensures { λ r. ⌜ (buildable (now (table .entry)) (now (keys .entry)) (now (levels .entry)) (now (items .entry)) ≡ true → Listed (entriesOf (tableOf (now (table .entry)) (length (now (table .entry)) / numbersPerTriangle))) r (now (keys .entry)) (now (keys .exit)) (now (levels .entry)) (now (levels .exit)) (now (items .entry)) (now (items .exit))) ⌝ }
-    ensures { λ r. ⌜ (buildable (now (table .entry)) (now (keys .entry)) (now (levels .entry)) (now (items .entry)) ≡ false → (r ≡ 16386) × ((now (keys .exit) ≡ now (keys .entry)) × ((now (levels .exit) ≡ now (levels .entry)) × (now (items .exit) ≡ now (items .entry))))) ⌝ }
+    ensures { λ r. ⌜ (buildableLent table keys levels items ≡ true → ListedIn maxEntries (entriesOf (tableOf (now (table .entry)) (length (now (table .entry)) / numbersPerTriangle))) r keys levels items) ⌝ }
+    ensures { λ r. ⌜ (buildableLent table keys levels items ≡ false → (r ≡ notBuilt) × (atExit keys levels items ≡ atEntry keys levels items)) ⌝ }
 {
     let n = table.len() / base_tables::TRIANGLE_NUMBERS;
     if lengths_fit(table, keys, levels, items) {
@@ -40,5 +44,5 @@ pub extern "C" fn build_table(
             return chart_index::build_into(table, n, keys, levels, items);
         }
     }
-    16386
+    NOT_BUILT
 }

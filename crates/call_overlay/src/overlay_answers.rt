@@ -2,7 +2,6 @@
 
 use base_answers::Overlaid;
 use base_answers::Overlay;
-use chart_lists::list_writes;
 use overlay_pairs::pair_writes;
 ghost use mathlib.Core.Path.{_≡_};
 ghost use mathlib.Core.List.{List};
@@ -35,10 +34,10 @@ pub fn finish(found: usize, meetings: usize, pairs: &mut [u16]) -> Overlaid
     ensures { λ r. ⌜ ((ps : List Pair) (before : List ℕ) → Wrote ps 0 found before (now (pairs .entry)) → _≡_ {A = Calls·Overlaid} (overlaidOf r (now (pairs .exit))) (overlaidBy before (withinPairs ps meetings))) ⌝ }
 {
     if found > pair_writes::MOST_PAIRS {
-        list_writes::clear_items(pairs, 0, PAIR_NUMBERS);
+        base_lists::zero_items(pairs, 0, PAIR_NUMBERS);
         return refused(Overlay::TooManyPairs);
     }
-    list_writes::clear_items(pairs, 2 * found, PAIR_NUMBERS);
+    base_lists::zero_items(pairs, 2 * found, PAIR_NUMBERS);
     Overlaid {
         overlay: Overlay::Done,
         pairs: found,

@@ -1,8 +1,8 @@
 -- What building a table leaves in the three lists, by the limit that it had.
 -- Assumes nothing.
-use mathlib.Core.Path.{_≡_, subst, refl, _∙_, ap}
+use mathlib.Core.Path.{subst, _∙_, ap}
 use mathlib.Core.List.{List, map}
-use Prim.Native.Nat.{ℕ, _+_, _≤_, _<_}
+use Prim.Native.Nat.{ℕ, _≤_, _<_}
 use native.Mathlib.Decide.{decLe}
 use native.Mathlib.Omega.{arith}
 use lib.ListN.{length, take}
@@ -10,49 +10,33 @@ use Rattle.theory_lists.proofs.ListsLaws.{Every}
 use Rattle.theory_orthtree.specs.Entries.{Entry}
 use Rattle.spec_charts.specs.Cells.{maxEntries}
 use Rattle.spec_calls.specs.Buffers.{padded}
-use Rattle.quadtree_cells.specs.Packed.{keyOf, levelOf, itemOf}
-use Rattle.chart_index.specs.Lists.{ListedWithin}
-use Rattle.quadtree_build.proofs.PackLaws.{Packable, keys-packed, levels-packed, items-packed}
+use Rattle.base_entries.specs.Packed.{keyOf, levelOf, itemOf}
+use Rattle.chart_lists.specs.Columns.{Columns, unpacked}
+use Rattle.chart_index.specs.Lists.{FilledWithin, ListedWithin}
+use Rattle.base_entries.proofs.PackLaws.{Packable, keys-packed, levels-packed, items-packed}
 use Rattle.quadtree_build.specs.Packed.{Packed}
-use Rattle.quadtree_build.proofs.PackedLaws.{packed-few, packed-count, packed-take, few-entries}
+use Rattle.quadtree_build.proofs.PackedLaws.{packed-take, few-entries}
 
-module _ {most : ℕ} {es : List Entry} {r : ℕ} {l l′ : List ℕ} (p : Packed most es r l l′) where
-  -- the lists stay as they were where the entries are too many
-  pub listed-over : (ks ls is : List ℕ) → most < r → ListedWithin most es (most + 1) ks ks ls ls is is
-  listed-over ks ls is h =
-      let no : length es ≤ most → ⊥ = λ f. omega (arith, p .fits f .0) in
-      record {
-        fits = λ f. absurd (no f);
-        fitsKeys = λ f. absurd (no f);
-        fitsLevels = λ f. absurd (no f);
-        fitsItems = λ f. absurd (no f);
-        over = λ o. refl;
-        overKeys = λ o. refl;
-        overLevels = λ o. refl;
-        overItems = λ o. refl;
-      }
-
-  -- the three lists that are made from the packed entries
-  pub listed-fits : Every (λ e. Packable e) es → r ≤ most
-      → {ks ks′ ls ls′ is is′ : List ℕ}
-      → ks′ ≡ padded maxEntries (map keyOf (take r l′)) ks
-      → ls′ ≡ padded maxEntries (map levelOf (take r l′)) ls
-      → is′ ≡ padded maxEntries (map itemOf (take r l′)) is
-      → ListedWithin most es r ks ks′ ls ls′ is is′
-  listed-fits q h {ks} {ks′} {ls} {ls′} {is} {is′} a b c =
-      let f = packed-few p h in
-      let no : most < length es → ⊥ = λ o. omega arith in
-      let t = packed-take p h in
-      record {
-        fits = λ g. packed-count p h;
-        fitsKeys = λ g. a ∙ ap (λ x. padded maxEntries (map keyOf x) ks) t ∙ ap (λ x. padded maxEntries x ks) (keys-packed es q);
-        fitsLevels = λ g. b ∙ ap (λ x. padded maxEntries (map levelOf x) ls) t ∙ ap (λ x. padded maxEntries x ls) (levels-packed es q);
-        fitsItems = λ g. c ∙ ap (λ x. padded maxEntries (map itemOf x) is) t ∙ ap (λ x. padded maxEntries x is) (items-packed es q);
-        over = λ o. absurd (no o);
-        overKeys = λ o. absurd (no o);
-        overLevels = λ o. absurd (no o);
-        overItems = λ o. absurd (no o);
-      }
+-- the packed entries that a build left, put into the lists within the same limit
+pub listed-within : {most : ℕ} {es : List Entry} {m : ℕ} {l l′ : List ℕ} {before after : Columns}
+    → Packed most es m l l′ → Every (λ e. Packable e) es → FilledWithin most m (unpacked (take m l′)) before after
+    → ListedWithin most es m (before .keys) (after .keys) (before .levels) (after .levels) (before .items) (after .items)
+listed-within {most} {es} {m} {l} {l′} {before} {after} p q w =
+    let few : length es ≤ most → m ≤ most = λ f. let e = p .fits f .0 in omega arith in
+    let many : most < length es → most < m = λ o. let e = p .over o in omega arith in
+    record {
+      fits = λ f. p .fits f .0;
+      fitsKeys = λ f.
+          w .fits (few f) .keys ∙ ap (λ x. padded maxEntries x (before .keys)) (ap (map keyOf) (packed-take p (few f)) ∙ keys-packed es q);
+      fitsLevels = λ f.
+          w .fits (few f) .levels ∙ ap (λ x. padded maxEntries x (before .levels)) (ap (map levelOf) (packed-take p (few f)) ∙ levels-packed es q);
+      fitsItems = λ f.
+          w .fits (few f) .items ∙ ap (λ x. padded maxEntries x (before .items)) (ap (map itemOf) (packed-take p (few f)) ∙ items-packed es q);
+      over = p .over;
+      overKeys = λ o. ap (λ c. c .keys) (w .over (many o));
+      overLevels = λ o. ap (λ c. c .levels) (w .over (many o));
+      overItems = λ o. ap (λ c. c .items) (w .over (many o));
+    }
 
 -- ---- by the count
 
@@ -69,8 +53,8 @@ module _ {most : ℕ} {es : List Entry} {m : ℕ} {ks ks′ ls ls′ is is′ : 
   ]
 
   -- entries within a limit are within a larger one
-  pub listed-within : (more : ℕ) → most ≤ more → m ≤ most → ListedWithin more es m ks ks′ ls ls′ is is′
-  listed-within more h k =
+  pub listed-more : (more : ℕ) → most ≤ more → m ≤ most → ListedWithin more es m ks ks′ ls ls′ is is′
+  listed-more more h k =
       let few = listed-few k in
       let no : more < length es → ⊥ = λ o. omega arith in
       record {

@@ -1,18 +1,36 @@
 // The entries of a table in the three entry lists of a chart.
 
 use chart_lists::list_writes;
-ghost use mathlib.Core.Path.{_≡_};
-ghost use mathlib.Core.Bool.{true};
-ghost use Prim.Native.Nat.{_*_, _≤_};
-ghost use lib.ListN.{length};
-ghost use Rattle.theory_lists.specs.Lists.{all};
-ghost use Rattle.spec_plane.specs.Triangle.{proper};
-ghost use Rattle.spec_charts.specs.Table.{maxTriangles, numbersPerTriangle, tableOf};
+ghost use Prim.Native.Nat.{_≤_};
+ghost use lib.ListN.{length, take};
+ghost use Rattle.spec_charts.specs.Table.{tableOf, Drawn};
 ghost use Rattle.spec_charts.specs.Cells.{entriesOf, maxEntries};
-ghost use Rattle.chart_index.specs.Lists.{Listed};
-ghost use Rattle.chart_index.specs.Lists.{ListedWithin};
+ghost use Rattle.spec_calls.specs.Buffers.{Roomy};
+ghost use Rattle.quadtree_build.specs.Packed.{fewEntries};
+ghost use Rattle.chart_lists.specs.Columns.{unpacked, atEntry, atExit};
+ghost use Rattle.chart_index.specs.Lists.{FilledWithin, ListedIn};
 
-// The entries of a table where they are few: their number, or 1025 where they are more and the lists stay as they were.
+// What a build left: its m packed entries in the three lists, or the lists as they were where m is above `most`.
+fn put_built(
+    entries: &[u64],
+    m: usize,
+    most: usize,
+    keys: &mut [u32],
+    levels: &mut [u8],
+    items: &mut [u16],
+)
+    requires { ⌜ (most ≤ length (now entries)) × (most ≤ maxEntries) ⌝ }
+    requires { ⌜ Roomy maxEntries (now keys) (now levels) (now items) ⌝ }
+    ensures { λ _. ⌜ FilledWithin most m (unpacked (take m (now (entries .entry)))) (atEntry keys levels items) (atExit keys levels items) ⌝ }
+{
+    if m > most {
+        return;
+    }
+    list_writes::put_lists(entries, m, keys, levels, items);
+}
+
+// The entries of a table where they are few: their number, or one more than `FEW_ENTRIES` where they are more and the lists stay as they
+// were.
 fn list_few(
     table: &[u16],
     n: usize,
@@ -20,16 +38,20 @@ fn list_few(
     levels: &mut [u8],
     items: &mut [u16],
 ) -> usize
-    requires { ⌜ ((n ≤ maxTriangles) × (numbersPerTriangle * n ≤ length (now table))) × (all (λ t. proper t) (tableOf (now table) n) ≡ true) ⌝ }
-    requires { ⌜ (maxEntries ≤ length (now keys)) × ((maxEntries ≤ length (now levels)) × (maxEntries ≤ length (now items))) ⌝ }
-    ensures { λ r. ⌜ ListedWithin 1024 (entriesOf (tableOf (now (table .entry)) n)) r (now (keys .entry)) (now (keys .exit)) (now (levels .entry)) (now (levels .exit)) (now (items .entry)) (now (items .exit)) ⌝ }
+    requires { ⌜ Drawn (now table) n ⌝ }
+    requires { ⌜ Roomy maxEntries (now keys) (now levels) (now items) ⌝ }
+    ensures { λ r. ⌜ ListedIn fewEntries (entriesOf (tableOf (now (table .entry)) n)) r keys levels items ⌝ }
 {
     let mut entries = [0u64; quadtree_build::FEW_ENTRIES];
     let m = quadtree_build::build_packed(table, n, &mut entries, quadtree_build::FEW_ENTRIES);
-    if m > quadtree_build::FEW_ENTRIES {
-        return 1025;
-    }
-    list_writes::put_lists(&entries, m, keys, levels, items);
+    put_built(
+        &entries,
+        m,
+        quadtree_build::FEW_ENTRIES,
+        keys,
+        levels,
+        items,
+    );
     m
 }
 
@@ -41,16 +63,13 @@ fn list_all(
     levels: &mut [u8],
     items: &mut [u16],
 ) -> usize
-    requires { ⌜ ((n ≤ maxTriangles) × (numbersPerTriangle * n ≤ length (now table))) × (all (λ t. proper t) (tableOf (now table) n) ≡ true) ⌝ }
-    requires { ⌜ (maxEntries ≤ length (now keys)) × ((maxEntries ≤ length (now levels)) × (maxEntries ≤ length (now items))) ⌝ }
-    ensures { λ r. ⌜ ListedWithin maxEntries (entriesOf (tableOf (now (table .entry)) n)) r (now (keys .entry)) (now (keys .exit)) (now (levels .entry)) (now (levels .exit)) (now (items .entry)) (now (items .exit)) ⌝ }
+    requires { ⌜ Drawn (now table) n ⌝ }
+    requires { ⌜ Roomy maxEntries (now keys) (now levels) (now items) ⌝ }
+    ensures { λ r. ⌜ ListedIn maxEntries (entriesOf (tableOf (now (table .entry)) n)) r keys levels items ⌝ }
 {
     let mut entries = [0u64; base_tables::MOST_ENTRIES];
     let m = quadtree_build::build_packed(table, n, &mut entries, base_tables::MOST_ENTRIES);
-    if m > base_tables::MOST_ENTRIES {
-        return 16385;
-    }
-    list_writes::put_lists(&entries, m, keys, levels, items);
+    put_built(&entries, m, base_tables::MOST_ENTRIES, keys, levels, items);
     m
 }
 
@@ -63,9 +82,9 @@ pub fn build_into(
     levels: &mut [u8],
     items: &mut [u16],
 ) -> usize
-    requires { ⌜ ((n ≤ maxTriangles) × (numbersPerTriangle * n ≤ length (now table))) × (all (λ t. proper t) (tableOf (now table) n) ≡ true) ⌝ }
-    requires { ⌜ (maxEntries ≤ length (now keys)) × ((maxEntries ≤ length (now levels)) × (maxEntries ≤ length (now items))) ⌝ }
-    ensures { λ r. ⌜ Listed (entriesOf (tableOf (now (table .entry)) n)) r (now (keys .entry)) (now (keys .exit)) (now (levels .entry)) (now (levels .exit)) (now (items .entry)) (now (items .exit)) ⌝ }
+    requires { ⌜ Drawn (now table) n ⌝ }
+    requires { ⌜ Roomy maxEntries (now keys) (now levels) (now items) ⌝ }
+    ensures { λ r. ⌜ ListedIn maxEntries (entriesOf (tableOf (now (table .entry)) n)) r keys levels items ⌝ }
 {
     if n > quadtree_build::SMALL_TABLE {
         return list_all(table, n, keys, levels, items);

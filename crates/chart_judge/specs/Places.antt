@@ -1,10 +1,18 @@
--- The entries of three lists, packed.
+-- Packed entries beside those of three lists, place by place.
 -- Assumes nothing.
+use mathlib.Core.Bool.{Bool}
 use mathlib.Core.List.{List}
 use Prim.Native.Nat.{ℕ}
+use lib.Dec.{eqb}
+use lib.ListN.{getD}
+use Rattle.theory_lists.specs.Lists.{all, upTo}
 use Rattle.chart_links.specs.Links.{entryAt}
-use Rattle.quadtree_cells.specs.Packed.{packed}
+use Rattle.base_entries.specs.Packed.{packed}
 
--- the entry at place i of three lists, packed
-abbrev pub packedAt : List ℕ → List ℕ → List ℕ → ℕ → ℕ
-packedAt keys levels items i = packed (entryAt keys levels items i)
+-- the packed entry at place i is that of the three lists
+abbrev pub samePlace : List ℕ → List ℕ → List ℕ → List ℕ → ℕ → Bool
+samePlace entries keys levels items i = eqb (getD entries i 0) (packed (entryAt keys levels items i))
+
+-- the first n are
+abbrev pub samePlaces : List ℕ → List ℕ → List ℕ → List ℕ → ℕ → Bool
+samePlaces entries keys levels items n = all (λ i. samePlace entries keys levels items i) (upTo n)

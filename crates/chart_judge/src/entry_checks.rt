@@ -1,36 +1,26 @@
 // The three entry lists of a chart compared with the entries of a table.
 
 ghost use mathlib.Core.Path.{_≡_};
-ghost use mathlib.Core.Bool.{true};
-ghost use Prim.Native.Nat.{_*_, _≤_};
-ghost use lib.Dec.{eqb};
-ghost use lib.ListN.{length, getD, take};
-ghost use Rattle.theory_lists.specs.Lists.{all, upTo};
-ghost use Rattle.spec_plane.specs.Triangle.{proper};
-ghost use Rattle.spec_charts.specs.Table.{maxTriangles, numbersPerTriangle, tableOf};
-ghost use Rattle.spec_charts.specs.Cells.{entriesOf, maxEntries};
-ghost use Rattle.spec_calls.specs.Buffers.{zipEntries, sameEntries};
-ghost use Rattle.quadtree_cells.specs.Packed.{packed};
-ghost use Rattle.chart_judge.specs.Places.{packedAt};
 ghost use mathlib.Core.Bool.{_&&_};
-ghost use Prim.Native.Nat.{_+_};
-
-// Key, level and item as one number.
-fn pack(key: u32, level: u8, item: u16) -> u64
-    ensures { λ r. ⌜ r ≡ packed (record { key = key; level = level; item = item }) ⌝ }
-{
-    (key as u64) * 4294967296 + (level as u64) * 65536 + item as u64
-}
+ghost use Prim.Native.Nat.{_≤_};
+ghost use lib.Dec.{eqb};
+ghost use lib.ListN.{length};
+ghost use Rattle.spec_charts.specs.Table.{Drawn};
+ghost use Rattle.spec_charts.specs.Cells.{maxEntries};
+ghost use Rattle.spec_calls.specs.Buffers.{Roomy, indexed};
+ghost use Rattle.spec_calls.specs.Lent.{given};
+ghost use Rattle.quadtree_build.specs.Packed.{fewEntries};
+ghost use Rattle.chart_judge.specs.Places.{samePlaces};
 
 // 0 if the first n packed entries are those of the three lists.
 fn differences(entries: &[u64], keys: &[u32], levels: &[u8], items: &[u16], n: usize) -> u64
-    requires { ⌜ (n ≤ length (now entries)) × ((n ≤ length (now keys)) × ((n ≤ length (now levels)) × (n ≤ length (now items)))) ⌝ }
-    ensures { λ r. ⌜ eqb r 0 ≡ all (λ i. eqb (getD (now (entries .entry)) i 0) (packedAt (now (keys .entry)) (now (levels .entry)) (now (items .entry)) i)) (upTo n) ⌝ }
+    requires { ⌜ (n ≤ length (now entries)) × Roomy n (now keys) (now levels) (now items) ⌝ }
+    ensures { λ r. ⌜ eqb r 0 ≡ samePlaces (now (entries .entry)) (now (keys .entry)) (now (levels .entry)) (now (items .entry)) n ⌝ }
 {
     let mut found = 0;
     let mut i = 0;
     while i < n {
-        found = found | (entries[i] ^ pack(keys[i], levels[i], items[i]));
+        found = found | (entries[i] ^ base_entries::pack(keys[i], levels[i], items[i]));
         i += 1;
     }
     found
@@ -45,8 +35,8 @@ fn same_entries(
     items: &[u16],
     m: usize,
 ) -> bool
-    requires { ⌜ (m ≤ length (now entries)) × ((m ≤ length (now keys)) × ((m ≤ length (now levels)) × (m ≤ length (now items)))) ⌝ }
-    ensures { λ o. ⌜ o ≡ (eqb r m && all (λ i. eqb (getD (now (entries .entry)) i 0) (packedAt (now (keys .entry)) (now (levels .entry)) (now (items .entry)) i)) (upTo m)) ⌝ }
+    requires { ⌜ (m ≤ length (now entries)) × Roomy m (now keys) (now levels) (now items) ⌝ }
+    ensures { λ o. ⌜ o ≡ (eqb r m && samePlaces (now (entries .entry)) (now (keys .entry)) (now (levels .entry)) (now (items .entry)) m) ⌝ }
 {
     if r != m {
         return false;
@@ -56,9 +46,9 @@ fn same_entries(
 
 // The first m entries of the three lists, which are few, are those of the table.
 fn match_few(table: &[u16], n: usize, keys: &[u32], levels: &[u8], items: &[u16], m: usize) -> bool
-    requires { ⌜ ((n ≤ maxTriangles) × (numbersPerTriangle * n ≤ length (now table))) × (all (λ t. proper t) (tableOf (now table) n) ≡ true) ⌝ }
-    requires { ⌜ ((m ≤ 1024) × (m ≤ length (now keys))) × ((m ≤ length (now levels)) × (m ≤ length (now items))) ⌝ }
-    ensures { λ o. ⌜ o ≡ sameEntries (take m (zipEntries (now (keys .entry)) (now (levels .entry)) (now (items .entry)))) (entriesOf (tableOf (now (table .entry)) n)) ⌝ }
+    requires { ⌜ Drawn (now table) n ⌝ }
+    requires { ⌜ (m ≤ fewEntries) × Roomy m (now keys) (now levels) (now items) ⌝ }
+    ensures { λ o. ⌜ o ≡ indexed (given table keys levels items n m) ⌝ }
 {
     let mut entries = [0u64; quadtree_build::FEW_ENTRIES];
     let r = quadtree_build::build_packed(table, n, &mut entries, quadtree_build::FEW_ENTRIES);
@@ -67,9 +57,9 @@ fn match_few(table: &[u16], n: usize, keys: &[u32], levels: &[u8], items: &[u16]
 
 // The same for every number of entries that a chart can have.
 fn match_all(table: &[u16], n: usize, keys: &[u32], levels: &[u8], items: &[u16], m: usize) -> bool
-    requires { ⌜ ((n ≤ maxTriangles) × (numbersPerTriangle * n ≤ length (now table))) × (all (λ t. proper t) (tableOf (now table) n) ≡ true) ⌝ }
-    requires { ⌜ ((m ≤ maxEntries) × (m ≤ length (now keys))) × ((m ≤ length (now levels)) × (m ≤ length (now items))) ⌝ }
-    ensures { λ o. ⌜ o ≡ sameEntries (take m (zipEntries (now (keys .entry)) (now (levels .entry)) (now (items .entry)))) (entriesOf (tableOf (now (table .entry)) n)) ⌝ }
+    requires { ⌜ Drawn (now table) n ⌝ }
+    requires { ⌜ (m ≤ maxEntries) × Roomy m (now keys) (now levels) (now items) ⌝ }
+    ensures { λ o. ⌜ o ≡ indexed (given table keys levels items n m) ⌝ }
 {
     let mut entries = [0u64; base_tables::MOST_ENTRIES];
     let r = quadtree_build::build_packed(table, n, &mut entries, base_tables::MOST_ENTRIES);
@@ -85,9 +75,9 @@ pub fn entries_match(
     items: &[u16],
     m: usize,
 ) -> bool
-    requires { ⌜ ((n ≤ maxTriangles) × (numbersPerTriangle * n ≤ length (now table))) × (all (λ t. proper t) (tableOf (now table) n) ≡ true) ⌝ }
-    requires { ⌜ ((m ≤ maxEntries) × (m ≤ length (now keys))) × ((m ≤ length (now levels)) × (m ≤ length (now items))) ⌝ }
-    ensures { λ o. ⌜ o ≡ sameEntries (take m (zipEntries (now (keys .entry)) (now (levels .entry)) (now (items .entry)))) (entriesOf (tableOf (now (table .entry)) n)) ⌝ }
+    requires { ⌜ Drawn (now table) n ⌝ }
+    requires { ⌜ (m ≤ maxEntries) × Roomy m (now keys) (now levels) (now items) ⌝ }
+    ensures { λ o. ⌜ o ≡ indexed (given table keys levels items n m) ⌝ }
 {
     if m <= quadtree_build::FEW_ENTRIES {
         return match_few(table, n, keys, levels, items, m);

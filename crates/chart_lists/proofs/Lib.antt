@@ -1,1 +1,1 @@
-pub mod StoreLaws
+pub mod ColumnLaws

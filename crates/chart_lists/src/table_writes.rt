@@ -1,6 +1,5 @@
 // A table's numbers written into a chart's table, zeros after them.
 
-use crate::list_writes;
 ghost use mathlib.Core.Path.{_≡_};
 ghost use Prim.Native.Nat.{_≤_};
 ghost use lib.ListN.{length, take};
@@ -17,5 +16,5 @@ pub fn put_table(given: &[u16], n: usize, table: &mut [u16])
         table[i] = given[i];
         i += 1;
     }
-    list_writes::clear_items(table, n, base_tables::TABLE_NUMBERS);
+    base_lists::zero_items(table, n, base_tables::TABLE_NUMBERS);
 }

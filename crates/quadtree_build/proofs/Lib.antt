@@ -2,5 +2,4 @@ pub mod WalkLaws
 pub mod SquareWalk
 pub mod WholeWalk
 pub mod KeptLaws
-pub mod PackLaws
 pub mod PackedLaws

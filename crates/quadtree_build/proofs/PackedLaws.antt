@@ -7,7 +7,7 @@ use native.Mathlib.Decide.{decLe}
 use native.Mathlib.Omega.{arith}
 use lib.ListN.{length, take, length-map}
 use Rattle.theory_orthtree.specs.Entries.{Entry}
-use Rattle.quadtree_cells.specs.Packed.{packed}
+use Rattle.base_entries.specs.Packed.{packed}
 use Rattle.theory_lists.proofs.StoredLaws.{take-stored}
 use Rattle.quadtree_build.specs.Packed.{Packed}
 

@@ -28,7 +28,7 @@ use Rattle.laws_charts.proofs.TableLaws.{tableOf-length}
 use Rattle.quadtree_shapes.specs.Shape.{triangleMeetsAt}
 use Rattle.quadtree_shapes.proofs.ShapeLaws.{triangle-meets-at}
 use Rattle.quadtree_cells.specs.Stack.{part, Ready, Prepared}
-use Rattle.quadtree_cells.specs.Packed.{packed}
+use Rattle.base_entries.specs.Packed.{packed}
 use Rattle.quadtree_build.specs.Build.{Candidates, Built}
 use Rattle.quadtree_cells.proofs.StackLaws.{filter-length}
 use Rattle.quadtree_stopping.proofs.StopLaws.{framed, corners-small, meeting-below}

@@ -10,7 +10,7 @@ use lib.ListN.{length, length-append, length-map}
 use lib.Seq.{sets}
 use Rattle.theory_lists.proofs.ListsLaws.{sets-join}
 use Rattle.theory_orthtree.specs.Entries.{Entry}
-use Rattle.quadtree_cells.specs.Packed.{packed}
+use Rattle.base_entries.specs.Packed.{packed}
 use Rattle.quadtree_build.specs.Build.{Built}
 
 -- ---- entries of one list after another

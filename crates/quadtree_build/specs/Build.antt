@@ -13,7 +13,7 @@ use Rattle.spec_squares.specs.Square.{squareBox}
 use Rattle.spec_charts.specs.Table.{tableOf, numbered}
 use Rattle.spec_charts.specs.Cells.{trianglesMeeting}
 use Rattle.quadtree_cells.specs.Stack.{part}
-use Rattle.quadtree_cells.specs.Packed.{packed}
+use Rattle.base_entries.specs.Packed.{packed}
 
 -- the triangles that meet the square are among the candidates from f up to t
 pub record Candidates (n f t : ℕ) (table stack : List ℕ) (s : Square) : Type 0 where

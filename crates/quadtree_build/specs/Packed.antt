@@ -6,7 +6,11 @@ use Prim.Native.Nat.{ℕ, _+_, _≤_, _<_}
 use lib.ListN.{length}
 use lib.Seq.{sets}
 use Rattle.theory_orthtree.specs.Entries.{Entry}
-use Rattle.quadtree_cells.specs.Packed.{packed}
+use Rattle.base_entries.specs.Packed.{packed}
+
+-- the entries that a small table mostly does not exceed
+abbrev pub fewEntries : ℕ
+fewEntries = 1024
 
 -- building gave the number r and left the packed entries es in a list, or they were more than `most`
 pub record Packed (most : ℕ) (es : List Entry) (r : ℕ) (l l′ : List ℕ) : Type 0 where

@@ -19,7 +19,7 @@ ghost use Rattle.spec_charts.specs.Table.{maxTriangles, numbersPerTriangle, tab
 ghost use Rattle.spec_charts.specs.Cells.{entriesIn, entriesOf, maxEntries};
 ghost use Rattle.quadtree_shapes.specs.Shape.{coordinates};
 ghost use Rattle.quadtree_stopping.specs.Stopping.{triangleTotal};
-ghost use Rattle.quadtree_cells.specs.Packed.{packed};
+ghost use Rattle.base_entries.specs.Packed.{packed};
 ghost use Rattle.quadtree_cells.specs.Stack.{Ready, Prepared};
 ghost use Rattle.quadtree_build.specs.Build.{Candidates, Built};
 
@@ -48,7 +48,7 @@ fn build_square(
     let f = quarters::frame_of(square);
     let top = candidates::narrow(shape, offsets, stack, from, to, f);
     if quadtree_stopping::is_stopped(corners, shape, offsets, stack, to, top, square, f) {
-        let head = leaves::head_of(s.key, square.level);
+        let head = base_entries::head_of(s.key, square.level);
         return leaves::put_leaf(stack, to, top, head, out, at, most);
     }
     let mut next = at;

@@ -3,15 +3,16 @@
 use base_geometry::numbers;
 ghost use mathlib.Core.Path.{_≡_};
 ghost use mathlib.Core.List.{map};
-ghost use Prim.Native.Nat.{_+_, _*_, _-_, _≤_, _<_, max};
+ghost use Prim.Native.Nat.{_+_, _-_, _≤_, _<_, max};
 ghost use lib.ListN.{length};
 ghost use lib.Seq.{sets};
 ghost use Rattle.spec_charts.specs.Cells.{orMark, maxEntries};
+ghost use Rattle.base_entries.specs.Packed.{maxHead};
 ghost use Rattle.theory_lists.specs.Lists.{part};
 
 // One entry for each candidate from `from` up to `to`.
 fn put_candidates(stack: &[u16], from: usize, to: usize, head: u64, out: &mut [u64], at: usize)
-    requires { ⌜ ((from ≤ to) × (to ≤ length (now stack))) × ((at + (to - from) ≤ length (now out)) × (head ≤ 18446744073709486080)) ⌝ }
+    requires { ⌜ ((from ≤ to) × (to ≤ length (now stack))) × ((at + (to - from) ≤ length (now out)) × (head ≤ maxHead)) ⌝ }
     ensures { λ r. ⌜ now (out .exit) ≡ sets (now (out .entry)) at (map (λ i. head + i) (part from to (now (stack .entry)))) ⌝ }
 {
     let mut k = from;
@@ -23,12 +24,12 @@ fn put_candidates(stack: &[u16], from: usize, to: usize, head: u64, out: &mut [u
 
 // The entries of a cell: one for each candidate, or the mark where there is none.
 fn put_cell(stack: &[u16], from: usize, to: usize, head: u64, out: &mut [u64], at: usize) -> usize
-    requires { ⌜ ((from ≤ to) × (to ≤ length (now stack))) × ((at + length (orMark (part from to (now stack))) ≤ length (now out)) × (head ≤ 18446744073709486080)) ⌝ }
+    requires { ⌜ ((from ≤ to) × (to ≤ length (now stack))) × ((at + length (orMark (part from to (now stack))) ≤ length (now out)) × (head ≤ maxHead)) ⌝ }
     ensures { λ r. ⌜ now (out .exit) ≡ sets (now (out .entry)) at (map (λ i. head + i) (orMark (part from to (now (stack .entry))))) ⌝ }
     ensures { λ r. ⌜ r ≡ at + length (orMark (part from to (now (stack .entry)))) ⌝ }
 {
     if from == to {
-        out[at] = head + 65535;
+        out[at] = base_entries::marked(head);
         return at + 1;
     }
     put_candidates(stack, from, to, head, out, at);
@@ -56,7 +57,7 @@ pub fn put_leaf(
     at: usize,
     most: usize,
 ) -> usize
-    requires { ⌜ ((from ≤ to) × (to ≤ length (now stack))) × ((most ≤ length (now out)) × ((at ≤ most) × ((head ≤ 18446744073709486080) × (most ≤ maxEntries)))) ⌝ }
+    requires { ⌜ ((from ≤ to) × (to ≤ length (now stack))) × ((most ≤ length (now out)) × ((at ≤ most) × ((head ≤ maxHead) × (most ≤ maxEntries)))) ⌝ }
     ensures { λ r. ⌜ (at + length (orMark (part from to (now (stack .entry)))) ≤ most → (r ≡ at + length (orMark (part from to (now (stack .entry))))) × (now (out .exit) ≡ sets (now (out .entry)) at (map (λ i. head + i) (orMark (part from to (now (stack .entry))))))) ⌝ }
     ensures { λ r. ⌜ (most < at + length (orMark (part from to (now (stack .entry)))) → r ≡ most + 1) ⌝ }
 {
@@ -64,12 +65,4 @@ pub fn put_leaf(
         return most + 1;
     }
     put_cell(stack, from, to, head, out, at)
-}
-
-// Key and level at their places of a packed entry.
-pub fn head_of(key: u64, level: u32) -> u64
-    requires { ⌜ (key < 4294967296) × (level ≤ 16) ⌝ }
-    ensures { λ r. ⌜ (r ≡ key * 4294967296 + level * 65536) × (r ≤ 18446744073709486080) ⌝ }
-{
-    key * 4294967296 + (level as u64) * 65536
 }

@@ -1,14 +1,14 @@
 use native.Mathlib.Omega.{arith}
 use Rattle.spec_charts.specs.Cells.{maxEntries}
 use borrow.Author.Needs.{needs}
-use Rattle.chart_index.proofs.ListedLaws.{listed-within, listed-again}
+use Rattle.chart_index.proofs.ListedLaws.{listed-more, listed-again}
 use Rattle.chart_index.proofs.build_into.Statement.{statement}
 use Rattle.chart_index.proofs.build_into.Tie as tie
 
 returns-2 : tie.Need-returns-2
 returns-2 c =
     let list-few : tie.After-list-few = search needs in
-    listed-within (list-few .list-few .ensures) maxEntries (omega arith) (omega (arith, c .if2 .taken))
+    listed-more (list-few .list-few .ensures) maxEntries (omega arith) (omega (arith, c .if2 .taken))
 
 -- an earlier place, found from a later one
 abbrev else2-to-list-few : tie.Else2 → tie.After-list-few

@@ -4,8 +4,8 @@ use Rattle.call_overlay.proofs.FinishLaws.{finish-over, finish-done}
 use Rattle.call_overlay.proofs.overlay_answers.finish.Statement.{statement}
 use Rattle.call_overlay.proofs.overlay_answers.finish.Tie as tie
 
-clear-items-requires : tie.Need-clear-items-requires
-clear-items-requires c κs = search needs
+zero-items-requires : tie.Need-zero-items-requires
+zero-items-requires c κs = search needs
 
 refused-requires : tie.Need-refused-requires
 refused-requires c κs = search needs
@@ -15,35 +15,35 @@ same-length c = search needs
 
 returns : tie.Need-returns
 returns c =
-    let clear-items : tie.After-clear-items = search needs in
+    let zero-items : tie.After-zero-items = search needs in
     let top : tie.Start = search needs in
-    λ ps before w. finish-over w (top .pre .1) (top .args .meetings) _ (omega arith) (clear-items .clear-items .ensures) (c .refused .ensures)
+    λ ps before w. finish-over w (top .pre .1) (top .args .meetings) _ (omega arith) (zero-items .zero-items .ensures) (c .refused .ensures)
 
-mul-clear-items : tie.Need-mul-clear-items
-mul-clear-items c = search needs
+mul-zero-items : tie.Need-mul-zero-items
+mul-zero-items c = search needs
 
-clear-items-requires-2 : tie.Need-clear-items-requires-2
-clear-items-requires-2 c κs = search needs
+zero-items-requires-2 : tie.Need-zero-items-requires-2
+zero-items-requires-2 c κs = search needs
 
 same-length-2 : tie.Need-same-length-2
 same-length-2 c = search needs
 
 returns-2 : tie.Need-returns-2
 returns-2 c =
-    let clear-items2 : tie.After-clear-items2 = search needs in
+    let zero-items2 : tie.After-zero-items2 = search needs in
     let top : tie.Start = search needs in
     λ ps before w.
-    finish-done w (top .pre .1) (top .args .meetings) _ (omega arith) (clear-items2 .clear-items2 .ensures)
+    finish-done w (top .pre .1) (top .args .meetings) _ (omega arith) (zero-items2 .zero-items2 .ensures)
 
 pub finish-spec : {M : Type 1} → statement M
 finish-spec =
     tie.close
     (tie.spec
-    clear-items-requires
+    zero-items-requires
     refused-requires
     same-length
     returns
-    mul-clear-items
-    clear-items-requires-2
+    mul-zero-items
+    zero-items-requires-2
     same-length-2
     returns-2)

@@ -24,7 +24,7 @@ use Rattle.quadtree_build.proofs.quadtree.build_square.Reads as build-s
 use Rattle.quadtree_build.proofs.quadtree.build_square.Kinds as build-square-kinds
 use Rattle.quadtree_build.proofs.quadtree.+build_square.Lts-build_square as build-square-lts
 use Rattle.quadtree_cells.proofs.quarters.frame_of.Reads as frame-of-reads
-use Rattle.quadtree_cells.proofs.leaves.head_of.Reads as head-of-reads
+use Rattle.base_entries.proofs.head_of.Reads as head-of-reads
 use Rattle.quadtree_stopping.proofs.is_stopped.Reads as is-stopped-reads
 use Rattle.quadtree_cells.proofs.candidates.narrow.Reads as narrow-reads
 use Rattle.quadtree_cells.proofs.leaves.put_leaf.Reads as put-leaf-reads

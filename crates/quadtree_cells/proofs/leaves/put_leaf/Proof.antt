@@ -1,51 +1,45 @@
-use mathlib.Core.Path.{refl}
+use mathlib.Core.Path.{_≡_, refl}
+use Prim.Native.Nat.{_-_, max}
 use native.Mathlib.Omega.{arith}
-use Rattle.quadtree_cells.proofs.LeafLaws.{cell-length}
 use borrow.Author.Needs.{needs}
+use lib.ListN.{length}
+use Rattle.spec_charts.specs.Cells.{orMark}
+use Rattle.theory_lists.specs.Lists.{part}
+use Rattle.quadtree_cells.proofs.LeafLaws.{cell-length}
 use Rattle.quadtree_cells.proofs.leaves.put_leaf.Statement.{statement}
 use Rattle.quadtree_cells.proofs.leaves.put_leaf.Tie as tie
 
-sub-if1 : tie.Need-sub-if1
-sub-if1 c = search needs
-
-entry-count-requires : tie.Need-entry-count-requires
-entry-count-requires c κs = search needs
-
-add-result : tie.Need-add-result
-add-result c = omega arith
+-- how many entries the cell has
+count : (top : tie.Start) → let a = top .args in length (orMark (part (a .from) (a .to) (a .stack .now))) ≡ max 1 (a .to - a .from)
+count top = let a = top .args in cell-length (a .from) (a .to) (a .stack .now) (search needs)
 
 returns : tie.Need-returns
 returns c =
     let entry-count : tie.After-entry-count = search needs in
     let top : tie.Start = search needs in
-    let a = top .args in
-    let e = cell-length (a .from) (a .to) (a .stack .now) (top .pre .0 .1) in
-    let m = entry-count .entry-count .ensures in
-    (λ h. absurd (omega arith), λ h. refl)
+    (λ h. absurd (omega (arith, count top, entry-count .entry-count .ensures)), λ h. refl)
 
 put-cell-requires : tie.Need-put-cell-requires
 put-cell-requires c κs =
     let entry-count : tie.After-entry-count = search needs in
     let top : tie.Start = search needs in
-    let a = top .args in
-    let e = cell-length (a .from) (a .to) (a .stack .now) (top .pre .0 .1) in
-    let m = entry-count .entry-count .ensures in
-    omega arith
-
-same-length : tie.Need-same-length
-same-length c = search needs
+    omega (arith, count top, entry-count .entry-count .ensures)
 
 returns-2 : tie.Need-returns-2
 returns-2 c =
     let put-cell : tie.After-put-cell = search needs in
     let entry-count : tie.After-entry-count = search needs in
     let top : tie.Start = search needs in
-    let a = top .args in
-    let e = cell-length (a .from) (a .to) (a .stack .now) (top .pre .0 .1) in
-    let m = entry-count .entry-count .ensures in
-    (λ h. (put-cell .put-cell .ensures .1, put-cell .put-cell .ensures .0), λ h. absurd (omega arith))
+    (λ h. (put-cell .put-cell .ensures .1, put-cell .put-cell .ensures .0), λ h. absurd (omega (arith, count top, entry-count .entry-count .ensures)))
 
 pub put-leaf-spec : {M : Type 1} → statement M
 put-leaf-spec =
     tie.close
-    (tie.spec sub-if1 entry-count-requires add-result returns put-cell-requires same-length returns-2)
+    (tie.spec
+    (λ c. search needs)
+    (λ c κs. search needs)
+    (λ c. search needs)
+    returns
+    put-cell-requires
+    (λ c. search needs)
+    returns-2)

@@ -3,7 +3,7 @@
 use mathlib.Core.Path.{_≡_, refl, ap₂}
 use mathlib.Core.List.{List, [], _∷_, map}
 use mathlib.Core.Logic.{_⊎_, inl, inr}
-use Prim.Native.Nat.{ℕ, _+_, _*_, _/_, _%_, _≤_, _<_}
+use Prim.Native.Nat.{ℕ, _+_, _≤_, _<_}
 use native.Mathlib.Omega.{arith}
 use lib.ListN.{length}
 use Rattle.theory_lists.proofs.ListsLaws.{Every, every-uncons}
@@ -13,15 +13,14 @@ use Rattle.spec_charts.specs.Table.{tableOf, maxTriangles}
 use Rattle.spec_charts.specs.Cells.{entriesOf}
 use Rattle.laws_charts.proofs.ChainOfTable.{entries-bounds}
 use Rattle.laws_charts.proofs.TableLaws.{tableOf-length}
-use Rattle.quadtree_cells.specs.Packed.{packed}
-use Rattle.quadtree_cells.specs.Packed.{keyOf, levelOf, itemOf}
+use Rattle.base_entries.specs.Packed.{levelWeight, levelPlaces, headOf, packed, keyOf, levelOf, itemOf}
 
 -- level and item are within their places of a packed entry
 pub record Packable (e : Entry) : Type 0 where
-  pub level : e .level < 256
-  pub item : e .item < 65536
+  pub level : e .level < levelPlaces
+  pub item : e .item < levelWeight
 
-small-item : (count i : ℕ) → count ≤ maxTriangles → (i < count) ⊎ (i ≡ emptyMark) → i < 65536
+small-item : (count i : ℕ) → count ≤ maxTriangles → (i < count) ⊎ (i ≡ emptyMark) → i < levelWeight
 unfolding emptyMark
 small-item count i h (inl l) = omega arith
 small-item count i h (inr e) = omega arith
@@ -36,14 +35,15 @@ entries-packable ns n h =
 
 -- ---- the parts of a packed entry
 
-key-number : (k l i : ℕ) → l < 256 → i < 65536 → (k * 4294967296 + l * 65536 + i) / 4294967296 ≡ k
-key-number k l i a b = omega arith
+module _ (k l i : ℕ) (a : l < levelPlaces) (b : i < levelWeight) where
+  key-number : keyOf (headOf k l + i) ≡ k
+  key-number = omega arith
 
-level-number : (k l i : ℕ) → l < 256 → i < 65536 → (k * 4294967296 + l * 65536 + i) / 65536 % 256 ≡ l
-level-number k l i a b = omega arith
+  level-number : levelOf (headOf k l + i) ≡ l
+  level-number = omega arith
 
-item-number : (k l i : ℕ) → l < 256 → i < 65536 → (k * 4294967296 + l * 65536 + i) % 65536 ≡ i
-item-number k l i a b = omega arith
+  item-number : itemOf (headOf k l + i) ≡ i
+  item-number = omega arith
 
 -- a function that gives back a part of each packed entry gives back those of a list
 map-packed : (g : ℕ → ℕ) (f : Entry → ℕ) → ((e : Entry) → Packable e → g (packed e) ≡ f e)
@@ -66,8 +66,8 @@ module _ (es : List Entry) (p : Every (λ e. Packable e) es) where
 
 -- ---- packable entries with equal numbers are equal
 
-same-parts : (k l i m n j : ℕ) → l < 256 → i < 65536 → n < 256 → j < 65536
-    → k * 4294967296 + l * 65536 + i ≡ m * 4294967296 + n * 65536 + j → (k ≡ m) × ((l ≡ n) × (i ≡ j))
+same-parts : (k l i m n j : ℕ) → l < levelPlaces → i < levelWeight → n < levelPlaces → j < levelWeight
+    → headOf k l + i ≡ headOf m n + j → (k ≡ m) × ((l ≡ n) × (i ≡ j))
 same-parts k l i m n j a b c d e = (omega arith, (omega arith, omega arith))
 
 pub packed-injective : (e f : Entry) → Packable e → Packable f → packed e ≡ packed f → e ≡ f

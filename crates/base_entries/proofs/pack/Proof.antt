@@ -1,8 +1,8 @@
 use mathlib.Core.Path.{refl}
 use borrow.Author.Needs.{needs}
-use Rattle.quadtree_cells.specs.Packed.{packed}
-use Rattle.chart_judge.proofs.entry_checks.pack.Statement.{statement}
-use Rattle.chart_judge.proofs.entry_checks.pack.Tie as tie
+use Rattle.base_entries.specs.Packed.{packed}
+use Rattle.base_entries.proofs.pack.Statement.{statement}
+use Rattle.base_entries.proofs.pack.Tie as tie
 
 returns : tie.Need-returns
 unfolding packed

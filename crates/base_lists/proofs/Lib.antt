@@ -1,0 +1,3 @@
+pub mod ZeroLaws
+pub mod CopyLaws
+pub mod PaddedLaws
