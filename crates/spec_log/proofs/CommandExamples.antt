@@ -15,7 +15,7 @@ use Rattle.spec_charts.specs.Overlay.{Pair}
 use Rattle.spec_charts.proofs.Written.{at}
 use Rattle.spec_charts.proofs.RefusalsExamples.{rows}
 use Rattle.spec_charts.proofs.EditExamples.{tri}
-use Rattle.spec_log.specs.Log.{State, startState, tableIn, withChart, withWaiting, refusalNumbers, eventNumbers, eventStep, waitStep, loadStep, foundNumber, locateStep, overlayLines, overlayStep, runCommand, stepOf, line, badLine, logFrom}
+use Rattle.spec_log.specs.Log.{State, startState, tableIn, withChart, withWaiting, refusalNumbers, eventNumbers, eventStep, waitStep, loadStep, locatedNumbers, locateStep, overlayLines, overlayStep, runCommand, stepOf, line, badLine, logFrom}
 use Rattle.spec_log.proofs.Evaluate.{evaluate}
 
 -- the state of two charts and a waiting table
@@ -104,9 +104,11 @@ load-any-example : (c : ℕ) (s : State) → loadStep c s ≡ eventStep 2 c (eve
 unfolding loadStep
 load-any-example c s = refl
 
-found-example : map (λ o. foundNumber o) (none ∷ some 0 ∷ some 40031 ∷ some 5000000031 ∷ []) ≡ 65535 ∷ 0 ∷ 40031 ∷ 5000000031 ∷ []
+-- a triangle alone, or 65535 alone
+located-numbers-example : map (λ o. locatedNumbers o) (none ∷ some 0 ∷ some 40031 ∷ some 5000000031 ∷ [])
+    ≡ (65535 ∷ []) ∷ (0 ∷ []) ∷ (40031 ∷ []) ∷ (5000000031 ∷ []) ∷ []
 unfolding evaluate
-found-example = refl
+located-numbers-example = refl
 
 -- (60000,1000) is in triangle 1 of chart 0 and nowhere in chart 1; (1000,60000) is in triangle 0 of both
 abbrev low : Triangle
