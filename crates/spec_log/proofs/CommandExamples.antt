@@ -159,20 +159,20 @@ overlay-step-example ns = refl
 
 -- each command with its operands, on any state: whole numbers, of whatever size
 run-example : (c : ℕ) (s : State)
-    → runCommand 1 c (5000000003 ∷ 60005 ∷ 7000000007 ∷ []) s
-    ∷ runCommand 2 c (5000000003 ∷ 60005 ∷ 7000000007 ∷ []) s
-    ∷ runCommand 3 c (5000000003 ∷ 60005 ∷ 7000000007 ∷ []) s
-    ∷ runCommand 4 c (5000000003 ∷ 60005 ∷ 7000000007 ∷ []) s
-    ∷ runCommand 5 c (5000000003 ∷ 60005 ∷ 7000000007 ∷ []) s
-    ∷ runCommand 6 c (5000000003 ∷ 60005 ∷ 7000000007 ∷ []) s
-    ∷ runCommand 7 c (5000000003 ∷ 60005 ∷ 7000000007 ∷ []) s
+    → runCommand 1 c (5000000003 ∷ 6000000005 ∷ 7000000007 ∷ []) s
+    ∷ runCommand 2 c (5000000003 ∷ 6000000005 ∷ 7000000007 ∷ []) s
+    ∷ runCommand 3 c (5000000003 ∷ 6000000005 ∷ 7000000007 ∷ []) s
+    ∷ runCommand 4 c (5000000003 ∷ 6000000005 ∷ 7000000007 ∷ []) s
+    ∷ runCommand 5 c (5000000003 ∷ 6000000005 ∷ 7000000007 ∷ []) s
+    ∷ runCommand 6 c (5000000003 ∷ 6000000005 ∷ 7000000007 ∷ []) s
+    ∷ runCommand 7 c (5000000003 ∷ 6000000005 ∷ 7000000007 ∷ []) s
     ∷ []
-    ≡ waitStep (5000000003 ∷ 60005 ∷ 7000000007 ∷ []) s
+    ≡ waitStep (5000000003 ∷ 6000000005 ∷ 7000000007 ∷ []) s
     ∷ loadStep c s
-    ∷ eventStep 3 c (eventOn (split 5000000003 (at 60005 7000000007)) (tableIn c s)) s
-    ∷ eventStep 4 c (eventOn (takeOut (at 5000000003 60005)) (tableIn c s)) s
-    ∷ eventStep 5 c (eventOn (flip 5000000003 60005) (tableIn c s)) s
-    ∷ locateStep c (at 5000000003 60005) s
+    ∷ eventStep 3 c (eventOn (split 5000000003 (at 6000000005 7000000007)) (tableIn c s)) s
+    ∷ eventStep 4 c (eventOn (takeOut (at 5000000003 6000000005)) (tableIn c s)) s
+    ∷ eventStep 5 c (eventOn (flip 5000000003 6000000005) (tableIn c s)) s
+    ∷ locateStep c (at 5000000003 6000000005) s
     ∷ overlayStep s
     ∷ []
 unfolding evaluate
@@ -220,10 +220,12 @@ step-example s = refl
 
 -- Streams
 
--- no more commands; no more bytes; an overlay and a bad byte one further; the state goes on to the next command
+-- no more commands; no more bytes; 2^32 + 7, which is no command; an overlay and a bad byte one further; the state goes on to the
+-- next command
 log-from-example : (s : State)
     → logFrom 0 20 s (9 ∷ [])
     ∷ logFrom 3 20 s []
+    ∷ logFrom 3 20 s (4294967303 ∷ [])
     ∷ logFrom 3 70000 s (7 ∷ 9 ∷ 7 ∷ [])
     ∷ logFrom 4294967297 5000000000 s (7 ∷ 9 ∷ 7 ∷ [])
     ∷ logFrom 1 20 s (7 ∷ 9 ∷ [])
@@ -231,6 +233,7 @@ log-from-example : (s : State)
     ∷ []
     ≡ []
     ∷ []
+    ∷ badLine 20
     ∷ (overlayStep s .printed ++ badLine 70001)
     ∷ (overlayStep s .printed ++ badLine 5000000001)
     ∷ (overlayStep s .printed ++ [])

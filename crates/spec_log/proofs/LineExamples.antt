@@ -11,8 +11,16 @@ use Rattle.spec_log.proofs.Evaluate.{evaluate}
 
 -- Lines
 
--- the last digit alone; 7; 10; the last two of 70345
-digits-example : digits 0 5 ∷ digits 0 70019 ∷ digits 3 7 ∷ digits 3 10 ∷ digits 1 70345 ∷ [] ≡ (53 ∷ []) ∷ (57 ∷ []) ∷ (55 ∷ []) ∷ (49 ∷ 48 ∷ []) ∷ (52 ∷ 53 ∷ []) ∷ []
+-- the last digit alone; 7; 10; the last two of larger numbers
+digits-example :
+    digits 0 5
+    ∷ digits 0 5000012349
+    ∷ digits 3 7
+    ∷ digits 3 10
+    ∷ digits 1 5000012345
+    ∷ digits 1 4294967301
+    ∷ []
+    ≡ (53 ∷ []) ∷ (57 ∷ []) ∷ (55 ∷ []) ∷ (49 ∷ 48 ∷ []) ∷ (52 ∷ 53 ∷ []) ∷ (48 ∷ 49 ∷ []) ∷ []
 unfolding evaluate
 digits-example = refl
 
