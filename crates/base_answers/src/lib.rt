@@ -1,37 +1,20 @@
 // What the public calls answer. Document 01's number and value for each case are definitions in specs/, and functions here.
 
+use spec_charts::Refusal;
 ghost use mathlib.Core.Path.{_≡_};
 ghost use mathlib.Core.Bool.{false};
-ghost use Rattle.spec_charts.specs.Refusals.{outcomeNumber, outcomeValue, doneOr};
-ghost use Rattle.base_answers.specs.Outcomes.{changeOutcome, locatedOutcome, soundnessOutcome, areaOutcome, overlayOutcome};
+ghost use Rattle.spec_charts.specs.Refusals.{rowOf, outcomeNumber, outcomeValue, doneOr};
+ghost use Rattle.base_answers.specs.Outcomes.{verdictOutcome, locatedOutcome, soundnessOutcome, areaOutcome};
 
-// What judging a chart before a call finds.
-pub enum Judged {
-    Fine,
-    ShortBuffer,
-    BrokenChain,
-    StaleEntries,
+// How judging a chart, a load, an edit or an overlay went.
+pub enum Verdict {
+    Accepted,
+    Refused(Refusal),
 }
 
-// How a load or an edit went.
-pub enum Change {
-    Done,
-    ShortBuffer,
-    BrokenChain,
-    StaleEntries,
-    BadLength,
-    FaultyTriangle(usize),
-    NoSuchTriangle,
-    NotInside,
-    NotThreeAround,
-    NoFlip,
-    TableFull,
-    TooManyEntries,
-}
-
-// That, and the chart's counts after it.
+// A load or an edit: how it went, and the chart's counts after it.
 pub struct Changed {
-    pub change: Change,
+    pub verdict: Verdict,
     pub triangles: usize,
     pub entries: usize,
 }
@@ -40,146 +23,138 @@ pub struct Changed {
 pub enum Located {
     At(u16),
     Nowhere,
-    ShortBuffer,
-    BrokenChain,
+    Refused(Refusal),
 }
 
 // Whether no two triangles have a common interior point.
 pub enum Soundness {
     Sound,
     Unsound,
-    ShortBuffer,
-    BrokenChain,
+    Refused(Refusal),
 }
 
 // The doubled area of a table.
 pub enum Area {
     Sum(u64),
-    ShortBuffer,
-    BrokenChain,
+    Refused(Refusal),
 }
 
-// How an overlay went.
-pub enum Overlay {
-    Done,
-    ShortBuffer,
-    BrokenChain,
-    TooManyPairs,
-}
-
-// That, the pairs listed and the meetings.
+// An overlay: how it went, the pairs listed and the meetings.
 pub struct Overlaid {
-    pub overlay: Overlay,
+    pub verdict: Verdict,
     pub pairs: usize,
     pub meetings: usize,
 }
 
-// The number of a load or an edit.
-pub fn change_number(c: Change) -> u32
-    ensures { λ r. ⌜ r ≡ outcomeNumber (changeOutcome c) ⌝ }
+// The number of a refusal in document 01's table.
+pub fn refusal_number(r: Refusal) -> u32
+    ensures { λ n. ⌜ n ≡ rowOf r .number ⌝ }
 {
-    match c {
-        Change::Done => 0,
-        Change::ShortBuffer => 1,
-        Change::BrokenChain => 2,
-        Change::StaleEntries => 3,
-        Change::BadLength => 4,
-        Change::FaultyTriangle(_) => 5,
-        Change::NoSuchTriangle => 6,
-        Change::NotInside => 7,
-        Change::NotThreeAround => 8,
-        Change::NoFlip => 9,
-        Change::TableFull => 10,
-        Change::TooManyEntries => 11,
+    match r {
+        Refusal::ShortBuffer => 1,
+        Refusal::BrokenChain => 2,
+        Refusal::StaleEntries => 3,
+        Refusal::BadLength => 4,
+        Refusal::FaultyTriangle(_) => 5,
+        Refusal::NoSuchTriangle => 6,
+        Refusal::NotInside => 7,
+        Refusal::NotThreeAround => 8,
+        Refusal::NoFlip => 9,
+        Refusal::TableFull => 10,
+        Refusal::TooManyEntries => 11,
+        Refusal::TooManyPairs => 12,
+    }
+}
+
+// The number beside it: the triangle of refusal 5, else 0.
+pub fn refusal_value(r: Refusal) -> usize
+    ensures { λ n. ⌜ n ≡ rowOf r .value ⌝ }
+{
+    match r {
+        Refusal::ShortBuffer => 0,
+        Refusal::BrokenChain => 0,
+        Refusal::StaleEntries => 0,
+        Refusal::BadLength => 0,
+        Refusal::FaultyTriangle(i) => i,
+        Refusal::NoSuchTriangle => 0,
+        Refusal::NotInside => 0,
+        Refusal::NotThreeAround => 0,
+        Refusal::NoFlip => 0,
+        Refusal::TableFull => 0,
+        Refusal::TooManyEntries => 0,
+        Refusal::TooManyPairs => 0,
+    }
+}
+
+// The number of a load, an edit or an overlay.
+pub fn verdict_number(v: Verdict) -> u32
+    ensures { λ n. ⌜ n ≡ outcomeNumber (verdictOutcome v) ⌝ }
+{
+    match v {
+        Verdict::Accepted => 0,
+        Verdict::Refused(r) => refusal_number(r),
     }
 }
 
 // Its value: the triangle of refusal 5, else 0.
-pub fn change_value(c: Change) -> usize
-    ensures { λ r. ⌜ r ≡ outcomeValue (changeOutcome c) ⌝ }
+pub fn verdict_value(v: Verdict) -> usize
+    ensures { λ n. ⌜ n ≡ outcomeValue (verdictOutcome v) ⌝ }
 {
-    match c {
-        Change::Done => 0,
-        Change::ShortBuffer => 0,
-        Change::BrokenChain => 0,
-        Change::StaleEntries => 0,
-        Change::BadLength => 0,
-        Change::FaultyTriangle(i) => i,
-        Change::NoSuchTriangle => 0,
-        Change::NotInside => 0,
-        Change::NotThreeAround => 0,
-        Change::NoFlip => 0,
-        Change::TableFull => 0,
-        Change::TooManyEntries => 0,
+    match v {
+        Verdict::Accepted => 0,
+        Verdict::Refused(r) => refusal_value(r),
     }
 }
 
 // The number of a locate.
 pub fn located_number(l: Located) -> u32
-    ensures { λ r. ⌜ r ≡ outcomeNumber (locatedOutcome l) ⌝ }
+    ensures { λ n. ⌜ n ≡ outcomeNumber (locatedOutcome l) ⌝ }
 {
     match l {
         Located::At(_) => 0,
         Located::Nowhere => 0,
-        Located::ShortBuffer => 1,
-        Located::BrokenChain => 2,
+        Located::Refused(r) => refusal_number(r),
     }
 }
 
 // The number of a soundness.
 pub fn soundness_number(s: Soundness) -> u32
-    ensures { λ r. ⌜ r ≡ outcomeNumber (soundnessOutcome s) ⌝ }
+    ensures { λ n. ⌜ n ≡ outcomeNumber (soundnessOutcome s) ⌝ }
 {
     match s {
         Soundness::Sound => 0,
         Soundness::Unsound => 0,
-        Soundness::ShortBuffer => 1,
-        Soundness::BrokenChain => 2,
+        Soundness::Refused(r) => refusal_number(r),
     }
 }
 
 // Its verdict; "soundness is no" at a refusal.
 pub fn is_sound(s: Soundness) -> bool
-    ensures { λ r. ⌜ r ≡ doneOr false (soundnessOutcome s) ⌝ }
+    ensures { λ b. ⌜ b ≡ doneOr false (soundnessOutcome s) ⌝ }
 {
     match s {
         Soundness::Sound => true,
         Soundness::Unsound => false,
-        Soundness::ShortBuffer => false,
-        Soundness::BrokenChain => false,
+        Soundness::Refused(_) => false,
     }
 }
 
 // The number of a doubled area.
 pub fn area_number(a: Area) -> u32
-    ensures { λ r. ⌜ r ≡ outcomeNumber (areaOutcome a) ⌝ }
+    ensures { λ n. ⌜ n ≡ outcomeNumber (areaOutcome a) ⌝ }
 {
     match a {
         Area::Sum(_) => 0,
-        Area::ShortBuffer => 1,
-        Area::BrokenChain => 2,
+        Area::Refused(r) => refusal_number(r),
     }
 }
 
 // Its sum, or 0 at a refusal.
 pub fn area_value(a: Area) -> u64
-    ensures { λ r. ⌜ r ≡ doneOr 0 (areaOutcome a) ⌝ }
+    ensures { λ n. ⌜ n ≡ doneOr 0 (areaOutcome a) ⌝ }
 {
     match a {
         Area::Sum(n) => n,
-        Area::ShortBuffer => 0,
-        Area::BrokenChain => 0,
-    }
-}
-
-// The number of an overlay.
-pub fn overlay_number(o: Overlay) -> u32
-    ensures { λ r. ⌜ r ≡ outcomeNumber (overlayOutcome o) ⌝ }
-{
-    match o {
-        Overlay::Done => 0,
-        Overlay::ShortBuffer => 1,
-        Overlay::BrokenChain => 2,
-        Overlay::TooManyPairs => 12,
+        Area::Refused(_) => 0,
     }
 }

@@ -16,7 +16,9 @@ use Rattle.spec_plane.specs.declared.Point.{Point}
 use Rattle.spec_plane.specs.Triangle.{Triangle, proper}
 use Rattle.spec_charts.specs.Table.{Table, numbered, maxTriangles}
 use Rattle.spec_charts.specs.Cells.{entriesOf, maxEntries}
-use Rattle.spec_charts.specs.Refusals.{Refusal, shortBuffer, brokenChain, staleEntries, noSuchTriangle, notInside, notThreeAround, noFlip, tableFull, tooManyEntries, Outcome, refused, done, refuseIf, andThen, outcomeNumber}
+use Rattle.spec_charts.specs.declared.Refusal.{Refusal}
+use Rattle.spec_charts.specs.declared.Refusal.the-variants.{ShortBuffer, BrokenChain, StaleEntries, NoSuchTriangle, NotInside, NotThreeAround, NoFlip, TableFull, TooManyEntries}
+use Rattle.spec_charts.specs.Refusals.{Outcome, refused, done, refuseIf, andThen, outcomeNumber}
 use Rattle.spec_charts.specs.Edits.{triangle, rotations, sharesSide, hasCorner, closesRound, mergeAround, splitAt, splitTable, mergeThree, takeOutThree, takeOutTable, flipAs, flipWith, flipAmong, flipTable, limited, withinLimit}
 use Rattle.laws_charts.proofs.OutcomeLaws.{refused-done, done-same, refuseIf-done}
 use Rattle.laws_charts.proofs.TableLaws.{tableOf-length}
@@ -39,7 +41,6 @@ abbrev Told : Outcome Table → Type 0
 Told o = outcomeNumber o ≡ 0 → (t : Table) × (o ≡ done t)
 
 told-refused : (r : Refusal) → 0 < r .number → Told (refused r)
-unfolding outcomeNumber
 told-refused r p z = absurd (omega arith)
 
 told-done : (t : Table) → Told (done t)
@@ -58,12 +59,12 @@ told-limit (refused r) t = t′
   where
     t′ : Told (refused r)
     t′ z = absurd (refused-done (t z .1))
-told-limit (done u) t = told-row (ltb maxEntries (length (entriesOf u))) tooManyEntries (done u) (omega arith) (told-done u)
+told-limit (done u) t = told-row (ltb maxEntries (length (entriesOf u))) TooManyEntries (done u) (omega arith) (told-done u)
 
 split-told : (i : ℕ) (p : Point) (table : Table) → Told (splitTable i p table)
 unfolding splitTable
 split-told i p table =
-    told-row _ noSuchTriangle _ (omega arith) (told-row _ notInside _ (omega arith) (told-row _ tableFull _ (omega arith) (told-done _)))
+    told-row _ NoSuchTriangle _ (omega arith) (told-row _ NotInside _ (omega arith) (told-row _ TableFull _ (omega arith) (told-done _)))
 
 merge-told : (table : Table) (i j k : ℕ) (t u v : Triangle) → Told (mergeThree table i j k t u v)
 unfolding mergeThree
@@ -72,37 +73,37 @@ merge-told table i j k t u v = go (closesRound t u v) (closesRound t v u)
     go : (y z : Bool)
         → Told (elim y [
           | true ↦ done (mergeAround table i j k (triangle (t .a) (t .b) (u .b)))
-          | false ↦ elim z [ true ↦ done (mergeAround table i j k (triangle (t .a) (t .b) (v .b))) | false ↦ refused notThreeAround ]
+          | false ↦ elim z [ true ↦ done (mergeAround table i j k (triangle (t .a) (t .b) (v .b))) | false ↦ refused NotThreeAround ]
         ])
     go true z = told-done _
     go false true = told-done _
-    go false false = told-refused notThreeAround (omega arith)
+    go false false = told-refused NotThreeAround (omega arith)
 
 takeOut-told : (p : Point) (table : Table) → Told (takeOutTable p table)
 unfolding takeOutTable takeOutThree
 takeOut-told p table = go (placesFrom (λ t. hasCorner p t) 0 table)
   where
     go : (is : List ℕ) → Told (takeOutThree p table is)
-    go [] = told-refused notThreeAround (omega arith)
-    go (i ∷ []) = told-refused notThreeAround (omega arith)
-    go (i ∷ j ∷ []) = told-refused notThreeAround (omega arith)
+    go [] = told-refused NotThreeAround (omega arith)
+    go (i ∷ []) = told-refused NotThreeAround (omega arith)
+    go (i ∷ j ∷ []) = told-refused NotThreeAround (omega arith)
     go (i ∷ j ∷ k ∷ []) = merge-told table i j k _ _ _
-    go (i ∷ j ∷ k ∷ l ∷ is) = told-refused notThreeAround (omega arith)
+    go (i ∷ j ∷ k ∷ l ∷ is) = told-refused NotThreeAround (omega arith)
 
 module _ (table : Table) (i j : ℕ) where
   with-told : (t : Triangle) (o : Option Triangle) (other : Outcome Table) → Told other → Told (flipWith table i j t o other)
   unfolding flipWith flipAs
   with-told t none other h = h
-  with-told t (some u) other h = told-row _ noFlip _ (omega arith) (told-done _)
+  with-told t (some u) other h = told-row _ NoFlip _ (omega arith) (told-done _)
 
   among-told : (us ts : List Triangle) → Told (flipAmong table i j us ts)
   unfolding flipAmong
-  among-told us [] = told-refused noFlip (omega arith)
+  among-told us [] = told-refused NoFlip (omega arith)
   among-told us (t ∷ ts) = with-told t (first (λ u. sharesSide t u) us) (flipAmong table i j us ts) (among-told us ts)
 
   flip-told : Told (flipTable i j table)
   unfolding flipTable
-  flip-told = told-row _ noSuchTriangle _ (omega arith) (among-told (rotations (numbered table j)) (rotations (numbered table i)))
+  flip-told = told-row _ NoSuchTriangle _ (omega arith) (among-told (rotations (numbered table j)) (rotations (numbered table i)))
 
 edit-told : (e : Edit) (table : Table) → Told (tableEdit e table)
 edit-told (Split i p) table = split-told i p table
@@ -126,7 +127,7 @@ limit-done : (o : Outcome Table) (u : Table) → andThen o (λ t. withinLimit t)
 unfolding andThen withinLimit limited
 limit-done (refused r) u e = absurd (refused-done e)
 limit-done (done t) u e =
-    let f = refuseIf-done (ltb maxEntries (length (entriesOf t))) tooManyEntries e in
+    let f = refuseIf-done (ltb maxEntries (length (entriesOf t))) TooManyEntries e in
     let small : maxEntries < length (entriesOf t) → ⊥ = λ l. f .0 (lt→ltb maxEntries (length (entriesOf t)) l) in
     (f .1, subst (λ v. length (entriesOf v) ≤ maxEntries) (done-same (f .1)) (omega arith))
 
@@ -139,16 +140,16 @@ module _ (e : Edit) (c : Chart) where
   outcome-told : Told outcome
   unfolding outcome ifIndexed ifChained ifLong
   outcome-told =
-      told-row (tooShort c) shortBuffer _ (omega arith) (told-row (not (chainRule c)) brokenChain _ (omega arith)
-      (told-row (not (indexed c)) staleEntries _ (omega arith) (told-limit _ (edit-told e (chartTable c)))))
+      told-row (tooShort c) ShortBuffer _ (omega arith) (told-row (not (chainRule c)) BrokenChain _ (omega arith)
+      (told-row (not (indexed c)) StaleEntries _ (omega arith) (told-limit _ (edit-told e (chartTable c)))))
 
   -- the chart that it leaves
   left-editable : (u : Table) → outcome ≡ done u → Editable (changedBy c outcome .chart)
   unfolding outcome changedBy ifIndexed ifChained ifLong chartTable
   left-editable u d =
-      let f = refuseIf-done (tooShort c) shortBuffer d in
-      let g = refuseIf-done (not (chainRule c)) brokenChain (f .1) in
-      let h = refuseIf-done (not (indexed c)) staleEntries (g .1) in
+      let f = refuseIf-done (tooShort c) ShortBuffer d in
+      let g = refuseIf-done (not (chainRule c)) BrokenChain (f .1) in
+      let h = refuseIf-done (not (indexed c)) StaleEntries (g .1) in
       let l = limit-done (tableEdit e (chartTable c)) u (h .1) in
       let r = ruled c (chained (chainRule c) (g .0)) in
       let triangles = r .triangles in

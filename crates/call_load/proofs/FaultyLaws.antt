@@ -12,7 +12,8 @@ use Rattle.theory_lists.specs.Lists.{all, placesFrom, runLength}
 use Rattle.theory_lists.proofs.Runs.{run-unique}
 use Rattle.spec_plane.specs.Triangle.{proper}
 use Rattle.spec_charts.specs.Table.{Table, tableOf, triangleAt, numbered, noTriangle}
-use Rattle.spec_charts.specs.Refusals.{refused, done, faultyTriangle}
+use Rattle.spec_charts.specs.declared.Refusal.the-variants.{FaultyTriangle}
+use Rattle.spec_charts.specs.Refusals.{refused, done}
 use Rattle.spec_charts.specs.Edits.{faulty, refuseFaulty}
 use Rattle.laws_charts.proofs.TableLaws.{numbered-at, tableOf-length}
 use Rattle.call_load.specs.Faulty.{firstFaulty}
@@ -53,15 +54,15 @@ refuse-none k (s ∷ t) u h =
     none-choice (proper s) k (placesFrom (λ s. not (proper s)) (suc k) t) u h (refuse-none (suc k) t u)
 
 some-choice : (b : Bool) (k m n : ℕ) (is : List ℕ) (u : Table) → elim b [ true ↦ suc m | false ↦ 0 ] < suc n
-    → (m < n → refuseFaulty is u ≡ refused (faultyTriangle (suc k + m)))
-    → refuseFaulty (elim (not b) [ true ↦ k ∷ is | false ↦ is ]) u ≡ refused (faultyTriangle (k + elim b [ true ↦ suc m | false ↦ 0 ]))
+    → (m < n → refuseFaulty is u ≡ refused (FaultyTriangle (suc k + m)))
+    → refuseFaulty (elim (not b) [ true ↦ k ∷ is | false ↦ is ]) u ≡ refused (FaultyTriangle (k + elim b [ true ↦ suc m | false ↦ 0 ]))
 unfolding refuseFaulty
-some-choice true k m n is u h f = f (omega arith) ∙ ap (λ i. refused (faultyTriangle i)) (omega arith)
-some-choice false k m n is u h f = ap (λ i. refused (faultyTriangle i)) (sym (add-zero k))
+some-choice true k m n is u h f = f (omega arith) ∙ ap (λ i. refused (FaultyTriangle i)) (omega arith)
+some-choice false k m n is u h f = ap (λ i. refused (FaultyTriangle i)) (sym (add-zero k))
 
 -- refusal 5 with the lowest place, where the first triangle has place k
 refuse-some : (k : ℕ) (t u : Table) → firstFaulty t < length t
-    → refuseFaulty (placesFrom (λ s. not (proper s)) k t) u ≡ refused (faultyTriangle (k + firstFaulty t))
+    → refuseFaulty (placesFrom (λ s. not (proper s)) k t) u ≡ refused (FaultyTriangle (k + firstFaulty t))
 unfolding runLength placesFrom refuseFaulty
 refuse-some k [] u h = absurd (omega arith)
 refuse-some k (s ∷ t) u h =
@@ -73,6 +74,6 @@ unfolding faulty
 faulty-done t h = refuse-none 0 t t (faulty-none t h)
 
 -- the search ends before: refusal 5 with that triangle
-pub faulty-refused : (t : Table) → firstFaulty t < length t → refuseFaulty (faulty t) t ≡ refused (faultyTriangle (firstFaulty t))
+pub faulty-refused : (t : Table) → firstFaulty t < length t → refuseFaulty (faulty t) t ≡ refused (FaultyTriangle (firstFaulty t))
 unfolding faulty
-faulty-refused t h = refuse-some 0 t t h ∙ ap (λ i. refused (faultyTriangle i)) (zero-add (firstFaulty t))
+faulty-refused t h = refuse-some 0 t t h ∙ ap (λ i. refused (FaultyTriangle i)) (zero-add (firstFaulty t))

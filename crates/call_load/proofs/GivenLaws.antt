@@ -14,7 +14,9 @@ use Rattle.theory_lists.specs.Lists.{all}
 use Rattle.theory_lists.proofs.Reflects.{or-neither}
 use Rattle.spec_plane.specs.Triangle.{proper}
 use Rattle.spec_charts.specs.Table.{numbersPerTriangle, tableLength}
-use Rattle.spec_charts.specs.Refusals.{Refusal, badLength, faultyTriangle, Outcome, refused, done, refuseIf, andThen}
+use Rattle.spec_charts.specs.declared.Refusal.{Refusal}
+use Rattle.spec_charts.specs.declared.Refusal.the-variants.{BadLength, FaultyTriangle}
+use Rattle.spec_charts.specs.Refusals.{Outcome, refused, done, refuseIf, andThen}
 use Rattle.spec_charts.specs.Edits.{loadTable, givenTable}
 use Rattle.laws_charts.proofs.OutcomeLaws.{refused-done}
 use Rattle.laws_charts.proofs.TableLaws.{tableOf-length}
@@ -35,7 +37,7 @@ module _ (ns : List ℕ) where
   given-count = tableOf-length ns (length ns / numbersPerTriangle)
 
   -- refusal 4
-  pub given-length : lengthTest ns ≡ true → loadTable ns ≡ refused badLength
+  pub given-length : lengthTest ns ≡ true → loadTable ns ≡ refused BadLength
   unfolding loadTable refuseIf
   given-length b = rw b
 
@@ -45,7 +47,7 @@ module _ (ns : List ℕ) where
     given-few = ltb-false tableLength (length ns) (or-neither (not (eqb (length ns % numbersPerTriangle) 0)) (ltb tableLength (length ns)) b .1)
 
     -- refusal 5
-    pub given-faulty : firstFaulty (givenTable ns) < length ns / numbersPerTriangle → loadTable ns ≡ refused (faultyTriangle (firstFaulty (givenTable ns)))
+    pub given-faulty : firstFaulty (givenTable ns) < length ns / numbersPerTriangle → loadTable ns ≡ refused (FaultyTriangle (firstFaulty (givenTable ns)))
     unfolding loadTable refuseIf
     given-faulty h = rw (b, faulty-refused (givenTable ns) (omega (arith, given-count)))
 
@@ -76,8 +78,8 @@ module _ (ns : List ℕ) (e : done true ≡ judgedGiven ns) where
   given-accepted = whole (lengthTest ns) refl
     where
       whole : (b : Bool) → lengthTest ns ≡ b → Accepted ns
-      whole true b = absurd (not-refused badLength (given-length ns b))
+      whole true b = absurd (not-refused BadLength (given-length ns b))
       whole false b = elim (decLe (length ns / numbersPerTriangle) (firstFaulty (givenTable ns))) [
         | yes h ↦ record { few = given-few ns b; made = given-done ns b h; oriented = given-proper ns b h }
-        | no h ↦ absurd (not-refused (faultyTriangle (firstFaulty (givenTable ns))) (given-faulty ns b (omega arith)))
+        | no h ↦ absurd (not-refused (FaultyTriangle (firstFaulty (givenTable ns))) (given-faulty ns b (omega arith)))
       ]

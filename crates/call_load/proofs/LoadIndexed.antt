@@ -10,7 +10,9 @@ use native.Mathlib.Omega.{arith}
 use lib.ListN.{length}
 use Rattle.spec_charts.specs.Table.{Table, numbersPerTriangle}
 use Rattle.spec_charts.specs.Cells.{entriesOf, maxEntries}
-use Rattle.spec_charts.specs.Refusals.{Refusal, shortBuffer, badLength, faultyTriangle, tooManyEntries, Outcome, refused, done, refuseIf, andThen}
+use Rattle.spec_charts.specs.declared.Refusal.{Refusal}
+use Rattle.spec_charts.specs.declared.Refusal.the-variants.{ShortBuffer, BadLength, FaultyTriangle, TooManyEntries}
+use Rattle.spec_charts.specs.Refusals.{Outcome, refused, done, refuseIf, andThen}
 use Rattle.spec_charts.specs.Edits.{loadTable, givenTable}
 use Rattle.laws_charts.proofs.TableLaws.{tableOf-length}
 use Rattle.spec_calls.specs.Buffers.{Chart, tooShort}
@@ -27,7 +29,7 @@ module _ (ns : List ℕ) (c : Chart) (z : loadCall ns c .number ≡ 0) where
   unfolding changedBy
   not-refused r p e = let n = ap (λ d. d .number) e in omega arith
 
-  short : tooShort c ≡ true → refused shortBuffer ≡ judgedLoad ns c
+  short : tooShort c ≡ true → refused ShortBuffer ≡ judgedLoad ns c
   unfolding ifLong refuseIf
   short s = rw s
 
@@ -41,14 +43,14 @@ module _ (ns : List ℕ) (c : Chart) (z : loadCall ns c .number ≡ 0) where
   judged = long (tooShort c) refl
     where
       whole : tooShort c ≡ false → (b : Bool) → lengthTest ns ≡ b → done true ≡ judgedLoad ns c
-      whole s true b = absurd (not-refused badLength (omega arith) (load-refused ns c (later s (given-length ns b))))
+      whole s true b = absurd (not-refused BadLength (omega arith) (load-refused ns c (later s (given-length ns b))))
       whole s false b = elim (decLe (length ns / numbersPerTriangle) (firstFaulty (givenTable ns))) [
         | yes h ↦ later s (given-done ns b h)
-        | no h ↦ absurd (not-refused (faultyTriangle (firstFaulty (givenTable ns))) (omega arith) (load-refused ns c (later s (given-faulty ns b (omega arith)))))
+        | no h ↦ absurd (not-refused (FaultyTriangle (firstFaulty (givenTable ns))) (omega arith) (load-refused ns c (later s (given-faulty ns b (omega arith)))))
       ]
 
       long : (b : Bool) → tooShort c ≡ b → done true ≡ judgedLoad ns c
-      long true s = absurd (not-refused shortBuffer (omega arith) (load-refused ns c (short s)))
+      long true s = absurd (not-refused ShortBuffer (omega arith) (load-refused ns c (short s)))
       long false s = whole s (lengthTest ns) refl
 
   abbrev given : Accepted ns
@@ -58,7 +60,7 @@ module _ (ns : List ℕ) (c : Chart) (z : loadCall ns c .number ≡ 0) where
   few-entries : length (entriesOf (givenTable ns)) ≤ maxEntries
   few-entries = elim (decLe (length (entriesOf (givenTable ns))) maxEntries) [
     | yes h ↦ h
-    | no n ↦ absurd (not-refused tooManyEntries (omega arith) (ap (changedBy c) (sym (limit-over (givenTable ns) (omega arith))) ∙ load-rest ns c judged))
+    | no n ↦ absurd (not-refused TooManyEntries (omega arith) (ap (changedBy c) (sym (limit-over (givenTable ns) (omega arith))) ∙ load-rest ns c judged))
   ]
 
   editable : Editable (loadCall ns c .chart)

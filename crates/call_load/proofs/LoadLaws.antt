@@ -5,7 +5,9 @@ use mathlib.Core.Bool.{Bool, true, false}
 use mathlib.Core.List.{List}
 use Prim.Native.Nat.{ℕ}
 use Rattle.spec_charts.specs.Table.{Table}
-use Rattle.spec_charts.specs.Refusals.{Refusal, shortBuffer, Outcome, refused, done, refuseIf, andThen}
+use Rattle.spec_charts.specs.declared.Refusal.{Refusal}
+use Rattle.spec_charts.specs.declared.Refusal.the-variants.{ShortBuffer}
+use Rattle.spec_charts.specs.Refusals.{Outcome, refused, done, refuseIf, andThen}
 use Rattle.spec_charts.specs.Edits.{eventOn, proposed, loadTable, givenTable, withinLimit}
 use Rattle.laws_charts.proofs.OutcomeLaws.{refused-done}
 use Rattle.spec_calls.specs.Buffers.{Chart, tooShort}
@@ -22,8 +24,8 @@ module _ (ns : List ℕ) (c : Chart) where
   unfolding loadCall ifLong eventOn proposed refuseIf andThen
   load-refused e = ap (changedBy c) (go (tooShort c) (loadTable ns) e)
     where
-      go : (b : Bool) (o : Outcome Table) {r : Refusal} → refused r ≡ refuseIf b shortBuffer (andThen o (λ t. done true))
-          → refused r ≡ refuseIf b shortBuffer (andThen o (λ t. withinLimit t))
+      go : (b : Bool) (o : Outcome Table) {r : Refusal} → refused r ≡ refuseIf b ShortBuffer (andThen o (λ t. done true))
+          → refused r ≡ refuseIf b ShortBuffer (andThen o (λ t. withinLimit t))
       go true o h = cc
       go false (refused s) h = cc
       go false (done t) h = absurd (refused-done h)
@@ -34,7 +36,7 @@ module _ (ns : List ℕ) (c : Chart) where
     unfolding ifLong refuseIf
     load-judged = go (tooShort c) e
       where
-        go : (b : Bool) → done true ≡ refuseIf b shortBuffer (judgedGiven ns) → (b ≡ false) × (done true ≡ judgedGiven ns)
+        go : (b : Bool) → done true ≡ refuseIf b ShortBuffer (judgedGiven ns) → (b ≡ false) × (done true ≡ judgedGiven ns)
         go true h = absurd (refused-done (sym h))
         go false h = (refl, h)
 

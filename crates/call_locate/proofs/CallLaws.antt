@@ -11,7 +11,8 @@ use Rattle.spec_squares.specs.Square.{arity, depth}
 use Rattle.spec_plane.specs.declared.Point.{Point}
 use Rattle.spec_plane.specs.Triangle.{holds}
 use Rattle.spec_charts.specs.Table.{triangleAt}
-use Rattle.spec_charts.specs.Refusals.{Refusal, refused, done, outcomeNumber, doneOr}
+use Rattle.spec_charts.specs.declared.Refusal.{Refusal}
+use Rattle.spec_charts.specs.Refusals.{refused, done, doneOr}
 use Rattle.spec_charts.specs.Reading.{listing}
 use Rattle.spec_calls.specs.Buffers.{Chart, tooShort, chainRule, chartEntries}
 use Rattle.spec_calls.specs.Calls as Calls
@@ -29,20 +30,19 @@ use Rattle.call_locate.specs.Places.{placesCall}
 
 -- an answer that is no refusal: the number 0, and the triangle found
 found-of : (o : Option ℕ) → _≡_ {A = Calls.Located} (locatedOf (foundOf o)) (record { number = 0; found = o })
-unfolding outcomeNumber doneOr
 found-of none = refl
 found-of (some i) = refl
 
 module _ (c : Chart) (p : Point) where
   -- at a refusal there are no places
   pub places-refused : {r : Refusal} → refused r ≡ ifChained c (done true) → [] ≡ placesCall c p
-  unfolding placesCall doneOr
+  unfolding placesCall
   places-refused h = ap (doneOr []) (reading-refused c h (listedPlaces (chartEntries c) p))
 
   module _ (s : tooShort c ≡ false) (r : chainRule c ≡ true) where
     -- else those of the cell's entries
     pub places-done : listedPlaces (chartEntries c) p ≡ placesCall c p
-    unfolding placesCall doneOr
+    unfolding placesCall
     places-done = ap (doneOr []) (reading-done c s r (listedPlaces (chartEntries c) p))
 
     -- its lists have entries, which satisfy the chain rule

@@ -7,7 +7,7 @@ use native.Mathlib.Omega.{arith}
 use borrow.Author.Tests.{lt-ltb, le-ltb}
 use lib.ListN.{length, drop, replicate}
 use lib.Seq.{sets}
-use Rattle.spec_charts.specs.Refusals.{refuseIf, outcomeNumber}
+use Rattle.spec_charts.specs.Refusals.{refuseIf}
 use Rattle.spec_charts.specs.Overlay.{Pair, pairNumbers, maxPairs, withinPairs}
 use Rattle.spec_calls.specs.Buffers.{padded, pairsLength}
 use Rattle.spec_calls.specs.Calls.{pairsRefused, overlaidBy}
@@ -27,7 +27,7 @@ module _ {ps : List Pair} {found : ℕ} {before mid : List ℕ} (w : Wrote ps 0 
   -- too many pairs
   pub finish-over : maxPairs < found → after ≡ sets mid 0 (replicate (pairsLength - 0) 0)
       → {r : Overlaid} → r ≡ record { overlay = overlays.TooManyPairs; pairs = 0; meetings = 0 } → overlaidOf r after ≡ overlaidBy before (withinPairs ps m)
-  unfolding overlaidBy withinPairs refuseIf pairsRefused outcomeNumber
+  unfolding overlaidBy withinPairs refuseIf pairsRefused
   finish-over h e f =
       ap (λ r. overlaidOf r after) f ∙
       rw (lt-ltb maxPairs (length ps) (omega (arith, w .count)))
@@ -36,7 +36,7 @@ module _ {ps : List Pair} {found : ℕ} {before mid : List ℕ} (w : Wrote ps 0 
   -- not too many
   pub finish-done : found ≤ maxPairs → after ≡ sets mid (2 * found) (replicate (pairsLength - 2 * found) 0)
       → overlaidOf (record { overlay = overlays.Done; pairs = found; meetings = m }) after ≡ overlaidBy before (withinPairs ps m)
-  unfolding overlaidBy withinPairs refuseIf outcomeNumber
+  unfolding overlaidBy withinPairs refuseIf
   finish-done h e =
       let few : length ps ≤ maxPairs = omega (arith, w .count) in
       let n : found ≡ length ps = omega (arith, w .count) in

@@ -19,7 +19,7 @@ use Rattle.spec_plane.specs.Triangle.{proper}
 use Rattle.spec_plane.specs.Interior.{interiorsMeet}
 use Rattle.spec_charts.specs.Table.{maxTriangles, numbersPerTriangle, tableOf}
 use Rattle.spec_charts.specs.Cells.{maxEntries}
-use Rattle.spec_charts.specs.Refusals.{refuseIf, outcomeNumber}
+use Rattle.spec_charts.specs.Refusals.{refuseIf}
 use Rattle.spec_charts.specs.Overlay.{Pair, pairListed, pairsListed, withinPairs, overlayOf}
 use Rattle.laws_charts.proofs.TableLaws.{tableOf-length, numbered-at}
 use Rattle.spec_calls.specs.Buffers.{Chart, tooShort, zipEntries, chainRule, chartTable, chartEntries, pairsLength}
@@ -65,7 +65,7 @@ passed c s e =
 module _ (c d : Chart) (pairs : List ℕ) where
   pub overlay-short : tooShort c || tooShort d || ltb (length pairs) pairsLength ≡ true
       → {r : Overlaid} → r ≡ record { overlay = overlays.ShortBuffer; pairs = 0; meetings = 0 } → overlaidOf r pairs ≡ overlayCall c d pairs
-  unfolding overlayCall overlaidBy refuseIf pairsRefused outcomeNumber
+  unfolding overlayCall overlaidBy refuseIf pairsRefused
   overlay-short h e = ap (λ r. overlaidOf r pairs) e ∙ rw h
 
   -- where 1 does not refuse
@@ -81,7 +81,7 @@ module _ (c d : Chart) (pairs : List ℕ) where
 
     pub overlay-broken : chainRule c && chainRule d ≡ false
         → {r : Overlaid} → r ≡ record { overlay = overlays.BrokenChain; pairs = 0; meetings = 0 } → overlaidOf r pairs ≡ overlayCall c d pairs
-    unfolding overlayCall overlaidBy refuseIf pairsRefused outcomeNumber
+    unfolding overlayCall overlaidBy refuseIf pairsRefused
     overlay-broken h e = ap (λ r. overlaidOf r pairs) e ∙ rw (long, either (chainRule c) (chainRule d) h)
       where
         either : (a b : Bool) → a && b ≡ false → not a || not b ≡ true

@@ -12,7 +12,7 @@ ghost use lib.ListN.{length, getD, take};
 ghost use Rattle.theory_lists.specs.Lists.{all, upTo};
 ghost use Rattle.theory_orthtree.specs.Entries.{chain, entry};
 ghost use Rattle.spec_squares.specs.Square.{arity, depth};
-ghost use Rattle.spec_calls.specs.Buffers.{zipEntries};
+ghost use Rattle.spec_calls.specs.Buffers.{Roomy, zipEntries};
 ghost use Rattle.chart_links.specs.Links.{itemFits, linkedAt};
 
 // Each of the first n levels is at most 16.
@@ -53,8 +53,8 @@ fn faults<'a, 'b, 'c, 'd, 'e, 'f>(
     next_items: &'f [u16],
     n: usize,
 ) -> u32
-    requires { ⌜ (n ≤ length (now keys)) × ((n ≤ length (now levels)) × (n ≤ length (now items))) ⌝ }
-    requires { ⌜ (n ≤ length (now «next_keys»)) × ((n ≤ length (now «next_levels»)) × (n ≤ length (now «next_items»))) ⌝ }
+    requires { ⌜ Roomy n (now keys) (now levels) (now items) ⌝ }
+    requires { ⌜ Roomy n (now «next_keys») (now «next_levels») (now «next_items») ⌝ }
     requires { ⌜ all (λ i. leb (getD (now levels) i 0) depth) (upTo n) ≡ true ⌝ }
     ensures { λ r. ⌜ eqb r 0 ≡ all (λ i. linkedAt (now (keys .entry)) (now (levels .entry)) (now (items .entry)) (now («next_keys» .entry)) (now («next_levels» .entry)) (now («next_items» .entry)) i) (upTo n) ⌝ }
 {
@@ -77,7 +77,7 @@ fn faults<'a, 'b, 'c, 'd, 'e, 'f>(
 
 // The first n entries are a chain of squares from key 0 to 2^32, with items that fit the triangle count.
 pub fn chain_holds(keys: &[u32], levels: &[u8], items: &[u16], count: usize, n: usize) -> bool
-    requires { ⌜ (n ≤ length (now keys)) × ((n ≤ length (now levels)) × (n ≤ length (now items))) ⌝ }
+    requires { ⌜ Roomy n (now keys) (now levels) (now items) ⌝ }
     ensures { λ o. ⌜ o ≡ chain arity depth count (take n (zipEntries (now (keys .entry)) (now (levels .entry)) (now (items .entry)))) ⌝ }
 {
     if n == 0 {

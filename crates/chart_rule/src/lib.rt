@@ -2,8 +2,9 @@
 
 mod entry_chains;
 
-use base_answers::Judged;
+use base_answers::Verdict;
 use base_geometry::geometry;
+use spec_charts::Refusal;
 ghost use mathlib.Core.Path.{_≡_};
 ghost use mathlib.Core.Bool.{Bool, true, false};
 ghost use mathlib.Core.List.{List};
@@ -14,10 +15,11 @@ ghost use Rattle.theory_lists.specs.Lists.{all};
 ghost use Rattle.spec_plane.specs.Triangle.{proper};
 ghost use Rattle.spec_charts.specs.Table.{numbersPerTriangle, tableOf, tableLength};
 ghost use Rattle.spec_charts.specs.Cells.{maxEntries};
-ghost use Rattle.spec_charts.specs.Refusals.{Outcome, done};
-ghost use Rattle.spec_calls.specs.Buffers.{tooShort, tableRule, entriesRule, chainRule, chartOf};
+ghost use Rattle.spec_charts.specs.Refusals.{done};
+ghost use Rattle.spec_calls.specs.Buffers.{Roomy, tooShort, tableRule, entriesRule, chainRule, chartOf};
+ghost use Rattle.spec_calls.specs.Lent.{held, given};
 ghost use Rattle.spec_calls.specs.Calls.{ifChained};
-ghost use Rattle.base_answers.specs.Outcomes.{judgedOutcome};
+ghost use Rattle.base_answers.specs.Outcomes.{verdictOutcome};
 
 // Each of the first n triangles has D > 0.
 pub fn all_proper(table: &[u16], n: usize) -> bool
@@ -35,7 +37,7 @@ pub fn all_proper(table: &[u16], n: usize) -> bool
 
 // A lent buffer is too short.
 pub fn too_short(table: &[u16], keys: &[u32], levels: &[u8], items: &[u16]) -> bool
-    ensures { λ o. ⌜ ((count n : ℕ) → o ≡ tooShort (chartOf (now (table .entry)) (now (keys .entry)) (now (levels .entry)) (now (items .entry)) count n)) ⌝ }
+    ensures { λ o. ⌜ ((triangles entries : ℕ) → o ≡ tooShort (given table keys levels items triangles entries)) ⌝ }
 {
     (table.len() < base_tables::TABLE_NUMBERS)
         | (keys.len() < base_tables::MOST_ENTRIES)
@@ -44,25 +46,31 @@ pub fn too_short(table: &[u16], keys: &[u32], levels: &[u8], items: &[u16]) -> b
 }
 
 // The table's part of the chain rule: at most 512 triangles, each with D > 0.
-pub fn table_rule(table: &[u16], count: usize) -> bool
+pub fn table_rule(table: &[u16], triangles: usize) -> bool
     requires { ⌜ tableLength ≤ length (now table) ⌝ }
-    ensures { λ o. ⌜ o ≡ tableRule (now (table .entry)) count ⌝ }
+    ensures { λ o. ⌜ o ≡ tableRule (now (table .entry)) triangles ⌝ }
 {
-    if count > base_tables::MOST_TRIANGLES {
+    if triangles > base_tables::MOST_TRIANGLES {
         return false;
     }
-    all_proper(table, count)
+    all_proper(table, triangles)
 }
 
 // The entries' part: 1 to 16,384 of them, which are a chain.
-pub fn entries_rule(keys: &[u32], levels: &[u8], items: &[u16], count: usize, n: usize) -> bool
-    requires { ⌜ (maxEntries ≤ length (now keys)) × ((maxEntries ≤ length (now levels)) × (maxEntries ≤ length (now items))) ⌝ }
-    ensures { λ o. ⌜ ((table : List ℕ) → o ≡ entriesRule (chartOf table (now (keys .entry)) (now (levels .entry)) (now (items .entry)) count n)) ⌝ }
+pub fn entries_rule(
+    keys: &[u32],
+    levels: &[u8],
+    items: &[u16],
+    triangles: usize,
+    entries: usize,
+) -> bool
+    requires { ⌜ Roomy maxEntries (now keys) (now levels) (now items) ⌝ }
+    ensures { λ o. ⌜ ((table : List ℕ) → o ≡ entriesRule (chartOf table (now (keys .entry)) (now (levels .entry)) (now (items .entry)) triangles entries)) ⌝ }
 {
-    if n > base_tables::MOST_ENTRIES {
+    if entries > base_tables::MOST_ENTRIES {
         return false;
     }
-    entry_chains::chain_holds(keys, levels, items, count, n)
+    entry_chains::chain_holds(keys, levels, items, triangles, entries)
 }
 
 // The chain rule, for any counts.
@@ -71,13 +79,13 @@ pub fn chain_rule(
     keys: &[u32],
     levels: &[u8],
     items: &[u16],
-    count: usize,
-    n: usize,
+    triangles: usize,
+    entries: usize,
 ) -> bool
-    requires { ⌜ tooShort (chartOf (now table) (now keys) (now levels) (now items) count n) ≡ false ⌝ }
-    ensures { λ o. ⌜ o ≡ chainRule (chartOf (now (table .entry)) (now (keys .entry)) (now (levels .entry)) (now (items .entry)) count n) ⌝ }
+    requires { ⌜ tooShort (held table keys levels items triangles entries) ≡ false ⌝ }
+    ensures { λ o. ⌜ o ≡ chainRule (given table keys levels items triangles entries) ⌝ }
 {
-    table_rule(table, count) & entries_rule(keys, levels, items, count, n)
+    table_rule(table, triangles) & entries_rule(keys, levels, items, triangles, entries)
 }
 
 // Refusals 1 and 2 of a chart, in their order.
@@ -88,14 +96,14 @@ pub fn judge(
     items: &[u16],
     triangles: usize,
     entries: usize,
-) -> Judged
-    ensures { λ r. ⌜ _≡_ {A = Outcome Bool} (judgedOutcome r) (ifChained (chartOf (now (table .entry)) (now (keys .entry)) (now (levels .entry)) (now (items .entry)) triangles entries) (done true)) ⌝ }
+) -> Verdict
+    ensures { λ r. ⌜ verdictOutcome r ≡ ifChained (given table keys levels items triangles entries) (done true) ⌝ }
 {
     if too_short(table, keys, levels, items) {
-        return Judged::ShortBuffer;
+        return Verdict::Refused(Refusal::ShortBuffer);
     }
     if !chain_rule(table, keys, levels, items, triangles, entries) {
-        return Judged::BrokenChain;
+        return Verdict::Refused(Refusal::BrokenChain);
     }
-    Judged::Fine
+    Verdict::Accepted
 }

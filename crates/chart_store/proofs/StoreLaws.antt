@@ -8,7 +8,8 @@ use borrow.Author.Tests.{lt-ltb, le-ltb}
 use lib.ListN.{length, take}
 use Rattle.spec_charts.specs.Table.{Table, tableOf, tableLength, numbersPerTriangle}
 use Rattle.spec_charts.specs.Cells.{entriesOf, maxEntries}
-use Rattle.spec_charts.specs.Refusals.{tooManyEntries, refused, done, refuseIf}
+use Rattle.spec_charts.specs.declared.Refusal.the-variants.{TooManyEntries}
+use Rattle.spec_charts.specs.Refusals.{refused, done, refuseIf}
 use Rattle.spec_charts.specs.Edits.{withinLimit, limited}
 use Rattle.laws_charts.proofs.TableLaws.{tableNumbers-take, tableOf-length}
 use Rattle.spec_calls.specs.Buffers.{Chart, chartOf, padded, chartWith, indexedChart}
@@ -18,7 +19,7 @@ use Rattle.chart_index.proofs.ListedLaws.{listed-few, listed-many}
 
 -- ---- refusal 11 by the number of entries
 
-pub limit-over : (t : Table) → maxEntries < length (entriesOf t) → withinLimit t ≡ refused tooManyEntries
+pub limit-over : (t : Table) → maxEntries < length (entriesOf t) → withinLimit t ≡ refused TooManyEntries
 unfolding withinLimit limited refuseIf
 limit-over t h = rw (lt-ltb maxEntries (length (entriesOf t)) h)
 
@@ -32,7 +33,7 @@ module _ (ns : List ℕ) (n : ℕ) (room : numbersPerTriangle * n ≤ length ns)
     (l : Listed (entriesOf (tableOf ns n)) m (c .keys) ks (c .levels) ls (c .items) is) where
   -- too many: the lists are as they were
   pub store-many : maxEntries < m
-      → changedBy (chartOf (c .table) ks ls is (c .triangleCount) (c .entryCount)) (refused tooManyEntries) ≡ changedBy c (withinLimit (tableOf ns n))
+      → changedBy (chartOf (c .table) ks ls is (c .triangleCount) (c .entryCount)) (refused TooManyEntries) ≡ changedBy c (withinLimit (tableOf ns n))
   store-many o =
       let many = listed-many l o in
       rw (l .overKeys many, l .overLevels many, l .overItems many, limit-over (tableOf ns n) many) refl

@@ -14,7 +14,8 @@ use Rattle.theory_lists.proofs.Reflects.{reflects-or, reflects-leb}
 use Rattle.spec_plane.specs.declared.Point.{Point}
 use Rattle.spec_plane.specs.Triangle.{Triangle, triangleOf, corners, rotated, proper}
 use Rattle.spec_charts.specs.Table.{numbersPerTriangle, Table, triangleAt, tableOf}
-use Rattle.spec_charts.specs.Refusals.{refused, done, refuseIf, noSuchTriangle, noFlip}
+use Rattle.spec_charts.specs.declared.Refusal.the-variants.{NoSuchTriangle, NoFlip}
+use Rattle.spec_charts.specs.Refusals.{refused, done, refuseIf}
 use Rattle.spec_charts.specs.Edits.{triangle, rotations, sharesSide, flipAs, flipWith, flipAmong, flipTable}
 use Rattle.laws_charts.proofs.TableLaws.{tableOf-length, numbered-at}
 use Rattle.edit_rows.proofs.RowLaws.{withRow, rows-set}
@@ -64,7 +65,7 @@ module _ (table : Table) (i j : ℕ) (us : List Triangle) where
         }
 
     -- no rotation does
-    pub tried-end : (k : ℕ) → Tried t k → 3 ≤ k → flipAmong table i j us (rotations (triangleOf t)) ≡ refused noFlip
+    pub tried-end : (k : ℕ) → Tried t k → 3 ≤ k → flipAmong table i j us (rotations (triangleOf t)) ≡ refused NoFlip
     unfolding flipAmong
     tried-end k m h = m .same ∙ ap (flipAmong table i j us) (rotations-end (triangleOf t) k h (m .high))
 
@@ -79,7 +80,7 @@ neither-over n i j e =
 
 module _ (ns : List ℕ) (n i j : ℕ) where
   -- refusal 6
-  pub flip-beyond : leb n i || leb n j ≡ true → flipTable i j (tableOf ns n) ≡ refused noSuchTriangle
+  pub flip-beyond : leb n i || leb n j ≡ true → flipTable i j (tableOf ns n) ≡ refused NoSuchTriangle
   unfolding flipTable refuseIf
   flip-beyond e = rw (tableOf-length ns n, e)
 
@@ -101,7 +102,7 @@ flip-begun ns n i j es eu e =
 
 -- refusal 9, at a shared side
 pub as-refused : (table : Table) (i j : ℕ) (t u : Triangle)
-    → proper (triangle (t .a) (u .c) (t .c)) && proper (triangle (u .c) (t .b) (t .c)) ≡ false → flipAs table i j t u ≡ refused noFlip
+    → proper (triangle (t .a) (u .c) (t .c)) && proper (triangle (u .c) (t .b) (t .c)) ≡ false → flipAs table i j t u ≡ refused NoFlip
 unfolding flipAs refuseIf
 as-refused table i j t u e = rw e
 

@@ -3,18 +3,19 @@
 use mathlib.Core.List.{List}
 use Prim.Native.Nat.{ℕ}
 use Rattle.spec_charts.specs.Table.{Table, tableOf}
-use Rattle.spec_charts.specs.Refusals.{Outcome, refused, done, noSuchTriangle, notInside, notThreeAround, noFlip, tableFull}
+use Rattle.spec_charts.specs.declared.Refusal.the-variants.{NoSuchTriangle, NotInside, NotThreeAround, NoFlip, TableFull}
+use Rattle.spec_charts.specs.Refusals.{Outcome, refused, done}
 use Rattle.edit_rows.specs.declared.Edited.{Edited}
 use Rattle.edit_rows.specs.declared.Edited.the-variants.{Made, NoSuchTriangle, NotInside, NotThreeAround, NoFlip, TableFull}
 
 -- done with the table of the first m rows of the scratch table, or refused
 abbrev pub editedOutcome : Edited → List ℕ → Outcome Table
 editedOutcome (Made m) ns = done (tableOf ns m)
-editedOutcome NoSuchTriangle ns = refused noSuchTriangle
-editedOutcome NotInside ns = refused notInside
-editedOutcome NotThreeAround ns = refused notThreeAround
-editedOutcome NoFlip ns = refused noFlip
-editedOutcome TableFull ns = refused tableFull
+editedOutcome NoSuchTriangle ns = refused NoSuchTriangle
+editedOutcome NotInside ns = refused NotInside
+editedOutcome NotThreeAround ns = refused NotThreeAround
+editedOutcome NoFlip ns = refused NoFlip
+editedOutcome TableFull ns = refused TableFull
 
 -- how many triangles the table made has; 0 where none is made
 abbrev pub editedCount : Edited → ℕ

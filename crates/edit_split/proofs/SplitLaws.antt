@@ -11,24 +11,25 @@ use lib.ListN.{length}
 use Rattle.spec_plane.specs.declared.Point.{Point}
 use Rattle.spec_plane.specs.Triangle.{Triangle, strictlyInside}
 use Rattle.spec_charts.specs.Table.{numbersPerTriangle, maxTriangles, Table, triangleAt, tableOf}
-use Rattle.spec_charts.specs.Refusals.{refused, done, refuseIf, noSuchTriangle, notInside, tableFull}
+use Rattle.spec_charts.specs.declared.Refusal.the-variants.{NoSuchTriangle, NotInside, TableFull}
+use Rattle.spec_charts.specs.Refusals.{refused, done, refuseIf}
 use Rattle.spec_charts.specs.Edits.{splitAt, splitTable}
 use Rattle.laws_charts.proofs.TableLaws.{tableOf-length, numbered-at}
 use Rattle.edit_rows.proofs.RowLaws.{withRow, withRow-length, rows-append}
 
 module _ (ns : List ℕ) (n i : ℕ) (p : Point) where
   -- refusal 6
-  pub split-beyond : n ≤ i → splitTable i p (tableOf ns n) ≡ refused noSuchTriangle
+  pub split-beyond : n ≤ i → splitTable i p (tableOf ns n) ≡ refused NoSuchTriangle
   unfolding splitTable refuseIf
   split-beyond h = rw (tableOf-length ns n, le-leb n i h)
 
   -- refusal 7
-  pub split-outside : i < n → strictlyInside (triangleAt ns i) p ≡ false → splitTable i p (tableOf ns n) ≡ refused notInside
+  pub split-outside : i < n → strictlyInside (triangleAt ns i) p ≡ false → splitTable i p (tableOf ns n) ≡ refused NotInside
   unfolding splitTable refuseIf
   split-outside h f = rw (tableOf-length ns n, lt-leb n i h, numbered-at ns n i h, f)
 
   -- refusal 10
-  pub split-full : i < n → strictlyInside (triangleAt ns i) p ≡ true → maxTriangles < n + 2 → splitTable i p (tableOf ns n) ≡ refused tableFull
+  pub split-full : i < n → strictlyInside (triangleAt ns i) p ≡ true → maxTriangles < n + 2 → splitTable i p (tableOf ns n) ≡ refused TableFull
   unfolding splitTable refuseIf
   split-full h f b = rw (tableOf-length ns n, lt-leb n i h, numbered-at ns n i h, f, lt-ltb maxTriangles (n + 2) b)
 

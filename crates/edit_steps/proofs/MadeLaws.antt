@@ -18,7 +18,7 @@ use Rattle.theory_lists.proofs.EditedLists.{every-set}
 use Rattle.spec_plane.specs.declared.Point.{Point}
 use Rattle.spec_plane.specs.Triangle.{proper}
 use Rattle.spec_charts.specs.Table.{Table, numbered, tableOf, maxTriangles, numbersPerTriangle, tableLength}
-use Rattle.spec_charts.specs.Refusals.{Outcome, done, andThen, outcomeNumber, outcomeValue}
+use Rattle.spec_charts.specs.Refusals.{Outcome, done, andThen}
 use Rattle.spec_charts.specs.Edits.{splitAt, splitTable, takeOutTable, flipTable, withinLimit}
 use Rattle.laws_charts.proofs.TriangleLaws.{inside-parts}
 use Rattle.laws_charts.proofs.EditLaws.{split-done, takeOut-done}
@@ -107,7 +107,7 @@ made-stored ns {e} {n} d h =
 -- what an edit of a plain table refuses
 pub edited-refused : (c : Chart) (ns : List ℕ) (e : Edited) → OneOf (1 ∷ 2 ∷ 3 ∷ 4 ∷ 5 ∷ []) (tagOf edited.the-type e)
     → answered c (editedChange e) ≡ changedBy c (andThen (editedOutcome e ns) (λ t. withinLimit t))
-unfolding changedBy andThen outcomeNumber outcomeValue
+unfolding changedBy andThen
 edited-refused c ns (Made n) h = absurd (other-tag (0 ∷ 1 ∷ 2 ∷ 3 ∷ 4 ∷ []) h)
 edited-refused c ns NoSuchTriangle h = refl
 edited-refused c ns NotInside h = refl
@@ -118,7 +118,7 @@ edited-refused c ns TableFull h = refl
 -- what judging refuses
 pub judged-refused : (c : Chart) (edit : Table → Outcome Table) (j : Judged) → OneOf (1 ∷ 2 ∷ 3 ∷ []) (tagOf judged.the-type j)
     → judgedOutcome j ≡ ifIndexed c (done true) → answered c (judgedChange j) ≡ editCall edit c
-unfolding changedBy outcomeNumber outcomeValue
+unfolding changedBy
 judged-refused c edit Fine h e = absurd (other-tag (0 ∷ 1 ∷ 2 ∷ []) h)
 judged-refused c edit ShortBuffer h e = edit-refused c edit e
 judged-refused c edit BrokenChain h e = edit-refused c edit e

@@ -12,7 +12,8 @@ use lib.Seq.{take-set-lt, drop-set-lt, take-append-le, drop-append-le, set-appen
 use Rattle.theory_lists.specs.Lists.{without, upTo, countFrom}
 use Rattle.spec_plane.specs.Triangle.{Triangle}
 use Rattle.spec_charts.specs.Table.{numbersPerTriangle, Table, triangleAt, tableOf}
-use Rattle.spec_charts.specs.Refusals.{Outcome, refused, done, notThreeAround}
+use Rattle.spec_charts.specs.declared.Refusal.the-variants.{NotThreeAround}
+use Rattle.spec_charts.specs.Refusals.{Outcome, refused, done}
 use Rattle.spec_charts.specs.Edits.{triangle, closesRound, mergeAround, mergeThree}
 use Rattle.laws_charts.proofs.TableLaws.{tableOf-length, tableOf-suc}
 use Rattle.edit_rows.proofs.RowLaws.{withRow, rows-set}
@@ -29,7 +30,7 @@ module _ (table : Table) (i j k : ℕ) (t u v : Triangle) where
   mergedIf z y =
       elim z [
         | true ↦ done (mergeAround table i j k (triangle (t .a) (t .b) (u .b)))
-        | false ↦ elim y [ true ↦ done (mergeAround table i j k (triangle (t .a) (t .b) (v .b))) | false ↦ refused notThreeAround ]
+        | false ↦ elim y [ true ↦ done (mergeAround table i j k (triangle (t .a) (t .b) (v .b))) | false ↦ refused NotThreeAround ]
       ]
 
   -- one of the two others follows the first
@@ -44,11 +45,11 @@ module _ (table : Table) (i j k : ℕ) (t u v : Triangle) where
       go false false e = absurd (false≢true e)
 
   -- refusal 8: they do not close round p
-  pub merge-refused : closesRound t u v || closesRound t v u ≡ false → mergeThree table i j k t u v ≡ refused notThreeAround
+  pub merge-refused : closesRound t u v || closesRound t v u ≡ false → mergeThree table i j k t u v ≡ refused NotThreeAround
   unfolding mergeThree
   merge-refused e = go (closesRound t u v) (closesRound t v u) e
     where
-      go : (z y : Bool) → z || y ≡ false → mergedIf z y ≡ refused notThreeAround
+      go : (z y : Bool) → z || y ≡ false → mergedIf z y ≡ refused NotThreeAround
       go true y e = absurd (false≢true (sym e))
       go false true e = absurd (false≢true (sym e))
       go false false e = refl

@@ -14,26 +14,27 @@ use Rattle.theory_lists.proofs.Reflects.{reflects-or, reflects-leb, reflects-lt
 use Rattle.spec_plane.specs.declared.Point.{Point}
 use Rattle.spec_plane.specs.Triangle.{Triangle}
 use Rattle.spec_charts.specs.Table.{Table, triangleAt, tableOf, numbered}
-use Rattle.spec_charts.specs.Refusals.{refused, notThreeAround}
+use Rattle.spec_charts.specs.declared.Refusal.the-variants.{NotThreeAround}
+use Rattle.spec_charts.specs.Refusals.{refused}
 use Rattle.spec_charts.specs.Edits.{hasCorner, endingIn, mergeThree, takeOutThree, takeOutTable}
 use Rattle.laws_charts.proofs.TableLaws.{numbered-at}
 use Rattle.edit_star.proofs.AroundSteps.{Next}
 
 module _ (p : Point) (table : Table) (n : ℕ) where
   -- as many triangles as the list of their numbers says
-  refuseNone : {is : List ℕ} → is ≡ [] → takeOutThree p table is ≡ refused notThreeAround
+  refuseNone : {is : List ℕ} → is ≡ [] → takeOutThree p table is ≡ refused NotThreeAround
   unfolding takeOutThree
   refuseNone e = ap (takeOutThree p table) e
 
-  refuseOne : {is : List ℕ} (i : ℕ) → is ≡ i ∷ [] → takeOutThree p table is ≡ refused notThreeAround
+  refuseOne : {is : List ℕ} (i : ℕ) → is ≡ i ∷ [] → takeOutThree p table is ≡ refused NotThreeAround
   unfolding takeOutThree
   refuseOne i e = ap (takeOutThree p table) e
 
-  refuseTwo : {is : List ℕ} (i j : ℕ) → is ≡ i ∷ j ∷ [] → takeOutThree p table is ≡ refused notThreeAround
+  refuseTwo : {is : List ℕ} (i j : ℕ) → is ≡ i ∷ j ∷ [] → takeOutThree p table is ≡ refused NotThreeAround
   unfolding takeOutThree
   refuseTwo i j e = ap (takeOutThree p table) e
 
-  refuseFour : {is : List ℕ} (i j k l : ℕ) (ls : List ℕ) → is ≡ i ∷ j ∷ k ∷ l ∷ ls → takeOutThree p table is ≡ refused notThreeAround
+  refuseFour : {is : List ℕ} (i j k l : ℕ) (ls : List ℕ) → is ≡ i ∷ j ∷ k ∷ l ∷ ls → takeOutThree p table is ≡ refused NotThreeAround
   unfolding takeOutThree
   refuseFour i j k l ls e = ap (takeOutThree p table) e
 
@@ -55,18 +56,18 @@ module _ (p : Point) (table : Table) (n : ℕ) where
 
   module _ {i j k l : ℕ} (star : Star i j k l) where
     -- at most two
-    around-few : n ≤ k → takeOutTable p table ≡ refused notThreeAround
+    around-few : n ≤ k → takeOutTable p table ≡ refused NotThreeAround
     unfolding takeOutTable
     around-few h = go (decLe n i) (decLe n j)
       where
-        go : Dec (n ≤ i) → Dec (n ≤ j) → takeOutThree p table (placesFrom around 0 table) ≡ refused notThreeAround
+        go : Dec (n ≤ i) → Dec (n ≤ j) → takeOutThree p table (placesFrom around 0 table) ≡ refused NotThreeAround
         go (yes x) e = refuseNone (star .first .ended x)
         go (no x) (yes y) = refuseOne i (star .first .found (omega arith) ∙ ap (λ r. i ∷ r) (star .second .ended y))
         go (no x) (no y) =
             refuseTwo i j (star .first .found (omega arith) ∙ ap (λ r. i ∷ r) (star .second .found (omega arith) ∙ ap (λ r. j ∷ r) (star .third .ended h)))
 
     -- at least four
-    around-many : l < n → takeOutTable p table ≡ refused notThreeAround
+    around-many : l < n → takeOutTable p table ≡ refused NotThreeAround
     unfolding takeOutTable
     around-many h =
         let k′ : k < n = omega (arith, star .fourth .bounds) in
@@ -76,7 +77,7 @@ module _ (p : Point) (table : Table) (n : ℕ) where
         (star .first .found i′ ∙ ap (λ r. i ∷ r) (star .second .found j′ ∙ ap (λ r. j ∷ r) (star .third .found k′ ∙ ap (λ r. k ∷ r) (star .fourth .found h))))
 
     -- refusal 8: not three
-    pub around-refused : leb n k || ltb l n ≡ true → takeOutTable p table ≡ refused notThreeAround
+    pub around-refused : leb n k || ltb l n ≡ true → takeOutTable p table ≡ refused NotThreeAround
     around-refused e =
         let t : T (leb n k || ltb l n) = rw e tt in
         elim (reflects-or (reflects-leb n k) (reflects-ltb l n) .to t) [ inl h ↦ around-few h | inr h ↦ around-many h ]

@@ -3,7 +3,7 @@
 use mathlib.Core.Path.{_≡_, refl, sym, _∙_}
 use mathlib.Core.Bool.{Bool, true, false, _&&_, _||_, and-true}
 use mathlib.Core.List.{List}
-use Prim.Native.Nat.{ℕ, zero, suc, _*_, _≤_, _<_}
+use Prim.Native.Nat.{ℕ, zero, suc, _≤_, _<_}
 use native.Mathlib.Omega.{arith}
 use borrow.Author.Tests.{ltb-false, le-leb, lt-leb}
 use lib.Dec.{T, leb, ltb}
@@ -14,16 +14,14 @@ use Rattle.theory_lists.proofs.ListsLaws.{Every, all-reflects}
 use Rattle.theory_orthtree.specs.Entries.{Entry, chain}
 use Rattle.spec_plane.specs.Triangle.{proper}
 use Rattle.spec_squares.specs.Square.{arity, depth}
-use Rattle.spec_charts.specs.Table.{tableOf, tableLength, maxTriangles, numbersPerTriangle}
+use Rattle.spec_charts.specs.Table.{Drawn, tableOf, tableLength, maxTriangles}
 use Rattle.spec_charts.specs.Cells.{maxEntries}
-use Rattle.spec_calls.specs.Buffers.{Chart, tooShort, zipEntries, chartTable, chartEntries, tableRule, entryCountFits, entriesRule, chainRule}
+use Rattle.spec_calls.specs.Buffers.{Chart, Roomy, tooShort, zipEntries, chartTable, chartEntries, tableRule, entryCountFits, entriesRule, chainRule}
 
 -- each list of the chart is long enough
 pub record LongEnough (c : Chart) : Type 0 where
   pub table : tableLength ≤ length (c .table)
-  pub keys : maxEntries ≤ length (c .keys)
-  pub levels : maxEntries ≤ length (c .levels)
-  pub items : maxEntries ≤ length (c .items)
+  pub lists : Roomy maxEntries (c .keys) (c .levels) (c .items)
 
 pub long-enough : (c : Chart) → tooShort c ≡ false → LongEnough c
 unfolding tooShort
@@ -36,10 +34,17 @@ long-enough c h =
     let r = or-neither t k (q .0) in
     record {
       table = ltb-false (length (c .table)) tableLength (r .0);
-      keys = ltb-false (length (c .keys)) maxEntries (r .1);
-      levels = ltb-false (length (c .levels)) maxEntries (q .1);
-      items = ltb-false (length (c .items)) maxEntries (p .1);
+      lists = record {
+        forKeys = ltb-false (length (c .keys)) maxEntries (r .1);
+        forLevels = ltb-false (length (c .levels)) maxEntries (q .1);
+        forItems = ltb-false (length (c .items)) maxEntries (p .1);
+      };
     }
+
+-- room for more is room for fewer
+pub roomy-fewer : {n m : ℕ} {ks ls is : List ℕ} → n ≤ m → Roomy m ks ls is → Roomy n ks ls is
+roomy-fewer h r =
+    record { forKeys = omega (arith, r .forKeys); forLevels = omega (arith, r .forLevels); forItems = omega (arith, r .forItems) }
 
 -- ---- the table's part of the chain rule
 
@@ -99,24 +104,19 @@ ruled c e =
     let p = r .to (rw e tt) in
     record { triangles = p .0 .0; entries = p .1 .0 .1; allProper = test-true (q .from (p .0 .1)); good = p .0 .1; chained = p .1 .1 }
 
--- the table of a chart whose buffers are long enough and hold to the chain rule
-pub record Held (c : Chart) : Type 0 where
-  pub few : c .triangleCount ≤ maxTriangles
-  pub room : numbersPerTriangle * c .triangleCount ≤ length (c .table)
-  pub good : all (λ t. proper t) (chartTable c) ≡ true
-
--- it follows from refusals 1 and 2
-pub rule-held : (c : Chart) → tooShort c ≡ false → chainRule c ≡ true → Held c
-rule-held c s h =
+-- a chart that passes refusals 1 and 2 has a table to work on
+pub rule-drawn : (c : Chart) → tooShort c ≡ false → chainRule c ≡ true → Drawn (c .table) (c .triangleCount)
+unfolding chartTable
+rule-drawn c s h =
     let r = ruled c h in
     let long = long-enough c s in
-    record { few = r .triangles; room = omega (arith, r .triangles, long .table); good = r .allProper }
+    record { few = r .triangles; room = omega (arith, r .triangles, long .table); oriented = r .allProper }
 
 -- then the lists may be searched
 pub searchable : (c : Chart) → tooShort c ≡ false → chainRule c ≡ true
-    → ((c .entryCount ≤ length (c .keys)) × ((c .entryCount ≤ length (c .levels)) × (c .entryCount ≤ length (c .items))))
+    → Roomy (c .entryCount) (c .keys) (c .levels) (c .items)
     × (chain arity depth (c .triangleCount) (take (c .entryCount) (zipEntries (c .keys) (c .levels) (c .items))) ≡ true)
 unfolding chartEntries
 searchable c s e =
     let long = long-enough c s in
-    let rule = ruled c e in ((omega arith, (omega arith, omega arith)), test-true (rule .chained))
+    let rule = ruled c e in (roomy-fewer (rule .entries) (long .lists), test-true (rule .chained))

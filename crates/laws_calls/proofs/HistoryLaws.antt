@@ -12,7 +12,7 @@ use Rattle.theory_lists.proofs.ListsLaws.{all-reflects}
 use Rattle.theory_lists.proofs.FoldLaws.{fold-related}
 use Rattle.spec_charts.specs.Table.{Table, IsTable}
 use Rattle.spec_charts.specs.Cells.{entriesOf, maxEntries}
-use Rattle.spec_charts.specs.Edits.{Event, sixteenBitEvent, proposed, eventOn, afterEvent, afterEvents}
+use Rattle.spec_charts.specs.Edits.{Event, sixteenBitEvent, afterEvent, afterEvents}
 use Rattle.laws_charts.proofs.EventTable.{after-event-table}
 use Rattle.spec_calls.specs.Buffers.{Chart, tooShort, indexedChart}
 use Rattle.spec_calls.specs.History.{eventCall, chartAfter}
@@ -28,13 +28,12 @@ record Holds (c d : Chart) (t : Table) : Type 0 where
 module _ (c : Chart) (s : tooShort c ≡ false) where
   -- an event keeps that
   event-holds : (e : Event) (d : Chart) (t : Table) → T (sixteenBitEvent e) → Holds c d t → Holds c (eventCall e d .chart) (afterEvent e t)
-  unfolding afterEvent eventOn
   event-holds e d t w h =
       let f : Indexable t = record { few = h .table .few; oriented = test-true (h .table .oriented); small = h .small } in
       record {
         is = ap (λ d. eventCall e d .chart) (h .is) ∙ event-chart c s t f e;
         table = after-event-table e t w (h .table);
-        small = after-small t (proposed e t) (h .small);
+        small = after-small e t (h .small);
       }
 
 -- both histories are folds

@@ -139,9 +139,9 @@ module _ (c : Chart) (t : Table) where
         let es = entriesOf t in
         short-same c (indexedChart c t)
         (padded-length tableLength (tableNumbers t) (c .table) (omega (arith, table-length t)) (long .table))
-        (padded-length maxEntries (map (λ e. e .key) es) (c .keys) (omega (arith, length-map es (λ e. e .key))) (long .keys))
-        (padded-length maxEntries (map (λ e. e .level) es) (c .levels) (omega (arith, length-map es (λ e. e .level))) (long .levels))
-        (padded-length maxEntries (map (λ e. e .item) es) (c .items) (omega (arith, length-map es (λ e. e .item))) (long .items))
+        (padded-length maxEntries (map (λ e. e .key) es) (c .keys) (omega (arith, length-map es (λ e. e .key))) (long .lists .forKeys))
+        (padded-length maxEntries (map (λ e. e .level) es) (c .levels) (omega (arith, length-map es (λ e. e .level))) (long .lists .forLevels))
+        (padded-length maxEntries (map (λ e. e .item) es) (c .items) (omega (arith, length-map es (λ e. e .item))) (long .lists .forItems))
         ∙ s
 
     -- not refusal 2

@@ -3,16 +3,12 @@
 -- Assumes nothing.
 use mathlib.Core.Path.{_≡_, refl, sym, _∙_, ap}
 use mathlib.Core.Bool.{Bool, true, false, not}
-use Prim.Native.Nat.{ℕ}
-use native.Mathlib.Omega.{arith}
-use Rattle.spec_charts.specs.Refusals.{Refusal, shortBuffer, brokenChain, staleEntries, Outcome, refused, done, refuseIf, andThen}
+use Rattle.spec_charts.specs.declared.Refusal.{Refusal}
+use Rattle.spec_charts.specs.declared.Refusal.the-variants.{ShortBuffer, BrokenChain, StaleEntries}
+use Rattle.spec_charts.specs.Refusals.{Outcome, refused, done, refuseIf, andThen}
 use Rattle.laws_charts.proofs.OutcomeLaws.{refused-done}
 use Rattle.spec_calls.specs.Buffers.{Chart, tooShort, chainRule, indexed}
 use Rattle.spec_calls.specs.Calls.{ifLong, ifChained, ifIndexed}
-
--- a refusal is made of one row
-refused-same : {A : Type 0} {r s : Refusal} → _≡_ {A = Outcome A} (refused r) (refused s) → r ≡ s
-refused-same e = cc
 
 -- what one row judges, before what follows
 row-then : {A : Type 0} (b : Bool) (r : Refusal) (o : Outcome Bool) (next : Outcome A)
@@ -27,16 +23,16 @@ module _ (c : Chart) where
     pub chained-then : andThen (ifChained c (done true)) (λ b. next) ≡ ifChained c next
     unfolding ifChained ifLong andThen
     chained-then =
-        rw (row-then (tooShort c) shortBuffer (refuseIf (not (chainRule c)) brokenChain (done true)) next, row-then (not (chainRule c)) brokenChain (done true) next)
+        rw (row-then (tooShort c) ShortBuffer (refuseIf (not (chainRule c)) BrokenChain (done true)) next, row-then (not (chainRule c)) BrokenChain (done true) next)
 
     -- 1, 2 and 3, then what follows
     pub indexed-then : andThen (ifIndexed c (done true)) (λ b. next) ≡ ifIndexed c next
     unfolding ifIndexed ifChained ifLong andThen
     indexed-then =
         rw (
-          row-then (tooShort c) shortBuffer (refuseIf (not (chainRule c)) brokenChain (refuseIf (not (indexed c)) staleEntries (done true))) next,
-          row-then (not (chainRule c)) brokenChain (refuseIf (not (indexed c)) staleEntries (done true)) next,
-          row-then (not (indexed c)) staleEntries (done true) next,
+          row-then (tooShort c) ShortBuffer (refuseIf (not (chainRule c)) BrokenChain (refuseIf (not (indexed c)) StaleEntries (done true))) next,
+          row-then (not (chainRule c)) BrokenChain (refuseIf (not (indexed c)) StaleEntries (done true)) next,
+          row-then (not (indexed c)) StaleEntries (done true) next,
         )
 
     -- a refusal that judging gives is what the whole gives
@@ -59,15 +55,15 @@ module _ (c : Chart) where
     indexed-passes s r i = rw (s, r, i)
 
   -- one row decides after those before it
-  pub judged-short : {A : Type 0} (next : Outcome A) → tooShort c ≡ true → ifChained c next ≡ refused shortBuffer
+  pub judged-short : {A : Type 0} (next : Outcome A) → tooShort c ≡ true → ifChained c next ≡ refused ShortBuffer
   unfolding ifChained ifLong refuseIf
   judged-short next s = rw s
 
-  pub judged-broken : {A : Type 0} (next : Outcome A) → tooShort c ≡ false → chainRule c ≡ false → ifChained c next ≡ refused brokenChain
+  pub judged-broken : {A : Type 0} (next : Outcome A) → tooShort c ≡ false → chainRule c ≡ false → ifChained c next ≡ refused BrokenChain
   unfolding ifChained ifLong refuseIf
   judged-broken next s r = rw (s, r)
 
-  pub judged-stale : {A : Type 0} (next : Outcome A) → tooShort c ≡ false → chainRule c ≡ true → indexed c ≡ false → ifIndexed c next ≡ refused staleEntries
+  pub judged-stale : {A : Type 0} (next : Outcome A) → tooShort c ≡ false → chainRule c ≡ true → indexed c ≡ false → ifIndexed c next ≡ refused StaleEntries
   unfolding ifIndexed ifChained ifLong refuseIf
   judged-stale next s r i = rw (s, r, i)
 
@@ -76,7 +72,7 @@ module _ (c : Chart) where
   unfolding ifChained ifLong refuseIf
   chained-passed h = go (tooShort c) (chainRule c) h
     where
-      go : (s r : Bool) → done true ≡ refuseIf s shortBuffer (refuseIf (not r) brokenChain (done true)) → (s ≡ false) × (r ≡ true)
+      go : (s r : Bool) → done true ≡ refuseIf s ShortBuffer (refuseIf (not r) BrokenChain (done true)) → (s ≡ false) × (r ≡ true)
       go true r h = absurd (refused-done (sym h))
       go false true h = (refl, refl)
       go false false h = absurd (refused-done (sym h))
@@ -86,19 +82,9 @@ module _ (c : Chart) where
   unfolding ifIndexed ifChained ifLong refuseIf
   indexed-passed h = go (tooShort c) (chainRule c) (indexed c) h
     where
-      go : (s r i : Bool) → done true ≡ refuseIf s shortBuffer (refuseIf (not r) brokenChain (refuseIf (not i) staleEntries (done true)))
+      go : (s r i : Bool) → done true ≡ refuseIf s ShortBuffer (refuseIf (not r) BrokenChain (refuseIf (not i) StaleEntries (done true)))
           → (s ≡ false) × ((r ≡ true) × (i ≡ true))
       go true r i h = absurd (refused-done (sym h))
       go false true true h = (refl, (refl, refl))
       go false true false h = absurd (refused-done (sym h))
       go false false i h = absurd (refused-done (sym h))
-
-  -- 3 is neither 1 nor 2
-  pub chained-not-stale : refused staleEntries ≡ ifChained c (done true) → ⊥
-  unfolding ifChained ifLong refuseIf
-  chained-not-stale h = go (tooShort c) (chainRule c) h
-    where
-      go : (s r : Bool) → refused staleEntries ≡ refuseIf s shortBuffer (refuseIf (not r) brokenChain (done true)) → ⊥
-      go true r h = let e : _≡_ {A = Refusal} staleEntries shortBuffer = refused-same h in let n : _≡_ {A = ℕ} 3 1 = (λ i. e i .number) in omega arith
-      go false true h = refused-done h
-      go false false h = let e : _≡_ {A = Refusal} staleEntries brokenChain = refused-same h in let n : _≡_ {A = ℕ} 3 2 = (λ i. e i .number) in omega arith

@@ -14,8 +14,10 @@ use Rattle.theory_lists.specs.Lists.{all}
 use Rattle.spec_plane.specs.Triangle.{proper}
 use Rattle.spec_charts.specs.Table.{Table, tableLength, tableNumbers, maxTriangles}
 use Rattle.spec_charts.specs.Cells.{entriesOf, maxEntries}
-use Rattle.spec_charts.specs.Refusals.{tooManyEntries, Outcome, refused, done, refuseIf, andThen, outcomeNumber, outcomeValue, doneOr}
-use Rattle.spec_charts.specs.Edits.{limited, withinLimit}
+use Rattle.spec_charts.specs.declared.Refusal.the-variants.{TooManyEntries}
+use Rattle.spec_charts.specs.Refusals.{Outcome, refused, done, refuseIf, andThen, outcomeNumber, outcomeValue, doneOr}
+use Rattle.spec_charts.specs.Edits.{Event, proposed, limited, withinLimit, afterEvent}
+use Rattle.laws_charts.proofs.CountedLaws.{event-limited}
 use Rattle.spec_calls.specs.Buffers.{Chart, padded, chartWith, indexedChart}
 use Rattle.spec_calls.specs.Calls.{changedBy}
 use Rattle.laws_calls.proofs.IndexedLaws.{table-length}
@@ -56,46 +58,33 @@ indexed-again c t u h =
 
 -- the number and the value are the outcome's
 pub changed-number : (c : Chart) (o : Outcome Table) → changedBy c o .number ≡ outcomeNumber o
-unfolding changedBy outcomeNumber
+unfolding changedBy
 changed-number c (refused r) = refl
 changed-number c (done t) = refl
 
 pub changed-value : (c : Chart) (o : Outcome Table) → changedBy c o .value ≡ outcomeValue o
-unfolding changedBy outcomeValue
+unfolding changedBy
 changed-value c (refused r) = refl
 changed-value c (done t) = refl
 
 -- the chart is that of the table done, or else of the table before
 pub changed-chart : (c : Chart) (t : Table) (o : Outcome Table) → Indexable t → changedBy (indexedChart c t) o .chart ≡ indexedChart c (doneOr t o)
-unfolding changedBy doneOr
+unfolding changedBy
 changed-chart c t (refused r) h = refl
 changed-chart c t (done u) h = indexed-again c t u h
 
 -- what passes refusal 11 has few entries
 limited-small : (b : Bool) (t u : Table) → ltb maxEntries (length (entriesOf u)) ≡ b → length (entriesOf t) ≤ maxEntries
-    → length (entriesOf (doneOr t (refuseIf b tooManyEntries (done u)))) ≤ maxEntries
-unfolding refuseIf doneOr
+    → length (entriesOf (doneOr t (refuseIf b TooManyEntries (done u)))) ≤ maxEntries
+unfolding refuseIf
 limited-small true t u e h = h
 limited-small false t u e h = ltb-false maxEntries (length (entriesOf u)) e
 
--- so the table after any outcome that is then limited has
-pub after-small : (t : Table) (o : Outcome Table) → length (entriesOf t) ≤ maxEntries
-    → length (entriesOf (doneOr t (andThen o (λ u. withinLimit u)))) ≤ maxEntries
-unfolding andThen withinLimit limited doneOr
-after-small t (refused r) h = h
-after-small t (done u) h = limited-small (ltb maxEntries (length (entriesOf u))) t u refl h
-
--- and can be held again, where what is proposed has at most 512 triangles, each with D > 0
-limited-fits : (b : Bool) (t u : Table) → ltb maxEntries (length (entriesOf u)) ≡ b → Indexable t → length u ≤ maxTriangles
-    → all (λ s. proper s) u ≡ true → Indexable (doneOr t (refuseIf b tooManyEntries (done u)))
-unfolding refuseIf doneOr
-limited-fits true t u e h few proper = h
-limited-fits false t u e h few proper =
-    record { few = few; oriented = proper; small = ltb-false maxEntries (length (entriesOf u)) e }
-
-pub after-fits : (t : Table) (o : Outcome Table) → ((u : Table) → o ≡ done u → (length u ≤ maxTriangles) × (all (λ s. proper s) u ≡ true))
-    → Indexable t → Indexable (doneOr t (andThen o (λ u. withinLimit u)))
-unfolding andThen withinLimit limited doneOr
-after-fits t (refused r) good h = h
-after-fits t (done u) good h =
-    limited-fits (ltb maxEntries (length (entriesOf u))) t u refl h (good u refl .0) (good u refl .1)
+-- so the table after any event has
+pub after-small : (e : Event) (t : Table) → length (entriesOf t) ≤ maxEntries → length (entriesOf (afterEvent e t)) ≤ maxEntries
+unfolding afterEvent andThen withinLimit limited
+after-small e t h = rw (event-limited e t) (go (proposed e t))
+  where
+    go : (o : Outcome Table) → length (entriesOf (doneOr t (andThen o (λ u. withinLimit u)))) ≤ maxEntries
+    go (refused r) = h
+    go (done u) = limited-small (ltb maxEntries (length (entriesOf u))) t u refl h

@@ -13,7 +13,8 @@ use Rattle.theory_lists.proofs.FirstLaws.{first-agree}
 use Rattle.spec_plane.specs.declared.Point.{Point}
 use Rattle.spec_plane.specs.Triangle.{holds}
 use Rattle.spec_charts.specs.Table.{triangleAt, numbered, numbersPerTriangle}
-use Rattle.spec_charts.specs.Refusals.{Refusal, refused, done, outcomeNumber, doneOr}
+use Rattle.spec_charts.specs.declared.Refusal.{Refusal}
+use Rattle.spec_charts.specs.Refusals.{rowOf, refused, done, outcomeNumber, doneOr}
 use Rattle.spec_charts.specs.Reading.{listing, located, sound, totalArea}
 use Rattle.laws_charts.proofs.TableLaws.{numbered-at}
 use Rattle.laws_charts.proofs.LocateOfChain.{listed-below}
@@ -30,21 +31,21 @@ module _ (c : Chart) where
     reading-refused a = chained-refused c (done a) h
 
     pub listing-refused : (p : Point) → [] ≡ listingCall c p
-    unfolding listingCall doneOr
+    unfolding listingCall
     listing-refused p = ap (doneOr []) (reading-refused (listing (chartEntries c) p))
 
-    pub locate-refused : (p : Point) → _≡_ {A = Located} (record { number = r .number; found = none }) (locateCall c p)
-    unfolding locateCall outcomeNumber doneOr
+    pub locate-refused : (p : Point) → _≡_ {A = Located} (record { number = rowOf r .number; found = none }) (locateCall c p)
+    unfolding locateCall
     locate-refused p =
         let e = reading-refused (located (chartTable c) (chartEntries c) p) in
         λ i. record { number = outcomeNumber (e i); found = doneOr none (e i) }
 
-    pub sound-refused : _≡_ {A = Soundness} (record { number = r .number; isSound = false }) (soundCall c)
-    unfolding soundCall outcomeNumber doneOr
+    pub sound-refused : _≡_ {A = Soundness} (record { number = rowOf r .number; isSound = false }) (soundCall c)
+    unfolding soundCall
     sound-refused = let e = reading-refused (sound (chartTable c)) in λ i. record { number = outcomeNumber (e i); isSound = doneOr false (e i) }
 
-    pub area-refused : _≡_ {A = Area} (record { number = r .number; area = 0 }) (areaCall c)
-    unfolding areaCall outcomeNumber doneOr
+    pub area-refused : _≡_ {A = Area} (record { number = rowOf r .number; area = 0 }) (areaCall c)
+    unfolding areaCall
     area-refused = let e = reading-refused (totalArea (chartTable c)) in λ i. record { number = outcomeNumber (e i); area = doneOr 0 (e i) }
 
   module _ (s : tooShort c ≡ false) (r : chainRule c ≡ true) where
@@ -54,21 +55,21 @@ module _ (c : Chart) where
     reading-done a = sym (chained-passes c (done a) s r)
 
     pub listing-done : (p : Point) → listing (chartEntries c) p ≡ listingCall c p
-    unfolding listingCall doneOr
+    unfolding listingCall
     listing-done p = ap (doneOr []) (reading-done (listing (chartEntries c) p))
 
     pub located-done : (p : Point) → _≡_ {A = Located} (record { number = 0; found = located (chartTable c) (chartEntries c) p }) (locateCall c p)
-    unfolding locateCall outcomeNumber doneOr
+    unfolding locateCall
     located-done p =
         let e = reading-done (located (chartTable c) (chartEntries c) p) in
         λ i. record { number = outcomeNumber (e i); found = doneOr none (e i) }
 
     pub sound-done : _≡_ {A = Soundness} (record { number = 0; isSound = sound (chartTable c) }) (soundCall c)
-    unfolding soundCall outcomeNumber doneOr
+    unfolding soundCall
     sound-done = let e = reading-done (sound (chartTable c)) in λ i. record { number = outcomeNumber (e i); isSound = doneOr false (e i) }
 
     pub area-done : _≡_ {A = Area} (record { number = 0; area = totalArea (chartTable c) }) (areaCall c)
-    unfolding areaCall outcomeNumber doneOr
+    unfolding areaCall
     area-done = let e = reading-done (totalArea (chartTable c)) in λ i. record { number = outcomeNumber (e i); area = doneOr 0 (e i) }
 
     module _ (p : Point) where

@@ -18,7 +18,8 @@ use Rattle.spec_plane.specs.declared.Point.{Point}
 use Rattle.spec_plane.specs.Triangle.{Triangle, strictlyInside}
 use Rattle.spec_plane.proofs.PointLaws.{samePoint-reflects}
 use Rattle.spec_charts.specs.Table.{Table, numbered, noTriangle, maxTriangles}
-use Rattle.spec_charts.specs.Refusals.{refused, done, noSuchTriangle, notInside, notThreeAround, tableFull}
+use Rattle.spec_charts.specs.declared.Refusal.the-variants.{NoSuchTriangle, NotInside, NotThreeAround, TableFull}
+use Rattle.spec_charts.specs.Refusals.{refused, done}
 use Rattle.spec_charts.specs.Edits.{triangle, splitAt, splitTable, hasCorner, endingIn, closesRound, mergeAround, mergeThree, takeOutThree, takeOutTable}
 use Rattle.laws_charts.proofs.OutcomeLaws.{refused-done, done-same, refuseIf-done, passed}
 
@@ -35,9 +36,9 @@ pub record Split (t : ℕ) (p : Point) (table next : Table) : Type 0 where
 pub split-done : (t : ℕ) (p : Point) (table next : Table) → splitTable t p table ≡ done next → Split t p table next
 unfolding splitTable
 split-done t p table next e =
-    let f = refuseIf-done (leb (length table) t) noSuchTriangle e in
-    let g = refuseIf-done (not (strictlyInside (numbered table t) p)) notInside (f .1) in
-    let h = refuseIf-done (ltb maxTriangles (length table + 2)) tableFull (g .1) in
+    let f = refuseIf-done (leb (length table) t) NoSuchTriangle e in
+    let g = refuseIf-done (not (strictlyInside (numbered table t) p)) NotInside (f .1) in
+    let h = refuseIf-done (ltb maxTriangles (length table + 2)) TableFull (g .1) in
     let below : length table ≤ t → ⊥ = λ l. f .0 (le→leb (length table) t l) in
     let room : maxTriangles < length table + 2 → ⊥ = λ l. h .0 (lt→ltb maxTriangles (length table + 2) l) in
     record {
@@ -99,7 +100,7 @@ merge-done table next i j k t u v e = go (closesRound t u v) (closesRound t v u)
           | true ↦ done (mergeAround table i j k (triangle (t .a) (t .b) (u .b)))
           | false ↦ elim d [
             | true ↦ done (mergeAround table i j k (triangle (t .a) (t .b) (v .b)))
-            | false ↦ refused notThreeAround
+            | false ↦ refused NotThreeAround
           ]
         ] ≡ done next
         → Merged table next i j k t u v

@@ -8,7 +8,7 @@ use mathlib.Core.List.{List, [], _∷_}
 use mathlib.Core.Logic.{inl, inr}
 use Prim.Native.Nat.{ℕ, _<_}
 use native.Mathlib.Omega.{arith}
-use lib.Dec.{T, ltb}
+use lib.Dec.{T}
 use lib.ListN.{length, set, length-append, length-set}
 use Rattle.theory_lists.specs.Lists.{all}
 use Rattle.theory_lists.proofs.Reflects.{reflects-test}
@@ -19,15 +19,15 @@ use Rattle.spec_plane.specs.declared.Point.{Point}
 use Rattle.spec_plane.specs.Triangle.{Triangle, proper}
 use Rattle.spec_plane.proofs.ExtremeLaws.{OnGrid}
 use Rattle.spec_charts.specs.Table.{Table, IsTable, numbered, noTriangle}
-use Rattle.spec_charts.specs.Cells.{entriesOf, maxEntries}
-use Rattle.spec_charts.specs.Refusals.{Outcome, refused, done, andThen, doneOr, tooManyEntries}
-use Rattle.spec_charts.specs.Edits.{Event, load, split, takeOut, flip, triangle, rotations, hasCorner, splitAt, endingIn, sixteenBitEvent, proposed, limited, withinLimit, eventOn, afterEvent, afterEvents, plainTable}
+use Rattle.spec_charts.specs.Refusals.{Outcome, refused, done, andThen, doneOr}
+use Rattle.spec_charts.specs.Edits.{Event, load, split, takeOut, flip, triangle, rotations, hasCorner, splitAt, endingIn, sixteenBitEvent, proposed, counted, eventOn, afterEvent, afterEvents, plainTable}
 use Rattle.laws_charts.proofs.TriangleLaws.{proper-rotate, inside-parts}
 use Rattle.laws_charts.proofs.RotationLaws.{rotations-every, endingIn-rotation}
 use Rattle.laws_charts.proofs.LoadTable.{load-table}
 use Rattle.laws_charts.proofs.MergeLaws.{taken-sum, merge-length, merge-every}
 use Rattle.laws_charts.proofs.GridLaws.{IsTriangle, table-proper, table-triangles, triangles-table, inside-grid}
-use Rattle.laws_charts.proofs.OutcomeLaws.{refused-done, refuseIf-done}
+use Rattle.laws_charts.proofs.OutcomeLaws.{refused-done}
+use Rattle.laws_charts.proofs.CountedLaws.{counted-done}
 use Rattle.laws_charts.proofs.EditLaws.{Split, split-done, mergedTriangle, TakenOut, takeOut-done}
 use Rattle.laws_charts.proofs.FlipLaws.{Flipped, flip-done}
 
@@ -102,12 +102,12 @@ proposed-table (flip i j) table next w h e = flip-table h i j (flip-done i j tab
 
 -- the table that an accepted event leaves is the one proposed
 pub event-proposed : (e : Event) (table next : Table) → eventOn e table ≡ done next → proposed e table ≡ done next
-unfolding eventOn andThen withinLimit limited
+unfolding eventOn andThen
 event-proposed e table next h = go (proposed e table) h
   where
-    go : (o : Outcome Table) → andThen o (λ t. withinLimit t) ≡ done next → o ≡ done next
+    go : (o : Outcome Table) → andThen o (λ t. counted e t) ≡ done next → o ≡ done next
     go (refused r) h = absurd (refused-done h)
-    go (done t) h = refuseIf-done (ltb maxEntries (length (entriesOf t))) tooManyEntries h .1
+    go (done t) h = counted-done e t h
 
 -- an accepted event leaves a table
 pub event-table : (e : Event) (table next : Table) → T (sixteenBitEvent e) → IsTable table → eventOn e table ≡ done next → IsTable next
@@ -115,7 +115,7 @@ event-table e table next w h d = proposed-table e table next w h (event-proposed
 
 -- a refused event changes nothing, so any event leaves a table
 pub after-event-table : (e : Event) (table : Table) → T (sixteenBitEvent e) → IsTable table → IsTable (afterEvent e table)
-unfolding afterEvent doneOr
+unfolding afterEvent
 after-event-table e table w h = go (eventOn e table) (λ next d. event-table e table next w h d)
   where
     go : (o : Outcome Table) → ((next : Table) → o ≡ done next → IsTable next) → IsTable (doneOr table o)

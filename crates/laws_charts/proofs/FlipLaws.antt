@@ -16,7 +16,8 @@ use Rattle.theory_lists.proofs.EditedLists.{first-found}
 use Rattle.spec_plane.specs.Triangle.{Triangle, proper}
 use Rattle.spec_plane.proofs.PointLaws.{samePoint-reflects}
 use Rattle.spec_charts.specs.Table.{Table, numbered}
-use Rattle.spec_charts.specs.Refusals.{done, noSuchTriangle, noFlip}
+use Rattle.spec_charts.specs.declared.Refusal.the-variants.{NoSuchTriangle, NoFlip}
+use Rattle.spec_charts.specs.Refusals.{done}
 use Rattle.spec_charts.specs.Edits.{triangle, rotations, sharesSide, flipAs, flipWith, flipAmong, flipTable}
 use Rattle.laws_charts.proofs.OutcomeLaws.{refused-done, done-same, refuseIf-done, passed}
 
@@ -62,12 +63,12 @@ among-done table next i j us (t ∷ ts) e = go (first (λ u. sharesSide t u) us)
 pub flip-done : (i j : ℕ) (table next : Table) → flipTable i j table ≡ done next → Flipped i j table next
 unfolding flipTable flipAs sharesSide
 flip-done i j table next e =
-    let f = refuseIf-done (leb (length table) i || leb (length table) j) noSuchTriangle e in
+    let f = refuseIf-done (leb (length table) i || leb (length table) j) NoSuchTriangle e in
     let s = among-done table next i j _ _ (f .1) in
     let t = s .t in
     let u = s .u in
     let both = proper (triangle (t .a) (u .c) (t .c)) && proper (triangle (u .c) (t .b) (t .c)) in
-    let g = refuseIf-done (not both) noFlip (s .flips) in
+    let g = refuseIf-done (not both) NoFlip (s .flips) in
     let b = reflects-or (reflects-leb (length table) i) (reflects-leb (length table) j) in
     let p = reflects-and (reflects-test (proper (triangle (t .a) (u .c) (t .c)))) (reflects-test (proper (triangle (u .c) (t .b) (t .c)))) .to (passed both (g .0)) in
     let q = reflects-and (samePoint-reflects (t .a) (u .b)) (samePoint-reflects (t .b) (u .a)) .to (s .shares) in

@@ -17,7 +17,8 @@ use Rattle.theory_lists.proofs.EditedLists.{first-found, first-none, first-miss
 use Rattle.spec_plane.specs.Triangle.{Triangle, proper}
 use Rattle.spec_plane.proofs.PointLaws.{samePoint-reflects}
 use Rattle.spec_charts.specs.Table.{Table, numbered}
-use Rattle.spec_charts.specs.Refusals.{refused, refuseIf, noFlip}
+use Rattle.spec_charts.specs.declared.Refusal.the-variants.{NoFlip}
+use Rattle.spec_charts.specs.Refusals.{refused, refuseIf}
 use Rattle.spec_charts.specs.Edits.{triangle, rotations, sharesSide, flipAs, flipWith, flipAmong, flipTable}
 use Rattle.laws_charts.proofs.TableLaws.{numbered-proper}
 use Rattle.laws_charts.proofs.TriangleLaws.{named, reversed-proper}
@@ -86,7 +87,7 @@ module _ (table : Table) (i j : ℕ) (us : List Triangle) where
           sym (ap₂ (λ x y. flipAs table i j x y) (g .0) (g .1))
 
   -- and refuses where there is none
-  among-none : (ts : List Triangle) → Every (λ s. Every (λ r. sharesSide s r ≡ false) us) ts → flipAmong table i j us ts ≡ refused noFlip
+  among-none : (ts : List Triangle) → Every (λ s. Every (λ r. sharesSide s r ≡ false) us) ts → flipAmong table i j us ts ≡ refused NoFlip
   unfolding flipAmong flipWith
   among-none [] h = refl
   among-none (t ∷ ts) h =
@@ -108,7 +109,7 @@ flip-found i j table good hi hj {s} {r} ms mr h =
 -- where no rotations of them do, it is refused
 pub flip-unshared : (i j : ℕ) (table : Table) → i < length table → j < length table
     → Every (λ s. Every (λ r. sharesSide s r ≡ false) (rotations (numbered table j))) (rotations (numbered table i))
-    → flipTable i j table ≡ refused noFlip
+    → flipTable i j table ≡ refused NoFlip
 unfolding flipTable refuseIf
 flip-unshared i j table hi hj h =
     rw (lt-leb (length table) i hi, lt-leb (length table) j hj)

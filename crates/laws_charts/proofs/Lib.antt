@@ -4,6 +4,7 @@ pub mod SoundLaws
 pub mod AreaLaws
 pub mod TriangleLaws
 pub mod OutcomeLaws
+pub mod CountedLaws
 pub mod RotationLaws
 pub mod GridLaws
 pub mod EditLaws

@@ -15,7 +15,8 @@ use Rattle.theory_lists.proofs.EveryLaws.{every-imp}
 use Rattle.theory_lists.proofs.EditedLists.{places-none}
 use Rattle.spec_plane.specs.Triangle.{proper}
 use Rattle.spec_charts.specs.Table.{Table, IsTable, tableLength, tableOf, tableNumbers, sixteenBit, numbersPerTriangle}
-use Rattle.spec_charts.specs.Refusals.{done, badLength}
+use Rattle.spec_charts.specs.declared.Refusal.the-variants.{BadLength}
+use Rattle.spec_charts.specs.Refusals.{done}
 use Rattle.spec_charts.specs.Edits.{faulty, refuseFaulty, givenTable, loadTable}
 use Rattle.laws_charts.proofs.TableLaws.{tableOf-length, tableNumbers-take}
 use Rattle.laws_charts.proofs.OutcomeLaws.{refused-done, done-same, refuseIf-done}
@@ -38,7 +39,7 @@ pub load-table : (ns : List ℕ) (next : Table) → T (sixteenBit ns) → loadTa
 unfolding loadTable givenTable faulty
 load-table ns next h e =
     let n = length ns / numbersPerTriangle in
-    let f = refuseIf-done (not (eqb (length ns % numbersPerTriangle) 0) || ltb tableLength (length ns)) badLength e in
+    let f = refuseIf-done (not (eqb (length ns % numbersPerTriangle) 0) || ltb tableLength (length ns)) BadLength e in
     let g = or-none (eqb (length ns % numbersPerTriangle) 0) (ltb tableLength (length ns)) (f .0) in
     let m = eqb→eq (length ns % numbersPerTriangle) 0 (g .0) in
     let few : tableLength < length ns → ⊥ = λ l. g .1 (lt→ltb tableLength (length ns) l) in

@@ -5,7 +5,8 @@ use mathlib.Core.Bool.{Bool, true, false, not}
 use Prim.Native.Nat.{ℕ}
 use native.Mathlib.Omega.{arith}
 use lib.Dec.{T}
-use Rattle.spec_charts.specs.Refusals.{Refusal, Outcome, refused, done, refuseIf}
+use Rattle.spec_charts.specs.declared.Refusal.{Refusal}
+use Rattle.spec_charts.specs.Refusals.{Outcome, refused, done, refuseIf}
 
 module _ {A : Type 0} where
   -- a refusal is not done

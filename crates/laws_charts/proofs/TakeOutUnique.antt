@@ -7,7 +7,8 @@ use Prim.Native.Nat.{ℕ}
 use lib.Dec.{T}
 use Rattle.spec_plane.specs.Triangle.{Triangle, proper}
 use Rattle.spec_charts.specs.Table.{Table}
-use Rattle.spec_charts.specs.Refusals.{Outcome, refused, done, notThreeAround}
+use Rattle.spec_charts.specs.declared.Refusal.the-variants.{NotThreeAround}
+use Rattle.spec_charts.specs.Refusals.{Outcome, refused, done}
 use Rattle.spec_charts.specs.Edits.{triangle, closesRound, mergeAround, mergeThree}
 use Rattle.laws_charts.proofs.RotationLaws.{corners-apart}
 use Rattle.laws_charts.proofs.EditLaws.{closes}
@@ -28,11 +29,11 @@ merge-either table i j k t u v hu = go (closesRound t u v) (closesRound t v u) (
         → _≡_ {A = Outcome Table}
         (elim b [
           | true ↦ done (mergeAround table i j k (triangle (t .a) (t .b) (u .b)))
-          | false ↦ elim d [ true ↦ done (mergeAround table i j k (triangle (t .a) (t .b) (v .b))) | false ↦ refused notThreeAround ]
+          | false ↦ elim d [ true ↦ done (mergeAround table i j k (triangle (t .a) (t .b) (v .b))) | false ↦ refused NotThreeAround ]
         ])
         (elim d [
           | true ↦ done (mergeAround table i j k (triangle (t .a) (t .b) (v .b)))
-          | false ↦ elim b [ true ↦ done (mergeAround table i j k (triangle (t .a) (t .b) (u .b))) | false ↦ refused notThreeAround ]
+          | false ↦ elim b [ true ↦ done (mergeAround table i j k (triangle (t .a) (t .b) (u .b))) | false ↦ refused NotThreeAround ]
         ])
     go true true n = absurd (n tt tt)
     go true false n = refl

@@ -13,7 +13,7 @@ use Rattle.theory_lists.specs.Lists.{all}
 use Rattle.theory_lists.proofs.Reflects.{test-true}
 use Rattle.spec_charts.specs.Table.{Table}
 use Rattle.spec_charts.specs.Cells.{entriesOf, maxEntries}
-use Rattle.spec_charts.specs.Edits.{Event, load, sixteenBitEvent, proposed, eventOn, afterEvent, afterEvents, plainTable}
+use Rattle.spec_charts.specs.Edits.{Event, load, sixteenBitEvent, eventOn, afterEvent, afterEvents, plainTable}
 use Rattle.spec_charts.proofs.Evaluate.{evaluate}
 use Rattle.laws_charts.proofs.EventTable.{plain-table}
 use Rattle.spec_calls.specs.Buffers.{Chart, tooShort, chartTable, chartEntries, indexedChart}
@@ -33,7 +33,7 @@ empty-small = omega arith
 after-few : (es : List Event) (t : Table) → length (entriesOf t) ≤ maxEntries → length (entriesOf (afterEvents es t)) ≤ maxEntries
 unfolding afterEvents afterEvent eventOn
 after-few [] t h = h
-after-few (e ∷ es) t h = after-few es (afterEvent e t) (after-small t (proposed e t) h)
+after-few (e ∷ es) t h = after-few es (afterEvent e t) (after-small e t h)
 
 -- the plain table can be held by a chart
 pub plain-fits : (es : List Event) → T (all (λ e. sixteenBitEvent e) es) → Indexable (plainTable es)

@@ -14,7 +14,8 @@ use Rattle.theory_orthtree.specs.Entries.{meetings}
 use Rattle.spec_squares.specs.Square.{arity, depth}
 use Rattle.spec_charts.specs.Table.{Table, IsTable}
 use Rattle.spec_charts.specs.Cells.{entriesOf}
-use Rattle.spec_charts.specs.Refusals.{tooManyPairs, done, refuseIf}
+use Rattle.spec_charts.specs.declared.Refusal.the-variants.{TooManyPairs}
+use Rattle.spec_charts.specs.Refusals.{done, refuseIf}
 use Rattle.spec_charts.specs.Overlay.{Pair, pairNumbers, pairsListed, maxPairs, withinPairs, overlayOf}
 use Rattle.laws_charts.proofs.OverlayLaws.{pairs-ascend}
 use Rattle.laws_charts.proofs.SharedGround.{pairs-of-tables}
@@ -30,7 +31,7 @@ answer-same : (ps : List Pair) (m : ℕ) (before : List ℕ) → overlaidBy befo
 unfolding withinPairs refuseIf overlaidBy pairsRefused overlayAnswer padded
 answer-same ps m before = go (ltb maxPairs (length ps))
   where
-    go : (b : Bool) → overlaidBy before (refuseIf b tooManyPairs (done (record { pairs = ps; meets = m })))
+    go : (b : Bool) → overlaidBy before (refuseIf b TooManyPairs (done (record { pairs = ps; meets = m })))
         ≡ elim b [
           | true ↦ record { number = 12; pairCount = 0; meets = 0; pairs = replicate pairsLength 0 ++ drop pairsLength before }
           | false ↦ record { number = 0; pairCount = length ps; meets = m; pairs = padded pairsLength (pairNumbers ps) before }

@@ -10,8 +10,9 @@ use lib.ListN.{take, replicate}
 use Rattle.spec_plane.specs.declared.Point.{Point}
 use Rattle.spec_plane.specs.Triangle.{Triangle}
 use Rattle.spec_charts.specs.Table.{Table}
-use Rattle.spec_charts.specs.Refusals.{shortBuffer, brokenChain, staleEntries, Outcome, refused, done, tooManyPairs, andThen}
-use Rattle.spec_charts.specs.Edits.{Event, load, split, takeOut, flip, eventOn, splitTable, takeOutTable, flipTable, withinLimit}
+use Rattle.spec_charts.specs.declared.Refusal.the-variants.{ShortBuffer, BrokenChain, StaleEntries, TooManyPairs}
+use Rattle.spec_charts.specs.Refusals.{rowOf, refused, done}
+use Rattle.spec_charts.specs.Edits.{Event, load, split, takeOut, flip, eventOn}
 use Rattle.spec_charts.proofs.Written.{at}
 use Rattle.spec_charts.proofs.RefusalsExamples.{rows}
 use Rattle.spec_charts.proofs.EditExamples.{tri}
@@ -97,32 +98,31 @@ changedBy-done-example c t = refl
 -- 1 comes first; then whatever the event comes to, 11 too; a broken chain and wrong entries do not matter
 loadCall-example : (ns : List ℕ)
     → loadCall ns short ∷ loadCall ns broken ∷ []
-    ≡ changedBy short (refused shortBuffer) ∷ changedBy broken (eventOn (load ns) (Vt ∷ [])) ∷ []
+    ≡ changedBy short (refused ShortBuffer) ∷ changedBy broken (eventOn (load ns) (Vt ∷ [])) ∷ []
 unfolding evaluate
 loadCall-example ns = refl
 
--- 1, 2 and 3 before any edit, in this order; then what the edit makes of the table, and 11
-editCall-example : (edit : Table → Outcome Table)
-    → map (λ c. editCall edit c) (short ∷ broken ∷ stale ∷ chartU ∷ [])
-    ≡ changedBy short (refused shortBuffer)
-    ∷ changedBy broken (refused brokenChain)
-    ∷ changedBy stale (refused staleEntries)
-    ∷ changedBy chartU (andThen (edit (U ∷ [])) (λ t. withinLimit t))
+-- 1, 2 and 3 before any edit, in this order; then what the event comes to on the table, 11 too
+editCall-example : (e : Event)
+    → map (λ c. editCall e c) (short ∷ broken ∷ stale ∷ chartU ∷ [])
+    ≡ changedBy short (refused ShortBuffer)
+    ∷ changedBy broken (refused BrokenChain)
+    ∷ changedBy stale (refused StaleEntries)
+    ∷ changedBy chartU (eventOn e (U ∷ []))
     ∷ []
 unfolding evaluate
-editCall-example edit = refl
+editCall-example e = refl
 
--- which edit of the table each call is
+-- which event each call is
 edit-calls-example : (t i j : ℕ) (p : Point) (c : Chart)
     → splitCall t p c ∷ takeOutCall p c ∷ flipCall i j c ∷ []
-    ≡ editCall (λ table. splitTable t p table) c ∷ editCall (λ table. takeOutTable p table) c ∷ editCall (λ table. flipTable i j table) c ∷ []
-unfolding splitCall takeOutCall flipCall
+    ≡ editCall (split t p) c ∷ editCall (takeOut p) c ∷ editCall (flip i j) c ∷ []
 edit-calls-example t i j p c = refl
 
 -- Readers
 
 -- 1, then 2, then what is read; entries that are not the table's do not matter
-reading-example : (a : ℕ) → map (λ c. reading c a) (short ∷ broken ∷ stale ∷ chartU ∷ []) ≡ refused shortBuffer ∷ refused brokenChain ∷ done a ∷ done a ∷ []
+reading-example : (a : ℕ) → map (λ c. reading c a) (short ∷ broken ∷ stale ∷ chartU ∷ []) ≡ refused ShortBuffer ∷ refused BrokenChain ∷ done a ∷ done a ∷ []
 unfolding evaluate
 reading-example a = refl
 
@@ -156,13 +156,13 @@ pairsRefused-example : (before : List ℕ)
 unfolding evaluate
 pairsRefused-example before = refl
 
-pairsRefused-many-example : pairsRefused tooManyPairs (replicate 8191 7 ++ (7 ∷ 8 ∷ 9 ∷ [])) ≡ replicate 8192 0 ++ (8 ∷ 9 ∷ [])
+pairsRefused-many-example : pairsRefused TooManyPairs (replicate 8191 7 ++ (7 ∷ 8 ∷ 9 ∷ [])) ≡ replicate 8192 0 ++ (8 ∷ 9 ∷ [])
 unfolding evaluate
 pairsRefused-many-example = refl
 
 overlaidBy-example : (before : List ℕ)
     → map (λ r. overlaidBy before (refused r)) (take 11 rows)
-    ≡ map (λ r. record { number = r .number; pairCount = 0; meets = 0; pairs = before }) (take 11 rows)
+    ≡ map (λ r. record { number = rowOf r .number; pairCount = 0; meets = 0; pairs = before }) (take 11 rows)
 unfolding evaluate
 overlaidBy-example before = refl
 

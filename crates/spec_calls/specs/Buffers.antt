@@ -2,7 +2,7 @@
 -- Assumes nothing.
 use mathlib.Core.Bool.{Bool, true, false, _&&_, _||_}
 use mathlib.Core.List.{List, [], _∷_, _++_, map}
-use Prim.Native.Nat.{ℕ, _-_}
+use Prim.Native.Nat.{ℕ, _-_, _≤_}
 use lib.Dec.{leb, ltb, eqb}
 use lib.ListN.{length, take, drop, replicate}
 use Rattle.theory_lists.specs.Lists.{all}
@@ -35,6 +35,12 @@ chartOf table keys levels items triangleCount entryCount = record {
 -- "pairs of 8,192 (16-bit, i then j for each pair)"
 abbrev pub pairsLength : ℕ
 pairsLength = 8192
+
+-- three entry lists with room for n entries
+pub record Roomy (n : ℕ) (keys levels items : List ℕ) : Type 0 where
+  pub forKeys : n ≤ length keys
+  pub forLevels : n ≤ length levels
+  pub forItems : n ≤ length items
 
 -- refusal 1 of a chart: "a lent buffer is shorter than above"
 unfoldable pub tooShort : Chart → Bool

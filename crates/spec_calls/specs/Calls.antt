@@ -10,8 +10,10 @@ use lib.Dec.{ltb, eqb}
 use lib.ListN.{length}
 use Rattle.spec_plane.specs.declared.Point.{Point}
 use Rattle.spec_charts.specs.Table.{Table}
-use Rattle.spec_charts.specs.Refusals.{Refusal, shortBuffer, brokenChain, staleEntries, tooManyPairs, Outcome, refused, done, refuseIf, andThen, outcomeNumber, doneOr}
-use Rattle.spec_charts.specs.Edits.{load, eventOn, splitTable, takeOutTable, flipTable, withinLimit}
+use Rattle.spec_charts.specs.declared.Refusal.{Refusal}
+use Rattle.spec_charts.specs.declared.Refusal.the-variants.{ShortBuffer, BrokenChain, StaleEntries, TooManyPairs}
+use Rattle.spec_charts.specs.Refusals.{rowOf, Outcome, refused, done, refuseIf, outcomeNumber, doneOr}
+use Rattle.spec_charts.specs.Edits.{Event, load, split, takeOut, flip, eventOn}
 use Rattle.spec_charts.specs.Overlay.{OverlayAnswer, pairNumbers, overlayOf}
 use Rattle.spec_calls.specs.Buffers.{Chart, tooShort, chainRule, indexed, indexedChart, chartTable, chartEntries, padded, pairsLength}
 use Rattle.spec_charts.specs.Reading.{located, listing, sound, totalArea}
@@ -20,15 +22,15 @@ use Rattle.spec_charts.specs.Reading.{located, listing, sound, totalArea}
 
 -- 1
 unfoldable pub ifLong : {A : Type 0} → Chart → Outcome A → Outcome A
-ifLong c next = refuseIf (tooShort c) shortBuffer next
+ifLong c next = refuseIf (tooShort c) ShortBuffer next
 
 -- 1 and 2
 unfoldable pub ifChained : {A : Type 0} → Chart → Outcome A → Outcome A
-ifChained c next = ifLong c (refuseIf (not (chainRule c)) brokenChain next)
+ifChained c next = ifLong c (refuseIf (not (chainRule c)) BrokenChain next)
 
 -- 1, 2 and 3
 unfoldable pub ifIndexed : {A : Type 0} → Chart → Outcome A → Outcome A
-ifIndexed c next = ifChained c (refuseIf (not (indexed c)) staleEntries next)
+ifIndexed c next = ifChained c (refuseIf (not (indexed c)) StaleEntries next)
 
 -- Load and the edits
 
@@ -40,25 +42,25 @@ pub record Changed : Type 0 where
 
 -- "Buffers and counts keep their former contents" at a refusal; else they hold the new table and its entries
 unfoldable pub changedBy : Chart → Outcome Table → Changed
-changedBy c (refused r) = record { number = r .number; value = r .value; chart = c }
+changedBy c (refused r) = record { number = rowOf r .number; value = rowOf r .value; chart = c }
 changedBy c (done t) = record { number = 0; value = 0; chart = indexedChart c t }
 
 -- the table given is not one of the lent buffers; 2 and 3 are not judged
 unfoldable pub loadCall : List ℕ → Chart → Changed
 loadCall ns c = changedBy c (ifLong c (eventOn (load ns) (chartTable c)))
 
--- split, take-out and flip: 1, 2 and 3, then what the edit makes of the chart's table, and 11
-unfoldable pub editCall : (Table → Outcome Table) → Chart → Changed
-editCall edit c = changedBy c (ifIndexed c (andThen (edit (chartTable c)) (λ t. withinLimit t)))
+-- split, take-out and flip: 1, 2 and 3, then what the event comes to on the chart's table
+unfoldable pub editCall : Event → Chart → Changed
+editCall e c = changedBy c (ifIndexed c (eventOn e (chartTable c)))
 
-unfoldable pub splitCall : ℕ → Point → Chart → Changed
-splitCall t p = editCall (λ table. splitTable t p table)
+abbrev pub splitCall : ℕ → Point → Chart → Changed
+splitCall t p = editCall (split t p)
 
-unfoldable pub takeOutCall : Point → Chart → Changed
-takeOutCall p = editCall (λ table. takeOutTable p table)
+abbrev pub takeOutCall : Point → Chart → Changed
+takeOutCall p = editCall (takeOut p)
 
-unfoldable pub flipCall : ℕ → ℕ → Chart → Changed
-flipCall i j = editCall (λ table. flipTable i j table)
+abbrev pub flipCall : ℕ → ℕ → Chart → Changed
+flipCall i j = editCall (flip i j)
 
 -- Readers
 
@@ -114,10 +116,10 @@ pub record Overlaid : Type 0 where
 
 -- at refusals the pairs keep their contents, "except at 12": "12, and 8,192 zeros in pairs"
 unfoldable pub pairsRefused : Refusal → List ℕ → List ℕ
-pairsRefused r before = cond (eqb (r .number) (tooManyPairs .number)) (padded pairsLength [] before) before
+pairsRefused r before = cond (eqb (rowOf r .number) (rowOf TooManyPairs .number)) (padded pairsLength [] before) before
 
 unfoldable pub overlaidBy : List ℕ → Outcome OverlayAnswer → Overlaid
-overlaidBy before (refused r) = record { number = r .number; pairCount = 0; meets = 0; pairs = pairsRefused r before }
+overlaidBy before (refused r) = record { number = rowOf r .number; pairCount = 0; meets = 0; pairs = pairsRefused r before }
 overlaidBy before (done h) = record {
   number = 0;
   pairCount = length (h .pairs);
@@ -129,6 +131,6 @@ overlaidBy before (done h) = record {
 unfoldable pub overlayCall : Chart → Chart → List ℕ → Overlaid
 overlayCall c d pairs =
     overlaidBy pairs
-    (refuseIf (tooShort c || tooShort d || ltb (length pairs) pairsLength) shortBuffer
-    (refuseIf (not (chainRule c) || not (chainRule d)) brokenChain
+    (refuseIf (tooShort c || tooShort d || ltb (length pairs) pairsLength) ShortBuffer
+    (refuseIf (not (chainRule c) || not (chainRule d)) BrokenChain
     (overlayOf (chartTable c) (chartEntries c) (chartTable d) (chartEntries d))))

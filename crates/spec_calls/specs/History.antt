@@ -3,14 +3,14 @@
 use mathlib.Core.List.{List, [], _∷_}
 use Rattle.spec_charts.specs.Edits.{Event, load, split, takeOut, flip}
 use Rattle.spec_calls.specs.Buffers.{Chart}
-use Rattle.spec_calls.specs.Calls.{Changed, loadCall, splitCall, takeOutCall, flipCall}
+use Rattle.spec_calls.specs.Calls.{Changed, loadCall, editCall}
 
 -- the call of an event
 unfoldable pub eventCall : Event → Chart → Changed
 eventCall (load ns) c = loadCall ns c
-eventCall (split t p) c = splitCall t p c
-eventCall (takeOut p) c = takeOutCall p c
-eventCall (flip i j) c = flipCall i j c
+eventCall (split t p) c = editCall (split t p) c
+eventCall (takeOut p) c = editCall (takeOut p) c
+eventCall (flip i j) c = editCall (flip i j) c
 
 -- "Each later call gets its chart's table, three entry lists and both counts as the call before it on that chart left or
 -- returned them"

@@ -9,7 +9,8 @@ use Rattle.spec_plane.specs.declared.Point.{Point}
 use Rattle.spec_plane.specs.Triangle.{Triangle}
 use Rattle.spec_charts.specs.Table.{Table}
 use Rattle.spec_charts.specs.Cells.{entriesOf}
-use Rattle.spec_charts.specs.Refusals.{Outcome, refused, done, faultyTriangle, notThreeAround, noFlip, andThen, doneOr}
+use Rattle.spec_charts.specs.declared.Refusal.the-variants.{FaultyTriangle, NotThreeAround, NoFlip}
+use Rattle.spec_charts.specs.Refusals.{Outcome, refused, done, andThen, doneOr}
 use Rattle.spec_charts.specs.Edits.{triangle, rotations, faulty, refuseFaulty, givenTable, loadTable, splitAt, hasCorner, endingIn, closesRound, mergeAround, mergeThree, takeOutThree, sharesSide, flipAs, flipWith, flipAmong, Event, load, split, takeOut, flip, sixteenBitEvent, proposed, limited, eventOn, afterEvents}
 use Rattle.spec_charts.proofs.Evaluate.{evaluate}
 use Rattle.spec_charts.proofs.Written.{at}
@@ -49,7 +50,7 @@ faulty-example : faulty (tri pa pb pc ∷ tri pa pb pb ∷ tri pc pa pb ∷ tri 
 unfolding evaluate
 faulty-example = refl
 
-refuse-faulty-example : (t : Table) → refuseFaulty [] t ∷ refuseFaulty (4 ∷ 2 ∷ []) t ∷ [] ≡ done t ∷ refused (faultyTriangle 4) ∷ []
+refuse-faulty-example : (t : Table) → refuseFaulty [] t ∷ refuseFaulty (4 ∷ 2 ∷ []) t ∷ [] ≡ done t ∷ refused (FaultyTriangle 4) ∷ []
 unfolding evaluate
 refuse-faulty-example t = refl
 
@@ -108,7 +109,7 @@ mergeThree-example : (q r s u v w : Triangle)
     ∷ mergeThree (q ∷ r ∷ s ∷ u ∷ v ∷ w ∷ []) 1 2 4 (tri pa pb pp) (tri pc pa pp) (tri pb pc pp)
     ∷ mergeThree (q ∷ r ∷ s ∷ u ∷ v ∷ w ∷ []) 1 2 4 (tri pa pb pp) (tri pc pa pp) (tri pb pd pp)
     ∷ []
-    ≡ done (q ∷ tri pa pb pc ∷ u ∷ w ∷ []) ∷ done (q ∷ tri pa pb pc ∷ u ∷ w ∷ []) ∷ refused notThreeAround ∷ []
+    ≡ done (q ∷ tri pa pb pc ∷ u ∷ w ∷ []) ∷ done (q ∷ tri pa pb pc ∷ u ∷ w ∷ []) ∷ refused NotThreeAround ∷ []
 unfolding evaluate
 mergeThree-example q r s u v w = refl
 
@@ -117,11 +118,11 @@ abbrev around : Table
 around = tri pd pb pc ∷ tri pp pa pb ∷ tri pb pc pp ∷ tri pd pc pb ∷ tri pa pp pc ∷ tri pd pa pc ∷ []
 
 takeOutThree-example : map (λ is. takeOutThree pp around is) ([] ∷ (1 ∷ []) ∷ (1 ∷ 2 ∷ []) ∷ (1 ∷ 2 ∷ 4 ∷ []) ∷ (1 ∷ 2 ∷ 4 ∷ 5 ∷ []) ∷ [])
-    ≡ refused notThreeAround
-    ∷ refused notThreeAround
-    ∷ refused notThreeAround
+    ≡ refused NotThreeAround
+    ∷ refused NotThreeAround
+    ∷ refused NotThreeAround
     ∷ done (tri pd pb pc ∷ tri pa pb pc ∷ tri pd pc pb ∷ tri pd pa pc ∷ [])
-    ∷ refused notThreeAround
+    ∷ refused NotThreeAround
     ∷ []
 unfolding evaluate
 takeOutThree-example = refl
@@ -145,7 +146,7 @@ flipAs-example q r s u = refl
 flipAs-refused-example :
     map (λ d. flipAs [] 0 0 (tri (at 10 10) (at 50 10) (at 20 40)) (tri (at 50 10) (at 10 10) d))
     (at 8 4 ∷ at 7 4 ∷ at 55 5 ∷ at 56 5 ∷ at 9 4 ∷ at 54 5 ∷ [])
-    ≡ refused noFlip ∷ refused noFlip ∷ refused noFlip ∷ refused noFlip ∷ done [] ∷ done [] ∷ []
+    ≡ refused NoFlip ∷ refused NoFlip ∷ refused NoFlip ∷ refused NoFlip ∷ done [] ∷ done [] ∷ []
 unfolding evaluate
 flipAs-refused-example = refl
 
@@ -160,7 +161,7 @@ flipAmong-example : (q r s : Triangle)
     → flipAmong (q ∷ r ∷ s ∷ []) 2 1 (rotations (tri pa pd pb)) (rotations (tri pc pa pb))
     ∷ flipAmong (q ∷ r ∷ s ∷ []) 2 1 (rotations (tri pa pb pd)) (rotations (tri pc pa pb))
     ∷ []
-    ≡ done (q ∷ tri pd pb pc ∷ tri pa pd pc ∷ []) ∷ refused noFlip ∷ []
+    ≡ done (q ∷ tri pd pb pc ∷ tri pa pd pc ∷ []) ∷ refused NoFlip ∷ []
 unfolding evaluate
 flipAmong-example q r s = refl
 
@@ -177,7 +178,10 @@ sixteen-bit-event-example = refl
 -- 11 is judged of every event, by the entries of the table that it would make
 limit-example : (e : Event) (table : Table) → eventOn e table ≡ andThen (proposed e table) (λ t. limited (length (entriesOf t)) t)
 unfolding evaluate
-limit-example e table = refl
+limit-example (load ns) table = refl
+limit-example (split t p) table = refl
+limit-example (takeOut p) table = refl
+limit-example (flip i j) table = refl
 
 -- a refused event leaves the table, an accepted one makes its own; the next goes on from there
 after-example : (e f : Event) (table : Table)

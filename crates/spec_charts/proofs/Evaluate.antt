@@ -13,11 +13,11 @@ use Rattle.theory_orthtree.specs.Entries.{emptyMark, isMark, sameCell, cellHead
 use Rattle.spec_squares.specs.Square.{sideAt, wholeSquare, topLeft, topRight, bottomLeft, bottomRight, quarters, zOrder, squareKey, squareBox}
 use Rattle.spec_charts.specs.Table.{sixteenBit, pointAt, triangleAt, tableOf, triangleNumbers, tableNumbers, noTriangle, numbered, tableSides}
 use Rattle.spec_charts.specs.Cells.{sidesMeeting, isEnd, commonEnd, stopped, cellsIn, cells, trianglesMeeting, orMark, entryOf, cellEntries, entriesIn, entriesOf}
-use Rattle.spec_charts.specs.Refusals.{refuseIf, andThen, outcomeNumber, outcomeValue, doneOr}
-use Rattle.spec_charts.specs.Edits.{triangle, rotations, faulty, refuseFaulty, givenTable, loadTable, splitAt, splitTable, hasCorner, endingIn, closesRound, mergeAround, mergeThree, takeOutThree, takeOutTable, sharesSide, flipAs, flipWith, flipAmong, flipTable, sixteenBitEvent, proposed, limited, withinLimit, eventOn, afterEvent, afterEvents, plainTable}
+use Rattle.spec_charts.specs.Refusals.{refuseIf, andThen}
+use Rattle.spec_charts.specs.Edits.{triangle, rotations, faulty, refuseFaulty, givenTable, loadTable, splitAt, splitTable, hasCorner, endingIn, closesRound, mergeAround, mergeThree, takeOutThree, takeOutTable, sharesSide, flipAs, flipWith, flipAmong, flipTable, sixteenBitEvent, proposed, limited, withinLimit, counted, eventOn, afterEvent, afterEvents, plainTable}
 use Rattle.spec_charts.specs.Overlay.{pairNumbers, pairListed, pairsListed, withinPairs, overlayOf, rangesOverlap, cellMeetings}
 use Rattle.spec_charts.specs.Reading.{cellOf, listing, located, sound, totalArea}
 
 unfoldable pub evaluate : Unit {0}
-unfolding flatMap all any filter first runLength placesFrom without sumOf countFrom upTo orient samePoint orientAt whole cornerAt rotated triangleOf proper holds strictlyInside holdsAt strictlyInsideAt doubledArea someCornerInner noSideSeparates interiorsMeet apart sideBox triangleBox allCorners allInner allOuter sideMeets triangleMeets lowestBits mortonKey leavesBelow emptyMark isMark sameCell cellHeadsAfter cellHeads span rangeEnd covers overlaps meetings listedTogether entryFits follows chainAfter chain sideAt wholeSquare topLeft topRight bottomLeft bottomRight quarters zOrder squareKey squareBox sixteenBit pointAt triangleAt tableOf triangleNumbers tableNumbers noTriangle numbered tableSides sidesMeeting isEnd commonEnd stopped cellsIn cells trianglesMeeting orMark entryOf cellEntries entriesIn entriesOf refuseIf andThen outcomeNumber outcomeValue doneOr triangle rotations faulty refuseFaulty givenTable loadTable splitAt splitTable hasCorner endingIn closesRound mergeAround mergeThree takeOutThree takeOutTable sharesSide flipAs flipWith flipAmong flipTable sixteenBitEvent proposed limited withinLimit eventOn afterEvent afterEvents plainTable pairNumbers pairListed pairsListed withinPairs overlayOf rangesOverlap cellMeetings cellOf listing located sound totalArea
+unfolding flatMap all any filter first runLength placesFrom without sumOf countFrom upTo orient samePoint orientAt whole cornerAt rotated triangleOf proper holds strictlyInside holdsAt strictlyInsideAt doubledArea someCornerInner noSideSeparates interiorsMeet apart sideBox triangleBox allCorners allInner allOuter sideMeets triangleMeets lowestBits mortonKey leavesBelow emptyMark isMark sameCell cellHeadsAfter cellHeads span rangeEnd covers overlaps meetings listedTogether entryFits follows chainAfter chain sideAt wholeSquare topLeft topRight bottomLeft bottomRight quarters zOrder squareKey squareBox sixteenBit pointAt triangleAt tableOf triangleNumbers tableNumbers noTriangle numbered tableSides sidesMeeting isEnd commonEnd stopped cellsIn cells trianglesMeeting orMark entryOf cellEntries entriesIn entriesOf refuseIf andThen triangle rotations faulty refuseFaulty givenTable loadTable splitAt splitTable hasCorner endingIn closesRound mergeAround mergeThree takeOutThree takeOutTable sharesSide flipAs flipWith flipAmong flipTable sixteenBitEvent proposed limited withinLimit counted eventOn afterEvent afterEvents plainTable pairNumbers pairListed pairsListed withinPairs overlayOf rangesOverlap cellMeetings cellOf listing located sound totalArea
 evaluate = tt

@@ -6,7 +6,8 @@ use Prim.Native.Nat.{ℕ}
 use lib.ListN.{replicate}
 use Rattle.spec_plane.specs.Triangle.{Triangle}
 use Rattle.spec_charts.specs.Table.{Table, tableNumbers}
-use Rattle.spec_charts.specs.Refusals.{refused, done, noSuchTriangle, notInside, notThreeAround, noFlip, tableFull, outcomeNumber}
+use Rattle.spec_charts.specs.declared.Refusal.the-variants.{NoSuchTriangle, NotInside, NotThreeAround, NoFlip, TableFull}
+use Rattle.spec_charts.specs.Refusals.{refused, done, outcomeNumber}
 use Rattle.spec_charts.specs.Edits.{rotations, splitTable, takeOutTable, flipTable, load, split, takeOut, flip, proposed, plainTable}
 use Rattle.spec_charts.proofs.Evaluate.{evaluate}
 use Rattle.spec_charts.proofs.Written.{at}
@@ -47,11 +48,11 @@ split-full-example :
     ∷ splitTable 509 pp (replicate 510 (tri pa pb pc))
     ∷ splitTable 510 pp (replicate 510 (tri pa pb pc))
     ∷ []
-    ≡ refused noSuchTriangle
-    ∷ refused notInside
-    ∷ refused tableFull
+    ≡ refused NoSuchTriangle
+    ∷ refused NotInside
+    ∷ refused TableFull
     ∷ done (replicate 509 (tri pa pb pc) ++ (tri pa pb pp ∷ tri pb pc pp ∷ tri pc pa pp ∷ []))
-    ∷ refused noSuchTriangle
+    ∷ refused NoSuchTriangle
     ∷ []
 unfolding evaluate
 split-full-example = refl
@@ -95,7 +96,7 @@ takeOut-eight-example :
     ∷ (tri pa pb pp ∷ tri pb pd pp ∷ tri pc pa pp ∷ [])
     ∷ (tri pa pb pp ∷ tri pc pd pp ∷ tri pb pc pp ∷ [])
     ∷ [])
-    ≡ replicate 9 (refused notThreeAround)
+    ≡ replicate 9 (refused NotThreeAround)
 unfolding evaluate
 takeOut-eight-example = refl
 
@@ -124,12 +125,12 @@ flip-nine-example :
     ∷ flipTable 0 2 (tri pa pb pc ∷ tri pb pa pd ∷ [])
     ∷ flipTable 3 3 (tri pa pb pc ∷ tri pb pa pd ∷ [])
     ∷ []
-    ≡ refused noFlip
-    ∷ refused noFlip
-    ∷ refused noFlip
-    ∷ refused noSuchTriangle
-    ∷ refused noSuchTriangle
-    ∷ refused noSuchTriangle
+    ≡ refused NoFlip
+    ∷ refused NoFlip
+    ∷ refused NoFlip
+    ∷ refused NoSuchTriangle
+    ∷ refused NoSuchTriangle
+    ∷ refused NoSuchTriangle
     ∷ []
 unfolding evaluate
 flip-nine-example = refl

@@ -7,7 +7,8 @@ use Prim.Native.Nat.{ℕ}
 use lib.ListN.{replicate}
 use Rattle.theory_orthtree.specs.Entries.{Entry, entry}
 use Rattle.spec_charts.specs.Table.{Table}
-use Rattle.spec_charts.specs.Refusals.{refused, done, tooManyPairs}
+use Rattle.spec_charts.specs.declared.Refusal.the-variants.{TooManyPairs}
+use Rattle.spec_charts.specs.Refusals.{refused, done}
 use Rattle.spec_charts.specs.Overlay.{pair, pairNumbers, pairListed, pairsListed, withinPairs, overlayOf}
 use Rattle.spec_charts.proofs.Evaluate.{evaluate}
 use Rattle.spec_charts.proofs.Written.{at, overlayNumbers}
@@ -108,6 +109,6 @@ pairsListed-example = refl
 
 -- within the limit the pairs and the meetings stay, beyond it nothing does
 withinPairs-example : withinPairs (replicate 4096 (pair 3 5)) 8 ∷ withinPairs (replicate 4097 (pair 3 5)) 8 ∷ []
-    ≡ done (record { pairs = replicate 4096 (pair 3 5); meets = 8 }) ∷ refused tooManyPairs ∷ []
+    ≡ done (record { pairs = replicate 4096 (pair 3 5); meets = 8 }) ∷ refused TooManyPairs ∷ []
 unfolding evaluate
 withinPairs-example = refl

@@ -4,32 +4,34 @@ use mathlib.Core.Path.{_≡_, refl}
 use mathlib.Core.Bool.{true, false}
 use mathlib.Core.List.{List, [], _∷_, map}
 use Prim.Native.Nat.{ℕ, suc}
-use Rattle.spec_charts.specs.Refusals.{Refusal, shortBuffer, brokenChain, staleEntries, badLength, faultyTriangle, noSuchTriangle, notInside, notThreeAround, noFlip, tableFull, tooManyEntries, tooManyPairs, Outcome, refused, done, refuseIf, andThen, outcomeNumber, outcomeValue, doneOr}
+use Rattle.spec_charts.specs.declared.Refusal.{Refusal}
+use Rattle.spec_charts.specs.declared.Refusal.the-variants.{ShortBuffer, BrokenChain, StaleEntries, BadLength, FaultyTriangle, NoSuchTriangle, NotInside, NotThreeAround, NoFlip, TableFull, TooManyEntries, TooManyPairs}
+use Rattle.spec_charts.specs.Refusals.{rowOf, Outcome, refused, done, refuseIf, andThen, outcomeNumber, outcomeValue, doneOr}
 use Rattle.spec_charts.proofs.Evaluate.{evaluate}
 
 -- the rows in the order of document 01
 abbrev pub rows : List Refusal
 rows =
-    shortBuffer
-    ∷ brokenChain
-    ∷ staleEntries
-    ∷ badLength
-    ∷ faultyTriangle 7
-    ∷ noSuchTriangle
-    ∷ notInside
-    ∷ notThreeAround
-    ∷ noFlip
-    ∷ tableFull
-    ∷ tooManyEntries
-    ∷ tooManyPairs
+    ShortBuffer
+    ∷ BrokenChain
+    ∷ StaleEntries
+    ∷ BadLength
+    ∷ FaultyTriangle 7
+    ∷ NoSuchTriangle
+    ∷ NotInside
+    ∷ NotThreeAround
+    ∷ NoFlip
+    ∷ TableFull
+    ∷ TooManyEntries
+    ∷ TooManyPairs
     ∷ []
 
-number-example : map (λ r. r .number) rows ≡ 1 ∷ 2 ∷ 3 ∷ 4 ∷ 5 ∷ 6 ∷ 7 ∷ 8 ∷ 9 ∷ 10 ∷ 11 ∷ 12 ∷ []
+number-example : map (λ r. rowOf r .number) rows ≡ 1 ∷ 2 ∷ 3 ∷ 4 ∷ 5 ∷ 6 ∷ 7 ∷ 8 ∷ 9 ∷ 10 ∷ 11 ∷ 12 ∷ []
 unfolding evaluate
 number-example = refl
 
 -- the triangle at 5, else 0
-value-example : map (λ r. r .value) rows ≡ 0 ∷ 0 ∷ 0 ∷ 0 ∷ 7 ∷ 0 ∷ 0 ∷ 0 ∷ 0 ∷ 0 ∷ 0 ∷ 0 ∷ []
+value-example : map (λ r. rowOf r .value) rows ≡ 0 ∷ 0 ∷ 0 ∷ 0 ∷ 7 ∷ 0 ∷ 0 ∷ 0 ∷ 0 ∷ 0 ∷ 0 ∷ 0 ∷ []
 unfolding evaluate
 value-example = refl
 
@@ -38,22 +40,22 @@ abbrev three : Outcome ℕ
 three = done 3
 
 abbrev full : Outcome ℕ
-full = refused tableFull
+full = refused TableFull
 
 -- a row refuses when its test holds, else the rows below speak
-row-example : refuseIf true noFlip three ∷ refuseIf false noFlip three ∷ refuseIf false noFlip full ∷ [] ≡ refused noFlip ∷ three ∷ full ∷ []
+row-example : refuseIf true NoFlip three ∷ refuseIf false NoFlip three ∷ refuseIf false NoFlip full ∷ [] ≡ refused NoFlip ∷ three ∷ full ∷ []
 unfolding evaluate
 row-example = refl
 
 -- the first refusal stays; what is done is passed on
-then-example : andThen full (λ n. done (suc n)) ∷ andThen three (λ n. done (suc n)) ∷ andThen three (λ n. refused noFlip) ∷ []
-    ≡ full ∷ done 4 ∷ refused noFlip ∷ []
+then-example : andThen full (λ n. done (suc n)) ∷ andThen three (λ n. done (suc n)) ∷ andThen three (λ n. refused NoFlip) ∷ []
+    ≡ full ∷ done 4 ∷ refused NoFlip ∷ []
 unfolding evaluate
 then-example = refl
 
 outcome-example :
-    outcomeNumber {A = ℕ} (refused (faultyTriangle 7))
-    ∷ outcomeValue {A = ℕ} (refused (faultyTriangle 7))
+    outcomeNumber {A = ℕ} (refused (FaultyTriangle 7))
+    ∷ outcomeValue {A = ℕ} (refused (FaultyTriangle 7))
     ∷ outcomeNumber full
     ∷ outcomeValue full
     ∷ outcomeNumber three

@@ -10,7 +10,7 @@ use Rattle.spec_squares.specs.declared.Square.{Square}
 use Rattle.spec_squares.specs.Square.{squareKey}
 use Rattle.spec_charts.specs.Table.{Table, tableNumbers}
 use Rattle.spec_charts.specs.Cells.{entriesOf}
-use Rattle.spec_charts.specs.Refusals.{Outcome, refused, done}
+use Rattle.spec_charts.specs.Refusals.{rowOf, Outcome, refused, done}
 use Rattle.spec_charts.specs.Overlay.{OverlayAnswer, pairNumbers, overlayOf}
 use Rattle.spec_charts.specs.Reading.{located}
 
@@ -33,12 +33,12 @@ foundNumbers (some i) = 1 ∷ i ∷ []
 
 -- 0 and the table's numbers, or the refusal's number and value
 abbrev pub outcomeNumbers : Outcome Table → List ℕ
-outcomeNumbers (refused r) = r .number ∷ r .value ∷ []
+outcomeNumbers (refused r) = rowOf r .number ∷ rowOf r .value ∷ []
 outcomeNumbers (done t) = 0 ∷ tableNumbers t
 
 -- 0, pair count, meetings and pairs, or the refusal's number
 abbrev pub overlayNumbers : Outcome OverlayAnswer → List ℕ
-overlayNumbers (refused r) = r .number ∷ []
+overlayNumbers (refused r) = rowOf r .number ∷ []
 overlayNumbers (done h) = 0 ∷ length (h .pairs) ∷ h .meets ∷ pairNumbers (h .pairs)
 
 -- locate in a table, indexed

@@ -12,15 +12,20 @@ use Rattle.spec_plane.specs.Point.{samePoint}
 use Rattle.spec_plane.specs.Triangle.{Triangle, proper, strictlyInside}
 use Rattle.spec_charts.specs.Table.{Table, numbered, tableOf, maxTriangles, numbersPerTriangle, tableLength, sixteenBit}
 use Rattle.spec_charts.specs.Cells.{entriesOf, maxEntries}
-use Rattle.spec_charts.specs.Refusals.{badLength, faultyTriangle, noSuchTriangle, notInside, notThreeAround, noFlip, tableFull, tooManyEntries, Outcome, refused, done, refuseIf, andThen, doneOr}
+use Rattle.spec_charts.specs.declared.Refusal.the-variants.{BadLength, FaultyTriangle, NoSuchTriangle, NotInside, NotThreeAround, NoFlip, TableFull, TooManyEntries}
+use Rattle.spec_charts.specs.Refusals.{Outcome, refused, done, refuseIf, andThen, doneOr}
 
 -- a triangle by its corners
 unfoldable pub triangle : Point → Point → Point → Triangle
 triangle a b c = record { a = a; b = b; c = c }
 
+-- a triangle that an edit makes of t, with other corners: all that an edit keeps of the old triangle is said here
+abbrev pub madeFrom : Triangle → Point → Point → Point → Triangle
+madeFrom t a b c = triangle a b c
+
 -- the three rotations of a triangle
 unfoldable pub rotations : Triangle → List Triangle
-rotations t = triangle (t .a) (t .b) (t .c) ∷ triangle (t .b) (t .c) (t .a) ∷ triangle (t .c) (t .a) (t .b) ∷ []
+rotations t = madeFrom t (t .a) (t .b) (t .c) ∷ madeFrom t (t .b) (t .c) (t .a) ∷ madeFrom t (t .c) (t .a) (t .b) ∷ []
 
 -- Load
 
@@ -31,7 +36,7 @@ faulty table = placesFrom (λ t. not (proper t)) 0 table
 -- refusal 5, with the lowest number of the list, unless it is empty
 unfoldable pub refuseFaulty : List ℕ → Table → Outcome Table
 refuseFaulty [] table = done table
-refuseFaulty (i ∷ is) table = refused (faultyTriangle i)
+refuseFaulty (i ∷ is) table = refused (FaultyTriangle i)
 
 -- the triangles of the table given: the numbers, six by six
 unfoldable pub givenTable : List ℕ → Table
@@ -40,7 +45,7 @@ givenTable ns = tableOf ns (length ns / numbersPerTriangle)
 -- "Load: the table given"
 unfoldable pub loadTable : List ℕ → Outcome Table
 loadTable ns =
-    refuseIf (not (eqb (length ns % numbersPerTriangle) 0) || ltb tableLength (length ns)) badLength
+    refuseIf (not (eqb (length ns % numbersPerTriangle) 0) || ltb tableLength (length ns)) BadLength
     (refuseFaulty (faulty (givenTable ns)) (givenTable ns))
 
 -- Split: insertion of a vertex into a triangle
@@ -48,14 +53,14 @@ loadTable ns =
 -- "(a,b,c) at t becomes (a,b,p); (b,c,p) and (c,a,p) are appended in that order"
 unfoldable pub splitAt : Table → ℕ → Triangle → Point → Table
 splitAt table t s p =
-    set table t (triangle (s .a) (s .b) p) ++ (triangle (s .b) (s .c) p ∷ triangle (s .c) (s .a) p ∷ [])
+    set table t (madeFrom s (s .a) (s .b) p) ++ (madeFrom s (s .b) (s .c) p ∷ madeFrom s (s .c) (s .a) p ∷ [])
 
 -- "Split t at p"
 unfoldable pub splitTable : ℕ → Point → Table → Outcome Table
 splitTable t p table =
-    refuseIf (leb (length table) t) noSuchTriangle
-    (refuseIf (not (strictlyInside (numbered table t) p)) notInside
-    (refuseIf (ltb maxTriangles (length table + 2)) tableFull (done (splitAt table t (numbered table t) p))))
+    refuseIf (leb (length table) t) NoSuchTriangle
+    (refuseIf (not (strictlyInside (numbered table t) p)) NotInside
+    (refuseIf (ltb maxTriangles (length table + 2)) TableFull (done (splitAt table t (numbered table t) p))))
 
 -- Take out: removal of a vertex with three triangles around it
 
@@ -69,8 +74,8 @@ endingIn p t =
     elim (samePoint p (t .c)) [
       | true ↦ t
       | false ↦ elim (samePoint p (t .b)) [
-        | true ↦ triangle (t .c) (t .a) (t .b)
-        | false ↦ triangle (t .b) (t .c) (t .a)
+        | true ↦ madeFrom t (t .c) (t .a) (t .b)
+        | false ↦ madeFrom t (t .b) (t .c) (t .a)
       ]
     ]
 
@@ -86,21 +91,21 @@ mergeAround table i j k t = without j (without k (set table i t))
 unfoldable pub mergeThree : Table → ℕ → ℕ → ℕ → Triangle → Triangle → Triangle → Outcome Table
 mergeThree table i j k t u v =
     elim (closesRound t u v) [
-      | true ↦ done (mergeAround table i j k (triangle (t .a) (t .b) (u .b)))
+      | true ↦ done (mergeAround table i j k (madeFrom t (t .a) (t .b) (u .b)))
       | false ↦ elim (closesRound t v u) [
-        | true ↦ done (mergeAround table i j k (triangle (t .a) (t .b) (v .b)))
-        | false ↦ refused notThreeAround
+        | true ↦ done (mergeAround table i j k (madeFrom t (t .a) (t .b) (v .b)))
+        | false ↦ refused NotThreeAround
       ]
     ]
 
 -- "exactly three triangles have p as a corner": their numbers, ascending
 unfoldable pub takeOutThree : Point → Table → List ℕ → Outcome Table
-takeOutThree p table [] = refused notThreeAround
-takeOutThree p table (i ∷ []) = refused notThreeAround
-takeOutThree p table (i ∷ j ∷ []) = refused notThreeAround
+takeOutThree p table [] = refused NotThreeAround
+takeOutThree p table (i ∷ []) = refused NotThreeAround
+takeOutThree p table (i ∷ j ∷ []) = refused NotThreeAround
 takeOutThree p table (i ∷ j ∷ k ∷ []) =
     mergeThree table i j k (endingIn p (numbered table i)) (endingIn p (numbered table j)) (endingIn p (numbered table k))
-takeOutThree p table (i ∷ j ∷ k ∷ l ∷ ls) = refused notThreeAround
+takeOutThree p table (i ∷ j ∷ k ∷ l ∷ ls) = refused NotThreeAround
 
 -- "Take out p"
 unfoldable pub takeOutTable : Point → Table → Outcome Table
@@ -115,8 +120,8 @@ sharesSide t u = samePoint (t .a) (u .b) && samePoint (t .b) (u .a)
 -- with t = (a,b,c) and u = (b,a,d): "Place i gets (a,d,c), place j (d,b,c), if both have D > 0"
 unfoldable pub flipAs : Table → ℕ → ℕ → Triangle → Triangle → Outcome Table
 flipAs table i j t u =
-    refuseIf (not (proper (triangle (t .a) (u .c) (t .c)) && proper (triangle (u .c) (t .b) (t .c)))) noFlip
-    (done (set (set table i (triangle (t .a) (u .c) (t .c))) j (triangle (u .c) (t .b) (t .c))))
+    refuseIf (not (proper (madeFrom t (t .a) (u .c) (t .c)) && proper (madeFrom u (u .c) (t .b) (t .c)))) NoFlip
+    (done (set (set table i (madeFrom t (t .a) (u .c) (t .c))) j (madeFrom u (u .c) (t .b) (t .c))))
 
 -- the first of the rotations us of triangle j that shares the side ab of t, a rotation of triangle i
 unfoldable pub flipWith : Table → ℕ → ℕ → Triangle → Option Triangle → Outcome Table → Outcome Table
@@ -125,14 +130,14 @@ flipWith table i j t (some u) other = flipAs table i j t u
 
 -- the first of the rotations ts of triangle i that shares its side ab with a rotation of triangle j; there is at most one
 unfoldable pub flipAmong : Table → ℕ → ℕ → List Triangle → List Triangle → Outcome Table
-flipAmong table i j us [] = refused noFlip
+flipAmong table i j us [] = refused NoFlip
 flipAmong table i j us (t ∷ ts) =
     flipWith table i j t (first (λ u. sharesSide t u) us) (flipAmong table i j us ts)
 
 -- "Flip i, j"
 unfoldable pub flipTable : ℕ → ℕ → Table → Outcome Table
 flipTable i j table =
-    refuseIf (leb (length table) i || leb (length table) j) noSuchTriangle
+    refuseIf (leb (length table) i || leb (length table) j) NoSuchTriangle
     (flipAmong table i j (rotations (numbered table j)) (rotations (numbered table i)))
 
 -- Events
@@ -161,15 +166,22 @@ proposed (flip i j) table = flipTable i j table
 
 -- refusal 11: "the new table has over 16,384 entries", where it has n
 unfoldable pub limited : ℕ → Table → Outcome Table
-limited n table = refuseIf (ltb maxEntries n) tooManyEntries (done table)
+limited n table = refuseIf (ltb maxEntries n) TooManyEntries (done table)
 
 -- the new table, unless its entries are too many
 unfoldable pub withinLimit : Table → Outcome Table
 withinLimit table = limited (length (entriesOf table)) table
 
+-- refusal 11, by event: which events' new tables have their entries counted
+unfoldable pub counted : Event → Table → Outcome Table
+counted (load ns) table = withinLimit table
+counted (split t p) table = withinLimit table
+counted (takeOut p) table = withinLimit table
+counted (flip i j) table = withinLimit table
+
 -- what an event comes to on a plain table: refused with a number from 4 up, or the new plain table
 unfoldable pub eventOn : Event → Table → Outcome Table
-eventOn e table = andThen (proposed e table) (λ t. withinLimit t)
+eventOn e table = andThen (proposed e table) (λ t. counted e t)
 
 -- "each event below changes it; a refused event changes nothing"
 unfoldable pub afterEvent : Event → Table → Table

@@ -14,7 +14,8 @@ use Rattle.spec_squares.specs.declared.Square.{Square}
 use Rattle.spec_squares.specs.Square.{arity, depth, squareKey}
 use Rattle.spec_charts.specs.Table.{Table, numbered}
 use Rattle.spec_charts.specs.Cells.{cells}
-use Rattle.spec_charts.specs.Refusals.{Outcome, done, refuseIf, tooManyPairs}
+use Rattle.spec_charts.specs.declared.Refusal.the-variants.{TooManyPairs}
+use Rattle.spec_charts.specs.Refusals.{Outcome, done, refuseIf}
 
 -- triangle i of the first chart with triangle j of the second
 pub record Pair : Type 0 where
@@ -56,7 +57,7 @@ maxPairs = 4096
 
 -- refusal 12: "over 4,096 pairs"
 unfoldable pub withinPairs : List Pair → ℕ → Outcome OverlayAnswer
-withinPairs ps m = refuseIf (ltb maxPairs (length ps)) tooManyPairs (done (record { pairs = ps; meets = m }))
+withinPairs ps m = refuseIf (ltb maxPairs (length ps)) TooManyPairs (done (record { pairs = ps; meets = m }))
 
 -- the overlay of two tables with their entries
 unfoldable pub overlayOf : Table → List Entry → Table → List Entry → Outcome OverlayAnswer

@@ -1,6 +1,7 @@
 -- Document 01, "Grid, points, triangles": tables of triangles, and the numbers that stand for them.
 -- Assumes nothing.
-use mathlib.Core.Bool.{Bool}
+use mathlib.Core.Path.{_≡_}
+use mathlib.Core.Bool.{Bool, true}
 use mathlib.Core.List.{List, [], _∷_, map, flatMap}
 use Prim.Native.Nat.{ℕ, _+_, _*_, _≤_}
 use lib.Dec.{T, ltb}
@@ -58,6 +59,12 @@ pub record IsTable (table : Table) : Type 0 where
   pub few : length table ≤ maxTriangles
   pub oriented : T (all (λ t. proper t) table)
   pub words : T (sixteenBit (tableNumbers table))
+
+-- a table of code: the first n triangles of a list of numbers, at most 512, all of them there, each with D > 0
+pub record Drawn (ns : List ℕ) (n : ℕ) : Type 0 where
+  pub few : n ≤ maxTriangles
+  pub room : numbersPerTriangle * n ≤ length ns
+  pub oriented : all (λ t. proper t) (tableOf ns n) ≡ true
 
 -- a triangle that no table number has: what a look-up past the end gives
 unfoldable pub noTriangle : Triangle

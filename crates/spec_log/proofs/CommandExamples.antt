@@ -9,7 +9,8 @@ use Rattle.spec_plane.specs.declared.Point.{Point}
 use Rattle.spec_plane.specs.Triangle.{Triangle}
 use Rattle.spec_charts.specs.Table.{Table}
 use Rattle.spec_charts.specs.Cells.{entriesOf}
-use Rattle.spec_charts.specs.Refusals.{refused, done, brokenChain, faultyTriangle, notThreeAround}
+use Rattle.spec_charts.specs.declared.Refusal.the-variants.{BrokenChain, FaultyTriangle, NotThreeAround}
+use Rattle.spec_charts.specs.Refusals.{refused, done}
 use Rattle.spec_charts.specs.Edits.{load, split, takeOut, flip, eventOn}
 use Rattle.spec_charts.specs.Overlay.{Pair}
 use Rattle.spec_charts.proofs.Written.{at}
@@ -52,7 +53,7 @@ refusals-example = refl
 abbrev U : Triangle
 U = tri (at 0 0) (at 65535 0) (at 0 65535)
 
-event-numbers-example : map (λ o. eventNumbers o) (refused notThreeAround ∷ refused (faultyTriangle 5000000009) ∷ done [] ∷ done (U ∷ []) ∷ [])
+event-numbers-example : map (λ o. eventNumbers o) (refused NotThreeAround ∷ refused (FaultyTriangle 5000000009) ∷ done [] ∷ done (U ∷ []) ∷ [])
     ≡ (8 ∷ []) ∷ (5 ∷ 5000000009 ∷ []) ∷ (0 ∷ 1 ∷ []) ∷ (0 ∷ 7 ∷ []) ∷ []
 unfolding evaluate
 event-numbers-example = refl
@@ -66,10 +67,10 @@ entry-count-example t = refl
 event-step-example : (t u : Table) (ns : List ℕ)
     → eventStep 5 0 (done []) (state t u ns)
     ∷ eventStep 5 1 (done []) (state t u ns)
-    ∷ eventStep 5 0 (refused notThreeAround) (state t u ns)
-    ∷ eventStep 5 1 (refused notThreeAround) (state t u ns)
+    ∷ eventStep 5 0 (refused NotThreeAround) (state t u ns)
+    ∷ eventStep 5 1 (refused NotThreeAround) (state t u ns)
     ∷ eventStep 5000000005 4294967296 (done []) (state t u ns)
-    ∷ eventStep 60005 4294967296 (refused notThreeAround) (state t u ns)
+    ∷ eventStep 60005 4294967296 (refused NotThreeAround) (state t u ns)
     ∷ []
     ≡ record { printed = 53 ∷ 32 ∷ 48 ∷ 32 ∷ 49 ∷ 10 ∷ []; after = state [] u ns }
     ∷ record { printed = 53 ∷ 32 ∷ 48 ∷ 32 ∷ 49 ∷ 10 ∷ []; after = state t [] ns }
@@ -133,7 +134,7 @@ kept-example s p = refl
 -- "7 2"; "7 0 2 90", "2 5", "11 0"
 lines-example :
     map (λ o. overlayLines o)
-    (refused brokenChain ∷ done (record { pairs = record { i = 2; j = 5 } ∷ record { i = 11; j = 0 } ∷ []; meets = 90 }) ∷ [])
+    (refused BrokenChain ∷ done (record { pairs = record { i = 2; j = 5 } ∷ record { i = 11; j = 0 } ∷ []; meets = 90 }) ∷ [])
     ≡ (55 ∷ 32 ∷ 50 ∷ 10 ∷ [])
     ∷ (55 ∷ 32 ∷ 48 ∷ 32 ∷ 50 ∷ 32 ∷ 57 ∷ 48 ∷ 10 ∷ 50 ∷ 32 ∷ 53 ∷ 10 ∷ 49 ∷ 49 ∷ 32 ∷ 48 ∷ 10 ∷ [])
     ∷ []

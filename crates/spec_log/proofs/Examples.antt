@@ -3,7 +3,8 @@
 use mathlib.Core.Path.{_≡_, refl}
 use mathlib.Core.List.{[], _∷_, _++_, map}
 use lib.ListN.{replicate}
-use Rattle.spec_charts.specs.Refusals.{refused, tooManyPairs}
+use Rattle.spec_charts.specs.declared.Refusal.the-variants.{TooManyPairs}
+use Rattle.spec_charts.specs.Refusals.{refused}
 use Rattle.spec_log.specs.Log.{logOf, waitStep, overlayLines}
 use Rattle.spec_log.proofs.Evaluate.{evaluate}
 
@@ -61,6 +62,6 @@ unfolding evaluate
 edit-log-example = refl
 
 -- an overlay with too many pairs prints two numbers
-over-log-example : overlayLines (refused tooManyPairs) ≡ 55 ∷ 32 ∷ 49 ∷ 50 ∷ 10 ∷ []
+over-log-example : overlayLines (refused TooManyPairs) ≡ 55 ∷ 32 ∷ 49 ∷ 50 ∷ 10 ∷ []
 unfolding evaluate
 over-log-example = refl

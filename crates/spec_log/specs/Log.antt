@@ -10,7 +10,9 @@ use lib.ListN.{length, drop, getD}
 use Rattle.spec_plane.specs.declared.Point.{Point}
 use Rattle.spec_charts.specs.Table.{Table, numbersPerTriangle, tableLength}
 use Rattle.spec_charts.specs.Cells.{entriesOf}
-use Rattle.spec_charts.specs.Refusals.{Refusal, badLength, faultyTriangle, Outcome, refused, done, doneOr}
+use Rattle.spec_charts.specs.declared.Refusal.{Refusal}
+use Rattle.spec_charts.specs.declared.Refusal.the-variants.{BadLength, FaultyTriangle}
+use Rattle.spec_charts.specs.Refusals.{rowOf, Outcome, refused, done, doneOr}
 use Rattle.spec_charts.specs.Edits.{load, split, takeOut, flip, eventOn}
 use Rattle.spec_charts.specs.Overlay.{OverlayAnswer, overlayOf}
 use Rattle.spec_charts.specs.Reading.{located}
@@ -76,7 +78,7 @@ pub record Step : Type 0 where
 -- the numbers that commands 2 to 5 print after their own: "its number, the number returned, then: 2 to 5 the entry count, or
 -- for refusal 5 the triangle", "Other refusals print two numbers"
 unfoldable pub refusalNumbers : Refusal → List ℕ
-refusalNumbers r = r .number ∷ cond (eqb (r .number) (faultyTriangle 0 .number)) (r .value ∷ []) []
+refusalNumbers r = rowOf r .number ∷ cond (eqb (rowOf r .number) (rowOf (FaultyTriangle 0) .number)) (rowOf r .value ∷ []) []
 
 unfoldable pub eventNumbers : Outcome Table → List ℕ
 eventNumbers (refused r) = refusalNumbers r
@@ -91,7 +93,7 @@ unfoldable pub waitStep : List ℕ → State → Step
 waitStep ns s =
     elim (ltb (length (s .waiting)) tableLength) [
       | true ↦ record { printed = []; after = withWaiting (s .waiting ++ ns) s }
-      | false ↦ record { printed = line 1 (badLength .number ∷ []); after = s }
+      | false ↦ record { printed = line 1 (rowOf BadLength .number ∷ []); after = s }
     ]
 
 -- command 2: "load it, then empty it"
@@ -110,7 +112,7 @@ locateStep c p s =
 
 -- command 7: "pairs and meetings, then a line `i j` for each pair"
 unfoldable pub overlayLines : Outcome OverlayAnswer → List ℕ
-overlayLines (refused r) = line 7 (r .number ∷ [])
+overlayLines (refused r) = line 7 (rowOf r .number ∷ [])
 overlayLines (done h) =
     line 7 (0 ∷ length (h .pairs) ∷ h .meets ∷ []) ++ flatMap (λ p. line (p .i) (p .j ∷ [])) (h .pairs)
 

@@ -20,16 +20,18 @@ orientation-requires c κs = search needs
 sub-result : tie.Need-sub-result
 unfolding triangleOf cornerAt
 sub-result c =
-    let top = c .before .before .before .before .before in
-    let d = c .before .orientation in
+    let orientation : tie.After-orientation = search needs in
+    let top : tie.Start = search needs in
+    let d = orientation .orientation in
     let v = doubledArea-value (triangleOf (top .args .t1)) (d .result .high) (d .result .low) (d .ensures .0) (top .pre) in
     omega arith
 
 returns : tie.Need-returns
 unfolding triangleOf cornerAt
 returns c =
-    let top = c .before .before .before .before .before in
-    let d = c .before .orientation in
+    let orientation : tie.After-orientation = search needs in
+    let top : tie.Start = search needs in
+    let d = orientation .orientation in
     let v = doubledArea-value (triangleOf (top .args .t1)) (d .result .high) (d .result .low) (d .ensures .0) (top .pre) in
     (v .1, omega arith)
 

@@ -1,7 +1,6 @@
 use mathlib.Core.Path.{_≡_, sym, _∙_, ap}
 use mathlib.Core.Bool.{true, false}
 use borrow.Author.Needs.{needs}
-use Rattle.spec_charts.specs.Refusals.{outcomeNumber, doneOr}
 use Rattle.spec_calls.specs.Buffers.{Chart, chartOf, chartTable, tooShort, chainRule}
 use Rattle.laws_calls.proofs.BufferLaws.{rule-held}
 use Rattle.laws_calls.proofs.JudgeLaws.{chained-passed, chained-not-stale}
@@ -22,15 +21,19 @@ enum-told : tie.Need-enum-told
 enum-told c = search needs
 
 -- where nothing is against the chart
-fine : (c : tie.After-enum-told) → let chart = chart (c .before .before .before .before .before .before .before) in (tooShort chart ≡ false) × (chainRule chart ≡ true)
+fine : (c : tie.After-enum-told) →
+    let top : tie.Start = search needs in
+    let chart = chart top in (tooShort chart ≡ false) × (chainRule chart ≡ true)
 fine c =
-    let j = c .before .before in
-    chained-passed (chart (j .before .before .before .before .before)) (sym (ap judgedOutcome (c .enum-told .given .1)) ∙ j .judge .ensures)
+    let j : tie.After-judge = search needs in
+    let top : tie.Start = search needs in
+    chained-passed (chart top) (sym (ap judgedOutcome (c .enum-told .given .1)) ∙ j .judge .ensures)
 
 sum-requires : tie.Need-sum-requires
 unfolding chartTable
 sum-requires c κs =
-    let h = rule-held (chart (c .before .before .before .before .before .before .before)) (fine c .0) (fine c .1) in ((h .few, h .room), h .good)
+    let top : tie.Start = search needs in
+    let h = rule-held (chart top) (fine c .0) (fine c .1) in ((h .few, h .room), h .good)
 
 enum-told-2 : tie.Need-enum-told-2
 enum-told-2 c = search needs
@@ -42,28 +45,30 @@ enum-told-4 : tie.Need-enum-told-4
 enum-told-4 c = search needs
 
 returns : tie.Need-returns
-unfolding outcomeNumber doneOr chartTable
+unfolding chartTable
 returns c =
-    let b = c .before in
+    let b : tie.After-enum-told = search needs in
+    let top : tie.Start = search needs in
     let e = c .sum .ensures in
-    (λ i. record { number = 0; area = e i }) ∙ area-done (chart (b .before .before .before .before .before .before .before)) (fine b .0) (fine b .1)
+    (λ i. record { number = 0; area = e i }) ∙ area-done (chart top) (fine b .0) (fine b .1)
 
 returns-2 : tie.Need-returns-2
-unfolding outcomeNumber doneOr
 returns-2 c =
-    let j = c .before .before in
-    area-refused (chart (j .before .before .before .before .before)) (sym (ap judgedOutcome (c .enum-told2 .given .1)) ∙ j .judge .ensures)
+    let j : tie.After-judge = search needs in
+    let top : tie.Start = search needs in
+    area-refused (chart top) (sym (ap judgedOutcome (c .enum-told2 .given .1)) ∙ j .judge .ensures)
 
 returns-3 : tie.Need-returns-3
-unfolding outcomeNumber doneOr
 returns-3 c =
-    let j = c .before .before in
-    area-refused (chart (j .before .before .before .before .before)) (sym (ap judgedOutcome (c .enum-told3 .given .1)) ∙ j .judge .ensures)
+    let j : tie.After-judge = search needs in
+    let top : tie.Start = search needs in
+    area-refused (chart top) (sym (ap judgedOutcome (c .enum-told3 .given .1)) ∙ j .judge .ensures)
 
 returns-4 : tie.Need-returns-4
 returns-4 c =
-    let j = c .before .before in
-    absurd (chained-not-stale (chart (j .before .before .before .before .before)) (sym (ap judgedOutcome (c .enum-told4 .given .1)) ∙ j .judge .ensures))
+    let j : tie.After-judge = search needs in
+    let top : tie.Start = search needs in
+    absurd (chained-not-stale (chart top) (sym (ap judgedOutcome (c .enum-told4 .given .1)) ∙ j .judge .ensures))
 
 pub doubled-area-spec : {M : Type 1} → statement M
 doubled-area-spec =

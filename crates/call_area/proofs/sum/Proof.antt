@@ -17,7 +17,9 @@ abbrev μ-loop : tie.MeasureT-loop
 μ-loop table n s₀ i₀ s i = n - i
 
 loop-holds : tie.Need-loop-holds Inv-loop μ-loop
-loop-holds c = (search needs, totalArea-none (c .before .args .table .now))
+loop-holds c =
+    let top : tie.Start Inv-loop μ-loop = search needs in
+    (search needs, totalArea-none (top .args .table .now))
 
 triangle-at-requires : tie.Need-triangle-at-requires Inv-loop μ-loop
 triangle-at-requires c κs = omega arith
@@ -25,9 +27,10 @@ triangle-at-requires c κs = omega arith
 doubled-requires : tie.Need-doubled-requires Inv-loop μ-loop
 unfolding triangleOf cornerAt
 doubled-requires c κs =
-    let top = c .before .before .before .before in
+    let loop : tie.At-loop Inv-loop μ-loop = search needs in
+    let top : tie.Start Inv-loop μ-loop = search needs in
     let a = top .args in
-    let i = c .before .before .loop .i in
+    let i = loop .loop .i in
     ap (λ t. proper (triangleOf t)) (c .triangle-at .ensures) ∙ proper-at (a .table .now) (a .n) i (top .pre .1) (omega arith)
 
 add-s : tie.Need-add-s Inv-loop μ-loop
@@ -42,15 +45,20 @@ loop-less c = search needs
 loop-again : tie.Need-loop-again Inv-loop μ-loop
 unfolding triangleOf cornerAt
 loop-again c =
-    let table = c .before .before .before .before .before .args .table .now in
-    let l = c .before .before .before .loop in
-    let area = c .doubled .ensures .0 ∙ ap (λ t. doubledArea (triangleOf t)) (c .before .triangle-at .ensures) in
+    let triangle-at : tie.After-triangle-at Inv-loop μ-loop = search needs in
+    let loop : tie.At-loop Inv-loop μ-loop = search needs in
+    let top : tie.Start Inv-loop μ-loop = search needs in
+    let table = top .args .table .now in
+    let l = loop .loop in
+    let area = c .doubled .ensures .0 ∙ ap (λ t. doubledArea (triangleOf t)) (triangle-at .triangle-at .ensures) in
     (omega arith, ap₂ _+_ (l .inv .1) area ∙ sym (totalArea-more table (l .i)))
 
 returns : tie.Need-returns Inv-loop μ-loop
 returns c =
-    let table = c .before .before .before .args .table .now in
-    c .before .loop .inv .1 ∙ ap (λ k. totalArea (tableOf table k)) (omega arith)
+    let loop : tie.At-loop Inv-loop μ-loop = search needs in
+    let top : tie.Start Inv-loop μ-loop = search needs in
+    let table = top .args .table .now in
+    loop .loop .inv .1 ∙ ap (λ k. totalArea (tableOf table k)) (omega arith)
 
 pub sum-spec : {M : Type 1} → statement M
 sum-spec =

@@ -5,7 +5,9 @@ use Rattle.call_edits.proofs.flip.Tie as tie
 
 returns : tie.Need-returns
 unfolding flipCall
-returns c = c .before .before .before .before .before .before .before .before .edit-chart .ensures
+returns c =
+    let edit-chart : tie.After-edit-chart = search needs in
+    edit-chart .edit-chart .ensures
 
 pub flip-spec : {M : Type 1} → statement M
 flip-spec =

@@ -5,7 +5,9 @@ use Rattle.call_edits.proofs.take_out.Tie as tie
 
 returns : tie.Need-returns
 unfolding takeOutCall
-returns c = c .before .before .before .before .before .before .before .before .edit-chart .ensures
+returns c =
+    let edit-chart : tie.After-edit-chart = search needs in
+    edit-chart .edit-chart .ensures
 
 pub take-out-spec : {M : Type 1} → statement M
 take-out-spec =

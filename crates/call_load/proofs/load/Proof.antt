@@ -17,11 +17,21 @@ abbrev chart : tie.Start → Chart
 chart c =
     let a = c .args in chartOf (a .table .now) (a .keys .now) (a .levels .now) (a .items .now) (a .triangles) (a .entries)
 
+-- an earlier place, found from a later one
+abbrev judge-load-to-top : tie.After-judge-load → tie.Start
+judge-load-to-top c = search needs
+
+abbrev enum-told-to-top : tie.After-enum-told → tie.Start
+enum-told-to-top c = search needs
+
 -- nothing is against the load
-judged : (c : tie.After-enum-told) → let top = c .before .before .before .before .before .before .before .before .before .before .before .before in done true ≡ judgedLoad (top .args .given .now) (chart top)
+judged : (c : tie.After-enum-told) →
+    let top : tie.Start = search needs in
+    done true ≡ judgedLoad (top .args .given .now) (chart top)
 judged c =
-    let top = c .before .before .before .before .before .before .before .before .before .before .before .before in
-    sym (ap changeOutcome (c .enum-told .given .1)) ∙ c .before .before .judge-load .ensures (top .args .triangles) (top .args .entries)
+    let judge-load : tie.After-judge-load = search needs in
+    let top = judge-load-to-top judge-load in
+    sym (ap changeOutcome (c .enum-told .given .1)) ∙ judge-load .judge-load .ensures (top .args .triangles) (top .args .entries)
 
 judge-load-requires : tie.Need-judge-load-requires
 judge-load-requires c κs = search needs
@@ -32,8 +42,8 @@ enum-told c = search needs
 store-requires : tie.Need-store-requires
 unfolding givenTable
 store-requires c κs =
-    let e = c .before .before .before .before in
-    let top = e .before .before .before .before .before .before .before .before .before .before .before .before in
+    let e : tie.After-enum-told = search needs in
+    let top = enum-told-to-top e in
     let given = load-accepted (top .args .given .now) (chart top) (judged e) in
     (((omega (arith, given .few), omega arith), given .oriented), load-judged (top .args .given .now) (chart top) (judged e) .0)
 
@@ -52,9 +62,10 @@ same-length-4 c = search needs
 returns : tie.Need-returns
 unfolding givenTable
 returns c =
-    let e = c .before .before .before .before .before .before .before .before .before .before .before .before .before in
-    let top = e .before .before .before .before .before .before .before .before .before .before .before .before in
-    c .before .before .before .before .before .before .before .before .store .ensures ∙ load-rest (top .args .given .now) (chart top) (judged e)
+    let store : tie.After-store = search needs in
+    let e : tie.After-enum-told = search needs in
+    let top = enum-told-to-top e in
+    store .store .ensures ∙ load-rest (top .args .given .now) (chart top) (judged e)
 
 same-length-5 : tie.Need-same-length-5
 same-length-5 c = search needs
@@ -70,11 +81,12 @@ same-length-8 c = search needs
 
 returns-2 : tie.Need-returns-2
 returns-2 c =
-    let top = c .before .before .before .before .before .before .before .before .before .before .before in
-    let j = c .before .judge-load .result in
+    let judge-load : tie.After-judge-load = search needs in
+    let top = judge-load-to-top judge-load in
+    let j = judge-load .judge-load .result in
     let r = other-refused j (c .match .keys2) in
     answered-refused (chart top) j (r .1)
-    ∙ load-refused (top .args .given .now) (chart top) (sym (r .1) ∙ c .before .judge-load .ensures (top .args .triangles) (top .args .entries))
+    ∙ load-refused (top .args .given .now) (chart top) (sym (r .1) ∙ judge-load .judge-load .ensures (top .args .triangles) (top .args .entries))
 
 pub load-spec : {M : Type 1} → statement M
 load-spec =

@@ -8,7 +8,9 @@ use borrow.Author.Needs.{needs}
 use denote.Enum.Declared.{tagOf}
 use types.Run.{OneOf}
 use Rattle.theory_lists.specs.Lists.{countFrom}
-use Rattle.spec_charts.specs.Refusals.{Refusal, shortBuffer, brokenChain, staleEntries, refused}
+use Rattle.spec_charts.specs.declared.Refusal.{Refusal}
+use Rattle.spec_charts.specs.declared.Refusal.the-variants.{ShortBuffer, BrokenChain, StaleEntries}
+use Rattle.spec_charts.specs.Refusals.{refused}
 use Rattle.spec_calls.specs.Buffers.{Chart, chartOf, chartEntries, tooShort, chainRule}
 use Rattle.laws_calls.proofs.BufferLaws.{searchable}
 use Rattle.laws_calls.proofs.JudgeLaws.{chained-passed}
@@ -51,38 +53,47 @@ no-tag (inr (inr e)) = omega arith
 -- what is not fine is a refusal
 refusal : (j : Judged) → OneOf (1 ∷ 2 ∷ 3 ∷ []) (tagOf judged.the-type j) → (r : Refusal) × (refused r ≡ judgedOutcome j)
 refusal judgements.Fine n = absurd (no-tag n)
-refusal judgements.ShortBuffer n = (shortBuffer, refl)
-refusal judgements.BrokenChain n = (brokenChain, refl)
-refusal judgements.StaleEntries n = (staleEntries, refl)
+refusal judgements.ShortBuffer n = (ShortBuffer, refl)
+refusal judgements.BrokenChain n = (BrokenChain, refl)
+refusal judgements.StaleEntries n = (StaleEntries, refl)
+
+-- an earlier place, found from a later one
+abbrev judge-to-top : tie.After-judge → tie.Start
+judge-to-top c = search needs
 
 returns : tie.Need-returns
 unfolding countFrom
 returns c =
-    let j = c .before .before in
-    let top = j .before .before .before .before .before in
-    let r = refusal (j .judge .result) (c .before .match .keys2) in
+    let at-keys2 : tie.At-match-keys2 = search needs in
+    let j : tie.After-judge = search needs in
+    let top = judge-to-top j in
+    let r = refusal (j .judge .result) (at-keys2 .match .keys2) in
     let no = r .1 ∙ j .judge .ensures in (
       listing-refused (chart top) no (top .args .p),
       own-part 0 0 (omega arith) (omega arith) refl refl refl (sym (places-refused (chart top) (top .args .p) no)),
     )
 
 -- where nothing is against the chart
-fine : (c : tie.After-enum-told) → let chart = chart (c .before .before .before .before .before .before .before) in (tooShort chart ≡ false) × (chainRule chart ≡ true)
+fine : (c : tie.After-enum-told) →
+    let top : tie.Start = search needs in
+    let chart = chart top in (tooShort chart ≡ false) × (chainRule chart ≡ true)
 fine c =
-    let j = c .before .before in
-    chained-passed (chart (j .before .before .before .before .before)) (sym (ap judgedOutcome (c .enum-told .given .1)) ∙ j .judge .ensures)
+    let j : tie.After-judge = search needs in
+    let top : tie.Start = search needs in
+    chained-passed (chart top) (sym (ap judgedOutcome (c .enum-told .given .1)) ∙ j .judge .ensures)
 
 listing-requires : tie.Need-listing-requires
 listing-requires c κs =
-    let top = c .before .before .before .before .before .before .before in
+    let top : tie.Start = search needs in
     lists-searchable (chart top) (top .args .p) (fine c .0) (fine c .1)
 
 returns-2 : tie.Need-returns-2
 unfolding chartEntries
 returns-2 c =
-    let top = c .before .before .before .before .before .before .before .before in
-    let s = fine (c .before) .0 in
-    let r = fine (c .before) .1 in
+    let enum-told : tie.After-enum-told = search needs in
+    let top : tie.Start = search needs in
+    let s = fine enum-told .0 in
+    let r = fine enum-told .1 in
     let h = searchable (chart top) s r in
     let n = top .args .triangles in
     let levels = top .args .levels .now in (

@@ -32,27 +32,42 @@ index-requires c κs = search needs
 
 triangle-at-requires : tie.Need-triangle-at-requires Inv-loop μ-loop
 triangle-at-requires c κs =
-    let top = c .before .before .before .before .before .before in
-    omega (arith, top .pre (c .before .before .before .loop .k) (c .before .before .loop-test .taken))
+    let in-loop : tie.In-loop Inv-loop μ-loop = search needs in
+    let loop : tie.At-loop Inv-loop μ-loop = search needs in
+    let top : tie.Start Inv-loop μ-loop = search needs in
+    omega (arith, top .pre (loop .loop .k) (in-loop .loop-test .taken))
 
 holds-requires : tie.Need-holds-requires Inv-loop μ-loop
 holds-requires c κs = search needs
 
+-- an earlier place, found from a later one
+abbrev index-to-top : tie.After-index Inv-loop μ-loop → tie.Start Inv-loop μ-loop
+index-to-top c = search needs
+
 -- the test is that of the listed triangle
-tested : (c : tie.After-holds Inv-loop μ-loop) → let a = c .before .before .before .before .before .before .before .before .args in
-    c .holds .result ≡ holds (triangleAt (a .table .now) (getD (a .list .now) (c .before .before .before .before .before .loop .k) 0)) (a .p)
+tested : (c : tie.After-holds Inv-loop μ-loop) →
+    let loop : tie.At-loop Inv-loop μ-loop = search needs in
+    let top : tie.Start Inv-loop μ-loop = search needs in
+    let a = top .args in
+    c .holds .result ≡ holds (triangleAt (a .table .now) (getD (a .list .now) (loop .loop .k) 0)) (a .p)
 unfolding triangleOf cornerAt
 tested c =
-    let a = c .before .before .before .before .before .before .before .before .args in
+    let triangle-at : tie.After-triangle-at Inv-loop μ-loop = search needs in
+    let index : tie.After-index Inv-loop μ-loop = search needs in
+    let top = index-to-top index in
+    let a = top .args in
     c .holds .ensures
-    ∙ ap (λ t. holds (triangleOf t) (a .p)) (c .before .triangle-at .ensures)
-    ∙ ap (λ i. holds (triangleAt (a .table .now) i) (a .p)) (c .before .before .index .ensures .0)
+    ∙ ap (λ t. holds (triangleOf t) (a .p)) (triangle-at .triangle-at .ensures)
+    ∙ ap (λ i. holds (triangleAt (a .table .now) i) (a .p)) (index .index .ensures .0)
 
 returns : tie.Need-returns Inv-loop μ-loop
 returns c =
-    let a = c .before .before .before .before .before .before .before .before .before .args in
-    let l = c .before .before .before .before .before .before .loop in
-    sym (ap (λ o. foundOf o) (l .inv .1 ∙ first-here (λ i. holds (triangleAt (a .table .now) i) (a .p)) (a .list .now) (l .k) (omega arith) (sym (tested (c .before)) ∙ c .if1 .taken)))
+    let holds-2 : tie.After-holds Inv-loop μ-loop = search needs in
+    let loop : tie.At-loop Inv-loop μ-loop = search needs in
+    let top : tie.Start Inv-loop μ-loop = search needs in
+    let a = top .args in
+    let l = loop .loop in
+    sym (ap (λ o. foundOf o) (l .inv .1 ∙ first-here (λ i. holds (triangleAt (a .table .now) i) (a .p)) (a .list .now) (l .k) (omega arith) (sym (tested holds-2) ∙ c .if1 .taken)))
 
 add-k : tie.Need-add-k Inv-loop μ-loop
 add-k c = search needs
@@ -62,16 +77,21 @@ loop-less c = search needs
 
 loop-again : tie.Need-loop-again Inv-loop μ-loop
 loop-again c =
-    let a = c .before .before .before .before .before .before .before .before .before .args in
-    let l = c .before .before .before .before .before .before .loop in (
+    let holds-2 : tie.After-holds Inv-loop μ-loop = search needs in
+    let loop : tie.At-loop Inv-loop μ-loop = search needs in
+    let top : tie.Start Inv-loop μ-loop = search needs in
+    let a = top .args in
+    let l = loop .loop in (
       omega arith,
-      l .inv .1 ∙ first-later (λ i. holds (triangleAt (a .table .now) i) (a .p)) (a .list .now) (l .k) (omega arith) (sym (tested (c .before)) ∙ c .if1 .left),
+      l .inv .1 ∙ first-later (λ i. holds (triangleAt (a .table .now) i) (a .p)) (a .list .now) (l .k) (omega arith) (sym (tested holds-2) ∙ c .if1 .left),
     )
 
 returns-2 : tie.Need-returns-2 Inv-loop μ-loop
 returns-2 c =
-    let a = c .before .before .before .before .args in
-    let l = c .before .loop in
+    let loop : tie.At-loop Inv-loop μ-loop = search needs in
+    let top : tie.Start Inv-loop μ-loop = search needs in
+    let a = top .args in
+    let l = loop .loop in
     sym (ap (λ o. foundOf o) (l .inv .1 ∙ first-over (λ i. holds (triangleAt (a .table .now) i) (a .p)) (a .list .now) (l .k) (omega arith)))
 
 pub first-holding-spec : {M : Type 1} → statement M

@@ -28,26 +28,61 @@ second c =
 abbrev short : tie.Start → Bool
 short c = tooShort (first c) || tooShort (second c) || ltb (length (c .args .pairs .now)) pairsLength
 
+-- an earlier place, found from a later one
+abbrev too-short-to-top : tie.After-too-short → tie.Start
+too-short-to-top c = search needs
+
+abbrev chain-rule-to-too-short : tie.After-chain-rule → tie.After-too-short
+chain-rule-to-too-short c = search needs
+
+abbrev too-short2-to-top : tie.After-too-short2 → tie.Start
+too-short2-to-top c = search needs
+
+abbrev else1-to-top : tie.Else1 → tie.Start
+else1-to-top c = search needs
+
+abbrev else2-to-else1 : tie.Else2 → tie.Else1
+else2-to-else1 c = search needs
+
 judged : (c : tie.After-too-short2)
-    → c .before .too-short .result || c .too-short2 .result || ltb (length (c .before .before .before .before .before .before .before .before .before .before .before .args .pairs .now)) pairsLength ≡ short (c .before .before .before .before .before .before .before .before .before .before .before)
+    →
+    let too-short : tie.After-too-short = search needs in
+    let top = too-short-to-top too-short in
+    too-short .too-short .result || c .too-short2 .result || ltb (length (top .args .pairs .now)) pairsLength ≡ short top
 judged c =
-    let a = c .before .before .before .before .before .before .before .before .before .before .before .args in
-    ap₂ (λ x y. x || y || ltb (length (a .pairs .now)) pairsLength) (c .before .too-short .ensures (a .n0) (a .m0))
+    let too-short : tie.After-too-short = search needs in
+    let top = too-short-to-top too-short in
+    let a = top .args in
+    ap₂ (λ x y. x || y || ltb (length (a .pairs .now)) pairsLength) (too-short .too-short .ensures (a .n0) (a .m0))
     (c .too-short2 .ensures (a .n1) (a .m1))
 
 -- none is
-long : (c : tie.Else1) → short (c .before .before .before .before .before .before .before .before .before .before .before .before) ≡ false
-long c = sym (judged (c .before)) ∙ c .if1 .left
+long : (c : tie.Else1) →
+    let top : tie.Start = search needs in
+    short top ≡ false
+long c =
+    let too-short2 : tie.After-too-short2 = search needs in
+    sym (judged too-short2) ∙ c .if1 .left
 
 -- both charts follow the chain rule
 judged-chains : (c : tie.After-chain-rule2)
-    → c .before .chain-rule .result && c .chain-rule2 .result ≡ chainRule (first (c .before .before .before .before .before .before .before .before .before .before .before .before .before .before)) && chainRule (second (c .before .before .before .before .before .before .before .before .before .before .before .before .before .before))
-judged-chains c = ap₂ _&&_ (c .before .chain-rule .ensures) (c .chain-rule2 .ensures)
+    →
+    let chain-rule : tie.After-chain-rule = search needs in
+    let too-short = chain-rule-to-too-short chain-rule in
+    let top = too-short-to-top too-short in
+    chain-rule .chain-rule .result && c .chain-rule2 .result ≡ chainRule (first top) && chainRule (second top)
+judged-chains c =
+    let chain-rule : tie.After-chain-rule = search needs in
+    ap₂ _&&_ (chain-rule .chain-rule .ensures) (c .chain-rule2 .ensures)
 
-rules : (c : tie.Else2) → chainRule (first (c .before .before .before .before .before .before .before .before .before .before .before .before .before .before .before)) && chainRule (second (c .before .before .before .before .before .before .before .before .before .before .before .before .before .before .before)) ≡ true
+rules : (c : tie.Else2) →
+    let too-short : tie.After-too-short = search needs in
+    let top = too-short-to-top too-short in
+    chainRule (first top) && chainRule (second top) ≡ true
 rules c =
-    let d = c .before in
-    sym (judged-chains d) ∙ not-false (d .before .chain-rule .result && d .chain-rule2 .result) (c .if2 .left)
+    let d : tie.After-chain-rule2 = search needs in
+    let chain-rule : tie.After-chain-rule = search needs in
+    sym (judged-chains d) ∙ not-false (chain-rule .chain-rule .result && d .chain-rule2 .result) (c .if2 .left)
 
 too-short-requires : tie.Need-too-short-requires
 too-short-requires c κs = search needs
@@ -60,37 +95,45 @@ refused-requires c κs = search needs
 
 returns : tie.Need-returns
 returns c =
-    let top = c .before .before .before .before .before .before .before .before .before .before .before .before .before in
-    overlay-short (first top) (second top) (top .args .pairs .now) (sym (judged (c .before .before)) ∙ c .before .if1 .taken) (c .refused .ensures)
+    let then1 : tie.Then1 = search needs in
+    let too-short2 : tie.After-too-short2 = search needs in
+    let top = too-short2-to-top too-short2 in
+    overlay-short (first top) (second top) (top .args .pairs .now) (sym (judged too-short2) ∙ then1 .if1 .taken) (c .refused .ensures)
 
 chain-rule-requires : tie.Need-chain-rule-requires
 chain-rule-requires c κs =
-    let top = c .before .before .before .before .before .before .before .before .before .before .before .before in
+    let top : tie.Start = search needs in
     first-long (first top) (second top) (top .args .pairs .now) (long c)
 
 chain-rule-requires-2 : tie.Need-chain-rule-requires-2
 chain-rule-requires-2 c κs =
-    let top = c .before .before .before .before .before .before .before .before .before .before .before .before .before in
-    second-long (first top) (second top) (top .args .pairs .now) (long (c .before))
+    let else1 : tie.Else1 = search needs in
+    let top = else1-to-top else1 in
+    second-long (first top) (second top) (top .args .pairs .now) (long else1)
 
 refused-requires-2 : tie.Need-refused-requires-2
 refused-requires-2 c κs = search needs
 
 returns-2 : tie.Need-returns-2
 returns-2 c =
-    let top = c .before .before .before .before .before .before .before .before .before .before .before .before .before .before .before .before in
-    let d = c .before .before in
-    overlay-broken (first top) (second top) (top .args .pairs .now) (long (d .before .before)) (sym (judged-chains d) ∙ not-true (d .before .chain-rule .result && d .chain-rule2 .result) (c .before .if2 .taken)) (c .refused2 .ensures)
+    let then2 : tie.Then2 = search needs in
+    let d : tie.After-chain-rule2 = search needs in
+    let chain-rule : tie.After-chain-rule = search needs in
+    let else1 : tie.Else1 = search needs in
+    let top = else1-to-top else1 in
+    overlay-broken (first top) (second top) (top .args .pairs .now) (long else1) (sym (judged-chains d) ∙ not-true (chain-rule .chain-rule .result && d .chain-rule2 .result) (then2 .if2 .taken)) (c .refused2 .ensures)
 
 slice-aggregate-mark-pairs : tie.Need-slice-aggregate-mark-pairs
 slice-aggregate-mark-pairs c = search needs
 
 mark-pairs-requires : tie.Need-mark-pairs-requires
 mark-pairs-requires c κs =
-    let top = c .before .before .before .before .before .before .before .before .before .before .before .before .before .before .before .before in
+    let else2 : tie.Else2 = search needs in
+    let else1 : tie.Else1 = search needs in
+    let top = else1-to-top else1 in
     let l = top .args .pairs .now in
-    let s = long (c .before .before .before .before) in
-    let r = rules (c .before) in
+    let s = long else1 in
+    let r = rules else2 in
     let p = first-passed (first top) (second top) l s r in
     let q = second-passed (first top) (second top) l s r in
     ((p .entries, (p .keyed, p .listed)), ((q .entries, (q .keyed, q .listed)), (search needs, λ k h. zeros-empty rowsLength k)))
@@ -100,18 +143,21 @@ slice-aggregate-put-pairs c = search needs
 
 put-pairs-requires : tie.Need-put-pairs-requires
 put-pairs-requires c κs =
-    let top = c .before .before .before .before .before .before .before .before .before .before .before .before .before .before .before .before .before .before .before .before in
+    let else2 : tie.Else2 = search needs in
+    let else1 : tie.Else1 = search needs in
+    let top = else1-to-top else1 in
     let l = top .args .pairs .now in
-    let s = long (c .before .before .before .before .before .before .before .before) in
-    let r = rules (c .before .before .before .before .before) in
+    let s = long else1 in
+    let r = rules else2 in
     let p = first-passed (first top) (second top) l s r in
     let q = second-passed (first top) (second top) l s r in
     (((p .triangles, p .rows), p .oriented), (((q .triangles, q .rows), q .oriented), (search needs, pairs-long (first top) (second top) l s)))
 
 finish-requires : tie.Need-finish-requires
 finish-requires c κs =
-    let top = c .before .before .before .before .before .before .before .before .before .before .before .before .before .before .before .before .before .before .before .before .before .before .before .before in
-    let room = pairs-long (first top) (second top) (top .args .pairs .now) (long (c .before .before .before .before .before .before .before .before .before .before .before .before)) in
+    let else1 : tie.Else1 = search needs in
+    let top = else1-to-top else1 in
+    let room = pairs-long (first top) (second top) (top .args .pairs .now) (long else1) in
     search needs
 
 same-length : tie.Need-same-length
@@ -120,15 +166,20 @@ same-length c = search needs
 returns-3 : tie.Need-returns-3
 unfolding chartTable chartEntries
 returns-3 c =
-    let top = c .before .before .before .before .before .before .before .before .before .before .before .before .before .before .before .before .before .before .before .before .before .before .before .before .before .before .before in
+    let finish : tie.After-finish = search needs in
+    let put-pairs : tie.After-put-pairs = search needs in
+    let mark-pairs : tie.After-mark-pairs = search needs in
+    let else2 : tie.Else2 = search needs in
+    let else1 = else2-to-else1 else2 in
+    let top = else1-to-top else1 in
     let a = top .args in
     let l = a .pairs .now in
-    let s = long (c .before .before .before .before .before .before .before .before .before .before .before .before .before .before .before) in
-    let r = rules (c .before .before .before .before .before .before .before .before .before .before .before .before) in
+    let s = long else1 in
+    let r = rules else2 in
     let p = first-chain (first top) (second top) l s r in
     let q = second-chain (first top) (second top) l s r in
-    let o = c .before .before .before .before .before .before .before .before .before .before .mark-pairs .ensures .overlapping (a .levels0 .now) (a .levels1 .now) (p .0) (q .0) (a .n0) (a .n1) (p .1) (q .1) in
-    c .before .before .finish .ensures _ l (c .before .before .before .before .before .before .put-pairs .ensures)
+    let o = mark-pairs .mark-pairs .ensures .overlapping (a .levels0 .now) (a .levels1 .now) (p .0) (q .0) (a .n0) (a .n1) (p .1) (q .1) in
+    finish .finish .ensures _ l (put-pairs .put-pairs .ensures)
     ∙ overlay-same (a .table0 .now) (a .n0) (a .table1 .now) (a .n1) o (first-passed (first top) (second top) l s r .triangles) (second-passed (first top) (second top) l s r .triangles) l
     ∙ overlay-passed (first top) (second top) l s r
 

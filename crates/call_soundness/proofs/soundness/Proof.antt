@@ -1,7 +1,6 @@
 use mathlib.Core.Path.{_≡_, sym, _∙_, ap}
 use mathlib.Core.Bool.{true, false}
 use borrow.Author.Needs.{needs}
-use Rattle.spec_charts.specs.Refusals.{outcomeNumber, doneOr}
 use Rattle.spec_calls.specs.Buffers.{Chart, chartOf, chartTable, tooShort, chainRule}
 use Rattle.laws_calls.proofs.BufferLaws.{rule-held}
 use Rattle.laws_calls.proofs.JudgeLaws.{chained-passed, chained-not-stale}
@@ -22,15 +21,19 @@ enum-told : tie.Need-enum-told
 enum-told c = search needs
 
 -- where nothing is against the chart
-fine : (c : tie.After-enum-told) → let chart = chart (c .before .before .before .before .before .before .before) in (tooShort chart ≡ false) × (chainRule chart ≡ true)
+fine : (c : tie.After-enum-told) →
+    let top : tie.Start = search needs in
+    let chart = chart top in (tooShort chart ≡ false) × (chainRule chart ≡ true)
 fine c =
-    let j = c .before .before in
-    chained-passed (chart (j .before .before .before .before .before)) (sym (ap judgedOutcome (c .enum-told .given .1)) ∙ j .judge .ensures)
+    let j : tie.After-judge = search needs in
+    let top : tie.Start = search needs in
+    chained-passed (chart top) (sym (ap judgedOutcome (c .enum-told .given .1)) ∙ j .judge .ensures)
 
 all-apart-requires : tie.Need-all-apart-requires
 unfolding chartTable
 all-apart-requires c κs =
-    let h = rule-held (chart (c .before .before .before .before .before .before .before)) (fine c .0) (fine c .1) in ((h .few, h .room), h .good)
+    let top : tie.Start = search needs in
+    let h = rule-held (chart top) (fine c .0) (fine c .1) in ((h .few, h .room), h .good)
 
 enum-told-2 : tie.Need-enum-told-2
 enum-told-2 c = search needs
@@ -41,36 +44,45 @@ enum-told-3 c = search needs
 enum-told-4 : tie.Need-enum-told-4
 enum-told-4 c = search needs
 
+-- an earlier place, found from a later one
+abbrev enum-told-to-top : tie.After-enum-told → tie.Start
+enum-told-to-top c = search needs
+
 returns : tie.Need-returns
-unfolding outcomeNumber doneOr chartTable
+unfolding chartTable
 returns c =
-    let b = c .before .before in
-    let e = sym (c .if1 .taken) ∙ c .before .all-apart .ensures in
-    (λ i. record { number = 0; isSound = e i }) ∙ sound-done (chart (b .before .before .before .before .before .before .before)) (fine b .0) (fine b .1)
+    let all-apart : tie.After-all-apart = search needs in
+    let b : tie.After-enum-told = search needs in
+    let top = enum-told-to-top b in
+    let e = sym (c .if1 .taken) ∙ all-apart .all-apart .ensures in
+    (λ i. record { number = 0; isSound = e i }) ∙ sound-done (chart top) (fine b .0) (fine b .1)
 
 returns-2 : tie.Need-returns-2
-unfolding outcomeNumber doneOr chartTable
+unfolding chartTable
 returns-2 c =
-    let b = c .before .before in
-    let e = sym (c .if1 .left) ∙ c .before .all-apart .ensures in
-    (λ i. record { number = 0; isSound = e i }) ∙ sound-done (chart (b .before .before .before .before .before .before .before)) (fine b .0) (fine b .1)
+    let all-apart : tie.After-all-apart = search needs in
+    let b : tie.After-enum-told = search needs in
+    let top = enum-told-to-top b in
+    let e = sym (c .if1 .left) ∙ all-apart .all-apart .ensures in
+    (λ i. record { number = 0; isSound = e i }) ∙ sound-done (chart top) (fine b .0) (fine b .1)
 
 returns-3 : tie.Need-returns-3
-unfolding outcomeNumber doneOr
 returns-3 c =
-    let j = c .before .before in
-    sound-refused (chart (j .before .before .before .before .before)) (sym (ap judgedOutcome (c .enum-told2 .given .1)) ∙ j .judge .ensures)
+    let j : tie.After-judge = search needs in
+    let top : tie.Start = search needs in
+    sound-refused (chart top) (sym (ap judgedOutcome (c .enum-told2 .given .1)) ∙ j .judge .ensures)
 
 returns-4 : tie.Need-returns-4
-unfolding outcomeNumber doneOr
 returns-4 c =
-    let j = c .before .before in
-    sound-refused (chart (j .before .before .before .before .before)) (sym (ap judgedOutcome (c .enum-told3 .given .1)) ∙ j .judge .ensures)
+    let j : tie.After-judge = search needs in
+    let top : tie.Start = search needs in
+    sound-refused (chart top) (sym (ap judgedOutcome (c .enum-told3 .given .1)) ∙ j .judge .ensures)
 
 returns-5 : tie.Need-returns-5
 returns-5 c =
-    let j = c .before .before in
-    absurd (chained-not-stale (chart (j .before .before .before .before .before)) (sym (ap judgedOutcome (c .enum-told4 .given .1)) ∙ j .judge .ensures))
+    let j : tie.After-judge = search needs in
+    let top : tie.Start = search needs in
+    absurd (chained-not-stale (chart top) (sym (ap judgedOutcome (c .enum-told4 .given .1)) ∙ j .judge .ensures))
 
 pub soundness-spec : {M : Type 1} → statement M
 soundness-spec =

@@ -13,8 +13,10 @@ build-packed-requires c κs = search needs
 
 returns : tie.Need-returns
 returns c =
-    let a = c .before .before .before .before .before .before .before .before .args in
-    listed-over (c .before .before .build-packed .ensures) (a .keys .now) (a .levels .now) (a .items .now) (omega (arith, c .if1 .taken))
+    let build-packed : tie.After-build-packed = search needs in
+    let top : tie.Start = search needs in
+    let a = top .args in
+    listed-over (build-packed .build-packed .ensures) (a .keys .now) (a .levels .now) (a .items .now) (omega (arith, c .if1 .taken))
 
 slice-aggregate-put-lists : tie.Need-slice-aggregate-put-lists
 slice-aggregate-put-lists c = search needs
@@ -31,11 +33,19 @@ same-length-2 c = search needs
 same-length-3 : tie.Need-same-length-3
 same-length-3 c = search needs
 
+-- an earlier place, found from a later one
+abbrev build-packed-to-top : tie.After-build-packed → tie.Start
+build-packed-to-top c = search needs
+
 returns-2 : tie.Need-returns-2
 returns-2 c =
-    let a = c .before .before .before .before .before .before .before .before .before .before .before .before .before .before .before .before .before .before .before .args in
-    let w = c .before .before .before .before .before .before .put-lists .ensures in
-    listed-fits (c .before .before .before .before .before .before .before .before .before .before .before .before .before .build-packed .ensures) (entries-packable (a .table .now) (a .n) (c .before .before .before .before .before .before .before .before .before .before .before .before .before .before .before .before .before .before .before .pre .0 .0 .0)) (omega (arith, c .before .before .before .before .before .before .before .before .before .before .before .if1 .left)) (w .0) (w .1 .0) (w .1 .1)
+    let put-lists : tie.After-put-lists = search needs in
+    let else1 : tie.Else1 = search needs in
+    let build-packed : tie.After-build-packed = search needs in
+    let top = build-packed-to-top build-packed in
+    let a = top .args in
+    let w = put-lists .put-lists .ensures in
+    listed-fits (build-packed .build-packed .ensures) (entries-packable (a .table .now) (a .n) (top .pre .0 .0 .0)) (omega (arith, else1 .if1 .left)) (w .0) (w .1 .0) (w .1 .1)
 
 pub list-few-spec : {M : Type 1} → statement M
 list-few-spec =

@@ -16,7 +16,9 @@ abbrev μ-loop : tie.MeasureT-loop
 μ-loop table n ok₀ i₀ ok i = n - i
 
 loop-holds : tie.Need-loop-holds Inv-loop μ-loop
-loop-holds c = (search needs, sym (all-below-none (λ k. proper (triangleAt (c .before .args .table .now) k))))
+loop-holds c =
+    let top : tie.Start Inv-loop μ-loop = search needs in
+    (search needs, sym (all-below-none (λ k. proper (triangleAt (top .args .table .now) k))))
 
 triangle-at-requires : tie.Need-triangle-at-requires Inv-loop μ-loop
 triangle-at-requires c κs = omega arith
@@ -33,19 +35,24 @@ loop-less c = search needs
 loop-again : tie.Need-loop-again Inv-loop μ-loop
 unfolding triangleOf cornerAt
 loop-again c =
-    let table = c .before .before .before .before .before .args .table .now in
-    let l = c .before .before .before .loop in (
+    let triangle-at : tie.After-triangle-at Inv-loop μ-loop = search needs in
+    let loop : tie.At-loop Inv-loop μ-loop = search needs in
+    let top : tie.Start Inv-loop μ-loop = search needs in
+    let table = top .args .table .now in
+    let l = loop .loop in (
       omega arith,
       all-below-step (λ k. proper (triangleAt table k)) (l .i) (l .inv .1)
-          (c .is-proper .ensures ∙ ap (λ t. proper (triangleOf t)) (c .before .triangle-at .ensures)),
+          (c .is-proper .ensures ∙ ap (λ t. proper (triangleOf t)) (triangle-at .triangle-at .ensures)),
     )
 
 returns : tie.Need-returns Inv-loop μ-loop
 unfolding tableOf
 returns c =
-    let table = c .before .before .before .args .table .now in
-    let n = c .before .before .before .args .n in
-    let l = c .before .loop in
+    let loop : tie.At-loop Inv-loop μ-loop = search needs in
+    let top : tie.Start Inv-loop μ-loop = search needs in
+    let table = top .args .table .now in
+    let n = top .args .n in
+    let l = loop .loop in
     l .inv .1 ∙ ap (λ k. all (λ j. proper (triangleAt table j)) (upTo k)) (omega arith)
     ∙ sym (all-map (λ t. proper t) (λ j. triangleAt table j) (upTo n))
 

@@ -1,21 +1,24 @@
 use native.Mathlib.Omega.{arith}
 use Rattle.spec_calls.specs.Buffers.{chartOf}
 use Rattle.laws_calls.proofs.BufferLaws.{entries-many, entries-chained}
+use borrow.Author.Needs.{needs}
 use Rattle.chart_rule.proofs.entries_rule.Statement.{statement}
 use Rattle.chart_rule.proofs.entries_rule.Tie as tie
 
 returns : tie.Need-returns
 returns c =
-    let a = c .before .before .before .before .args in
-    λ table. entries-many (chartOf table (a .keys .now) (a .levels .now) (a .items .now) (a .count) (a .n)) (omega arith)
+    let top : tie.Start = search needs in
+    let a = top .args in
+    λ table. entries-many (chartOf table (a .keys .now) (a .levels .now) (a .items .now) (a .triangles) (a .entries)) (omega arith)
 
 chain-holds-requires : tie.Need-chain-holds-requires
 chain-holds-requires c κs = omega arith
 
 returns-2 : tie.Need-returns-2
 returns-2 c =
-    let a = c .before .before .before .before .before .args in
-    λ table. entries-chained (chartOf table (a .keys .now) (a .levels .now) (a .items .now) (a .count) (a .n)) (omega arith) (c .chain-holds .ensures)
+    let top : tie.Start = search needs in
+    let a = top .args in
+    λ table. entries-chained (chartOf table (a .keys .now) (a .levels .now) (a .items .now) (a .triangles) (a .entries)) (omega arith) (c .chain-holds .ensures)
 
 pub entries-rule-spec : {M : Type 1} → statement M
 entries-rule-spec = tie.close (tie.spec returns chain-holds-requires returns-2)

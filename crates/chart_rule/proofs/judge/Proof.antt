@@ -3,7 +3,8 @@ use mathlib.Core.Bool.{true, false}
 use borrow.Author.Needs.{needs}
 use borrow.Author.Tests.{not-true, not-false}
 use Rattle.spec_charts.specs.Refusals.{done}
-use Rattle.spec_calls.specs.Buffers.{Chart, chartOf, tooShort}
+use Rattle.spec_calls.specs.Buffers.{Chart, tooShort}
+use Rattle.spec_calls.specs.Lent.{held}
 use Rattle.laws_calls.proofs.JudgeLaws.{judged-short, judged-broken, chained-passes}
 use Rattle.chart_rule.proofs.judge.Statement.{statement}
 use Rattle.chart_rule.proofs.judge.Tie as tie
@@ -11,37 +12,46 @@ use Rattle.chart_rule.proofs.judge.Tie as tie
 -- the chart lent
 abbrev chart : tie.Start → Chart
 chart c =
-    let a = c .args in chartOf (a .table .now) (a .keys .now) (a .levels .now) (a .items .now) (a .triangles) (a .entries)
+    let a = c .args in held (a .table) (a .keys) (a .levels) (a .items) (a .triangles) (a .entries)
 
 too-short-requires : tie.Need-too-short-requires
 too-short-requires c κs = search needs
 
 returns : tie.Need-returns
 returns c =
-    let s = c .before in
-    let top = s .before .before .before .before .before in
+    let s : tie.After-too-short = search needs in
+    let top : tie.Start = search needs in
     sym (judged-short (chart top) (done true) (sym (s .too-short .ensures (top .args .triangles) (top .args .entries)) ∙ c .if1 .taken))
 
 -- no buffer is too short
-long : (c : tie.Else1) → tooShort (chart (c .before .before .before .before .before .before)) ≡ false
+long : (c : tie.Else1) →
+    let top : tie.Start = search needs in
+    tooShort (chart top) ≡ false
 long c =
-    let top = c .before .before .before .before .before .before in
-    sym (c .before .too-short .ensures (top .args .triangles) (top .args .entries)) ∙ c .if1 .left
+    let too-short : tie.After-too-short = search needs in
+    let top : tie.Start = search needs in
+    sym (too-short .too-short .ensures (top .args .triangles) (top .args .entries)) ∙ c .if1 .left
 
 chain-rule-requires : tie.Need-chain-rule-requires
 chain-rule-requires c κs = long c
 
+-- an earlier place, found from a later one
+abbrev else1-to-top : tie.Else1 → tie.Start
+else1-to-top c = search needs
+
 returns-2 : tie.Need-returns-2
 returns-2 c =
-    let r = c .before in
-    let top = r .before .before .before .before .before .before .before in
-    sym (judged-broken (chart top) (done true) (long (r .before)) (sym (r .chain-rule .ensures) ∙ not-true (r .chain-rule .result) (c .if2 .taken)))
+    let r : tie.After-chain-rule = search needs in
+    let else1 : tie.Else1 = search needs in
+    let top = else1-to-top else1 in
+    sym (judged-broken (chart top) (done true) (long else1) (sym (r .chain-rule .ensures) ∙ not-true (r .chain-rule .result) (c .if2 .taken)))
 
 returns-3 : tie.Need-returns-3
 returns-3 c =
-    let r = c .before in
-    let top = r .before .before .before .before .before .before .before in
-    sym (chained-passes (chart top) (done true) (long (r .before)) (sym (r .chain-rule .ensures) ∙ not-false (r .chain-rule .result) (c .if2 .left)))
+    let r : tie.After-chain-rule = search needs in
+    let else1 : tie.Else1 = search needs in
+    let top = else1-to-top else1 in
+    sym (chained-passes (chart top) (done true) (long else1) (sym (r .chain-rule .ensures) ∙ not-false (r .chain-rule .result) (c .if2 .left)))
 
 pub judge-spec : {M : Type 1} → statement M
 judge-spec = tie.close (tie.spec too-short-requires returns chain-rule-requires returns-2 returns-3)

@@ -1,7 +1,6 @@
 -- The entries are built first, and the table is written only where they fit: a refusal leaves all as it was.
 use native.Mathlib.Omega.{arith}
 use borrow.Author.Needs.{needs}
-use Rattle.spec_charts.specs.Refusals.{outcomeNumber, outcomeValue}
 use Rattle.spec_calls.specs.Buffers.{Chart, chartOf}
 use Rattle.spec_calls.specs.Calls.{changedBy}
 use Rattle.laws_calls.proofs.BufferLaws.{long-enough}
@@ -16,7 +15,7 @@ chart c =
 
 build-into-requires : tie.Need-build-into-requires
 build-into-requires c κs =
-    let top = c .before .before .before .before .before .before .before .before in
+    let top : tie.Start = search needs in
     let long = long-enough (chart top) (top .pre .1) in (top .pre .0, (long .keys, (long .levels, long .items)))
 
 same-length : tie.Need-same-length
@@ -28,18 +27,27 @@ same-length-2 c = search needs
 same-length-3 : tie.Need-same-length-3
 same-length-3 c = search needs
 
+-- an earlier place, found from a later one
+abbrev build-into-to-top : tie.After-build-into → tie.Start
+build-into-to-top c = search needs
+
+abbrev else1-to-build-into : tie.Else1 → tie.After-build-into
+else1-to-build-into c = search needs
+
 returns : tie.Need-returns
-unfolding changedBy outcomeNumber outcomeValue
+unfolding changedBy
 returns c =
-    let top = c .before .before .before .before .before .before .before .before .before .before .before .before .before .before .before .before in
-    store-many (top .args .proposed .now) (top .args .n) (top .pre .0 .0 .1) (chart top) (c .before .before .before .before .before .before .before .build-into .ensures) (omega (arith, c .if1 .taken))
+    let build-into : tie.After-build-into = search needs in
+    let top = build-into-to-top build-into in
+    store-many (top .args .proposed .now) (top .args .n) (top .pre .0 .0 .1) (chart top) (build-into .build-into .ensures) (omega (arith, c .if1 .taken))
 
 mul-put-table : tie.Need-mul-put-table
 mul-put-table c = search needs
 
 put-table-requires : tie.Need-put-table-requires
 put-table-requires c κs =
-    let top = c .before .before .before .before .before .before .before .before .before .before .before .before .before .before .before .before .before in
+    let build-into-arg : tie.After-build-into-arg = search needs in
+    let top : tie.Start = search needs in
     (omega (arith, top .pre .0 .0 .1), (omega (arith, top .pre .0 .0 .0), long-enough (chart top) (top .pre .1) .table))
 
 same-length-4 : tie.Need-same-length-4
@@ -55,11 +63,14 @@ same-length-7 : tie.Need-same-length-7
 same-length-7 c = search needs
 
 returns-2 : tie.Need-returns-2
-unfolding changedBy outcomeNumber outcomeValue
+unfolding changedBy
 returns-2 c =
-    let top = c .before .before .before .before .before .before .before .before .before .before .before .before .before .before .before .before .before .before .before .before in
-    store-done (top .args .proposed .now) (top .args .n) (top .pre .0 .0 .1) (chart top) (c .before .before .before .before .before .before .before .before .before .before .before .build-into .ensures)
-    (omega (arith, c .before .before .before .before .if1 .left)) (c .before .before .put-table .ensures)
+    let put-table : tie.After-put-table = search needs in
+    let else1 : tie.Else1 = search needs in
+    let build-into = else1-to-build-into else1 in
+    let top = build-into-to-top build-into in
+    store-done (top .args .proposed .now) (top .args .n) (top .pre .0 .0 .1) (chart top) (build-into .build-into .ensures)
+    (omega (arith, else1 .if1 .left)) (put-table .put-table .ensures)
 
 pub store-spec : {M : Type 1} → statement M
 store-spec =

@@ -11,28 +11,41 @@ use borrow.Author.Needs.{needs}
 use Rattle.edit_flip.proofs.flip_as.Statement.{statement}
 use Rattle.edit_flip.proofs.flip_as.Tie as tie
 
+-- an earlier place, found from a later one
+abbrev is-proper-to-top : tie.After-is-proper → tie.Start
+is-proper-to-top c = search needs
+
 returns : tie.Need-returns
 unfolding triangle triangleOf cornerAt
 returns c =
-    let a = c .before .before .before .before .before .before .before .before .before .before .before .args in
-    let both = ap₂ _&&_ (c .before .before .is-proper .ensures) (c .before .is-proper2 .ensures) in (
+    let is-proper2 : tie.After-is-proper2 = search needs in
+    let is-proper : tie.After-is-proper = search needs in
+    let top = is-proper-to-top is-proper in
+    let a = top .args in
+    let both = ap₂ _&&_ (is-proper .is-proper .ensures) (is-proper2 .is-proper2 .ensures) in (
       sym (as-refused (tableOf (a .table .now) (a .n)) (a .i) (a .j) (triangleOf (a .t5)) (triangleOf (a .t6))
-          (sym both ∙ not-true (c .before .before .is-proper .result && c .before .is-proper2 .result) (c .if1 .taken))),
+          (sym both ∙ not-true (is-proper .is-proper .result && is-proper2 .is-proper2 .result) (c .if1 .taken))),
       omega arith,
     )
 
 returns-2 : tie.Need-returns-2
 unfolding triangle triangleOf cornerAt
 returns-2 c =
-    let a = c .before .before .before .before .before .before .before .before .before .before .before .before .before .before .before .before .before .before .before .args in
+    let put-triangle : tie.After-put-triangle = search needs in
+    let replace-row : tie.After-replace-row = search needs in
+    let else1 : tie.Else1 = search needs in
+    let is-proper2 : tie.After-is-proper2 = search needs in
+    let is-proper : tie.After-is-proper = search needs in
+    let top = is-proper-to-top is-proper in
+    let a = top .args in
     let s = a .t5 in
     let u = a .t6 in
-    let both = ap₂ _&&_ (c .before .before .before .before .before .before .before .before .before .before .is-proper .ensures) (c .before .before .before .before .before .before .before .before .before .is-proper2 .ensures) in
-    let rows = second-row (c .before .before .before .before .before .before .replace-row .last .1 .1 .1 .1 .0) (c .before .before .put-triangle .last .0) (a .n) (a .j) (triangle (cornerAt u 2) (cornerAt s 1) (cornerAt s 2))
-    (c .before .before .before .before .before .before .before .before .before .before .before .before .before .before .before .before .before .before .before .pre .0 .1) (omega arith) (c .before .before .before .before .before .before .replace-row .ensures) (c .before .before .put-triangle .ensures) in (
+    let both = ap₂ _&&_ (is-proper .is-proper .ensures) (is-proper2 .is-proper2 .ensures) in
+    let rows = second-row (replace-row .replace-row .last .1 .1 .1 .1 .0) (put-triangle .put-triangle .last .0) (a .n) (a .j) (triangle (cornerAt u 2) (cornerAt s 1) (cornerAt s 2))
+    (top .pre .0 .1) (omega arith) (replace-row .replace-row .ensures) (put-triangle .put-triangle .ensures) in (
       ap done rows
           ∙ sym (as-made (tableOf (a .table .now) (a .n)) (a .i) (a .j) (triangleOf s) (triangleOf u)
-          (sym both ∙ not-false (c .before .before .before .before .before .before .before .before .before .before .is-proper .result && c .before .before .before .before .before .before .before .before .before .is-proper2 .result) (c .before .before .before .before .before .before .before .before .if1 .left))),
+          (sym both ∙ not-false (is-proper .is-proper .result && is-proper2 .is-proper2 .result) (else1 .if1 .left))),
       omega arith,
     )
 

@@ -19,23 +19,29 @@ abbrev μ-loop : tie.MeasureT-loop
 
 returns : tie.Need-returns Inv-loop μ-loop
 returns c =
-    let a = c .before .before .before .args in
+    let top : tie.Start Inv-loop μ-loop = search needs in
+    let a = top .args in
     (sym (flip-beyond (a .table .now) (a .n) (a .i) (a .j) (c .if1 .taken)), omega arith)
 
 triangle-at-requires : tie.Need-triangle-at-requires Inv-loop μ-loop
 triangle-at-requires c κs =
-    let a = c .before .before .before .args in
-    omega (arith, neither-over (a .n) (a .i) (a .j) (c .if1 .left), c .before .before .before .pre)
+    let top : tie.Start Inv-loop μ-loop = search needs in
+    let a = top .args in
+    omega (arith, neither-over (a .n) (a .i) (a .j) (c .if1 .left), top .pre)
 
 triangle-at-requires-2 : tie.Need-triangle-at-requires-2 Inv-loop μ-loop
 triangle-at-requires-2 c κs =
-    let a = c .before .before .before .before .args in
-    omega (arith, neither-over (a .n) (a .i) (a .j) (c .before .if1 .left), c .before .before .before .before .pre)
+    let else1 : tie.Else1 Inv-loop μ-loop = search needs in
+    let top : tie.Start Inv-loop μ-loop = search needs in
+    let a = top .args in
+    omega (arith, neither-over (a .n) (a .i) (a .j) (else1 .if1 .left), top .pre)
 
 loop-holds : tie.Need-loop-holds Inv-loop μ-loop
 loop-holds c =
-    let a = c .before .before .before .before .before .args in
-    (refl, tried-start (tableOf (a .table .now) (a .n)) (a .i) (a .j) (rotations (triangleOf (c .triangle-at2 .result))) (c .before .triangle-at .result))
+    let triangle-at : tie.After-triangle-at Inv-loop μ-loop = search needs in
+    let top : tie.Start Inv-loop μ-loop = search needs in
+    let a = top .args in
+    (refl, tried-start (tableOf (a .table .now) (a .n)) (a .i) (a .j) (rotations (triangleOf (c .triangle-at2 .result))) (triangle-at .triangle-at .result))
 
 rotated-requires : tie.Need-rotated-requires Inv-loop μ-loop
 rotated-requires c κs = search needs
@@ -48,29 +54,52 @@ rotated-requires-2 c κs = search needs
 
 flip-as-requires : tie.Need-flip-as-requires Inv-loop μ-loop
 flip-as-requires c κs =
-    let a = c .before .before .before .before .before .before .before .before .before .before .before .before .args in
-    let pre = c .before .before .before .before .before .before .before .before .before .before .before .before .pre in
-    (neither-over (a .n) (a .i) (a .j) (c .before .before .before .before .before .before .before .before .before .if1 .left), (pre .0, (pre .1 .0, omega (arith, c .before .before .before .before .before .before .loop .inv .0, pre .1 .1))))
+    let loop : tie.At-loop Inv-loop μ-loop = search needs in
+    let else1 : tie.Else1 Inv-loop μ-loop = search needs in
+    let top : tie.Start Inv-loop μ-loop = search needs in
+    let a = top .args in
+    let pre = top .pre in
+    (neither-over (a .n) (a .i) (a .j) (else1 .if1 .left), (pre .0, (pre .1 .0, omega (arith, loop .loop .inv .0, pre .1 .1))))
 
 same-length : tie.Need-same-length Inv-loop μ-loop
-same-length c = omega (arith, c .before .before .before .before .before .before .before .before .before .loop .inv .0)
+same-length c =
+    let loop : tie.At-loop Inv-loop μ-loop = search needs in
+    omega (arith, loop .loop .inv .0)
+
+-- an earlier place, found from a later one
+abbrev else1-to-top : tie.Else1 Inv-loop μ-loop → tie.Start Inv-loop μ-loop
+else1-to-top c = search needs
+
+abbrev triangle-at-to-top : tie.After-triangle-at Inv-loop μ-loop → tie.Start Inv-loop μ-loop
+triangle-at-to-top c = search needs
 
 returns-2 : tie.Need-returns-2 Inv-loop μ-loop
 returns-2 c =
-    let a = c .before .before .before .before .before .before .before .before .before .before .before .before .before .before .before .args in
-    let l = c .before .before .before .before .before .before .before .before .before .loop in
-    let s = c .before .before .before .before .before .before .before .before .before .before .before .triangle-at .result in
-    let u = c .before .before .before .before .before .before .before .before .before .before .triangle-at2 .result in
+    let flip-as : tie.After-flip-as Inv-loop μ-loop = search needs in
+    let rotated2 : tie.After-rotated2 Inv-loop μ-loop = search needs in
+    let then2 : tie.Then2 Inv-loop μ-loop = search needs in
+    let sharing-rotation : tie.After-sharing-rotation Inv-loop μ-loop = search needs in
+    let rotated : tie.After-rotated Inv-loop μ-loop = search needs in
+    let in-loop : tie.In-loop Inv-loop μ-loop = search needs in
+    let loop : tie.At-loop Inv-loop μ-loop = search needs in
+    let triangle-at2 : tie.After-triangle-at2 Inv-loop μ-loop = search needs in
+    let triangle-at : tie.After-triangle-at Inv-loop μ-loop = search needs in
+    let else1 : tie.Else1 Inv-loop μ-loop = search needs in
+    let top = else1-to-top else1 in
+    let a = top .args in
+    let l = loop .loop in
+    let s = triangle-at .triangle-at .result in
+    let u = triangle-at2 .triangle-at2 .result in
     let table = tableOf (a .table .now) (a .n) in
     let found =
-    sym (ap (λ v. first (λ w. sharesSide (triangleOf v) w) (rotations (triangleOf u))) (c .before .before .before .before .before .before .before .rotated .ensures))
-    ∙ c .before .before .before .before .before .before .sharing-rotation .ensures .0 (c .before .before .before .before .before .if2 .taken)
+    sym (ap (λ v. first (λ w. sharesSide (triangleOf v) w) (rotations (triangleOf u))) (rotated .rotated .ensures))
+    ∙ sharing-rotation .sharing-rotation .ensures .0 (then2 .if2 .taken)
     in (
-      c .before .before .flip-as .ensures .0
-          ∙ ap₂ (λ v w. flipAs table (a .i) (a .j) (triangleOf v) (triangleOf w)) (c .before .before .before .before .before .before .before .rotated .ensures) (c .before .before .before .before .rotated2 .ensures)
-          ∙ sym (tried-hit table (a .i) (a .j) (rotations (triangleOf u)) s (l .k) _ (l .inv .1) (c .before .before .before .before .before .before .before .before .loop-test .taken) found)
-          ∙ sym (flip-begun (a .table .now) (a .n) (a .i) (a .j) (c .before .before .before .before .before .before .before .before .before .before .before .triangle-at .ensures) (c .before .before .before .before .before .before .before .before .before .before .triangle-at2 .ensures) (c .before .before .before .before .before .before .before .before .before .before .before .before .if1 .left)),
-      c .before .before .flip-as .ensures .1,
+      flip-as .flip-as .ensures .0
+          ∙ ap₂ (λ v w. flipAs table (a .i) (a .j) (triangleOf v) (triangleOf w)) (rotated .rotated .ensures) (rotated2 .rotated2 .ensures)
+          ∙ sym (tried-hit table (a .i) (a .j) (rotations (triangleOf u)) s (l .k) _ (l .inv .1) (in-loop .loop-test .taken) found)
+          ∙ sym (flip-begun (a .table .now) (a .n) (a .i) (a .j) (triangle-at .triangle-at .ensures) (triangle-at2 .triangle-at2 .ensures) (else1 .if1 .left)),
+      flip-as .flip-as .ensures .1,
     )
 
 add-k : tie.Need-add-k Inv-loop μ-loop
@@ -81,28 +110,42 @@ loop-less c = search needs
 
 loop-again : tie.Need-loop-again Inv-loop μ-loop
 loop-again c =
-    let a = c .before .before .before .before .before .before .before .before .before .before .args in
-    let l = c .before .before .before .before .loop in
-    let u = c .before .before .before .before .before .triangle-at2 .result in
+    let sharing-rotation : tie.After-sharing-rotation Inv-loop μ-loop = search needs in
+    let rotated : tie.After-rotated Inv-loop μ-loop = search needs in
+    let in-loop : tie.In-loop Inv-loop μ-loop = search needs in
+    let loop : tie.At-loop Inv-loop μ-loop = search needs in
+    let triangle-at2 : tie.After-triangle-at2 Inv-loop μ-loop = search needs in
+    let triangle-at : tie.After-triangle-at Inv-loop μ-loop = search needs in
+    let top = triangle-at-to-top triangle-at in
+    let a = top .args in
+    let l = loop .loop in
+    let u = triangle-at2 .triangle-at2 .result in
     let missed =
-    sym (ap (λ v. first (λ w. sharesSide (triangleOf v) w) (rotations (triangleOf u))) (c .before .before .rotated .ensures))
-    ∙ c .before .sharing-rotation .ensures .1 (c .if2 .left)
+    sym (ap (λ v. first (λ w. sharesSide (triangleOf v) w) (rotations (triangleOf u))) (rotated .rotated .ensures))
+    ∙ sharing-rotation .sharing-rotation .ensures .1 (c .if2 .left)
     in (
       l .inv .0,
-      tried-next (tableOf (a .table .now) (a .n)) (a .i) (a .j) (rotations (triangleOf u)) (c .before .before .before .before .before .before .triangle-at .result) (l .k) (l .inv .1)
-          (c .before .before .before .loop-test .taken) missed,
+      tried-next (tableOf (a .table .now) (a .n)) (a .i) (a .j) (rotations (triangleOf u)) (triangle-at .triangle-at .result) (l .k) (l .inv .1)
+          (in-loop .loop-test .taken) missed,
     )
 
 same-length-2 : tie.Need-same-length-2 Inv-loop μ-loop
-same-length-2 c = c .before .loop .inv .0
+same-length-2 c =
+    let loop : tie.At-loop Inv-loop μ-loop = search needs in
+    loop .loop .inv .0
 
 returns-3 : tie.Need-returns-3 Inv-loop μ-loop
 returns-3 c =
-    let a = c .before .before .before .before .before .before .before .args in
-    let l = c .before .loop in
-    let u = c .before .before .triangle-at2 .result in (
-      sym (flip-begun (a .table .now) (a .n) (a .i) (a .j) (c .before .before .before .triangle-at .ensures) (c .before .before .triangle-at2 .ensures) (c .before .before .before .before .if1 .left)
-          ∙ tried-end (tableOf (a .table .now) (a .n)) (a .i) (a .j) (rotations (triangleOf u)) (c .before .before .before .triangle-at .result) (l .k) (l .inv .1) (c .loop-test .left)),
+    let loop : tie.At-loop Inv-loop μ-loop = search needs in
+    let triangle-at2 : tie.After-triangle-at2 Inv-loop μ-loop = search needs in
+    let triangle-at : tie.After-triangle-at Inv-loop μ-loop = search needs in
+    let else1 : tie.Else1 Inv-loop μ-loop = search needs in
+    let top = else1-to-top else1 in
+    let a = top .args in
+    let l = loop .loop in
+    let u = triangle-at2 .triangle-at2 .result in (
+      sym (flip-begun (a .table .now) (a .n) (a .i) (a .j) (triangle-at .triangle-at .ensures) (triangle-at2 .triangle-at2 .ensures) (else1 .if1 .left)
+          ∙ tried-end (tableOf (a .table .now) (a .n)) (a .i) (a .j) (rotations (triangleOf u)) (triangle-at .triangle-at .result) (l .k) (l .inv .1) (c .loop-test .left)),
       omega arith,
     )
 

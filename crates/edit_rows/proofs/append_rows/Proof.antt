@@ -13,38 +13,66 @@ abbrev μ-loop : tie.MeasureT-loop
 
 loop-holds : tie.Need-loop-holds Inv-loop μ-loop
 loop-holds c =
-    let a = c .before .before .args in
-    appending-start (a .table .now) (a .first) (a .end) (a .out .now) (a .m) (c .before .before .pre .0 .0)
+    let top : tie.Start Inv-loop μ-loop = search needs in
+    let a = top .args in
+    appending-start (a .table .now) (a .first) (a .end) (a .out .now) (a .m) (top .pre .0 .0)
 
 sub-put-triangle : tie.Need-sub-put-triangle Inv-loop μ-loop
-sub-put-triangle c = c .before .before .loop .inv .low
+sub-put-triangle c =
+    let loop : tie.At-loop Inv-loop μ-loop = search needs in
+    loop .loop .inv .low
 
 add-put-triangle : tie.Need-add-put-triangle Inv-loop μ-loop
-add-put-triangle c = omega (arith, c .before .before .loop .inv .low, c .before .loop-test .taken, c .before .before .before .before .before .pre)
+add-put-triangle c =
+    let in-loop : tie.In-loop Inv-loop μ-loop = search needs in
+    let loop : tie.At-loop Inv-loop μ-loop = search needs in
+    let top : tie.Start Inv-loop μ-loop = search needs in
+    omega (arith, loop .loop .inv .low, in-loop .loop-test .taken, top .pre)
 
 triangle-at-requires : tie.Need-triangle-at-requires Inv-loop μ-loop
-triangle-at-requires c κs = omega (arith, c .before .loop-test .taken, c .before .before .before .before .before .pre)
+triangle-at-requires c κs =
+    let in-loop : tie.In-loop Inv-loop μ-loop = search needs in
+    let top : tie.Start Inv-loop μ-loop = search needs in
+    omega (arith, in-loop .loop-test .taken, top .pre)
 
 put-triangle-requires : tie.Need-put-triangle-requires Inv-loop μ-loop
 put-triangle-requires c κs =
-    omega (arith, c .before .before .before .loop .inv .low, c .before .before .before .loop .inv .same, c .before .before .loop-test .taken, c .before .before .before .before .before .before .pre)
+    let in-loop : tie.In-loop Inv-loop μ-loop = search needs in
+    let loop : tie.At-loop Inv-loop μ-loop = search needs in
+    let top : tie.Start Inv-loop μ-loop = search needs in
+    omega (arith, loop .loop .inv .low, loop .loop .inv .same, in-loop .loop-test .taken, top .pre)
 
 add-i : tie.Need-add-i Inv-loop μ-loop
 add-i c = search needs
 
 loop-less : tie.Need-loop-less Inv-loop μ-loop
-loop-less c = omega (arith, c .before .before .before .before .before .loop-test .taken)
+loop-less c =
+    let in-loop : tie.In-loop Inv-loop μ-loop = search needs in
+    omega (arith, in-loop .loop-test .taken)
+
+-- an earlier place, found from a later one
+abbrev loop-to-top : tie.At-loop Inv-loop μ-loop → tie.Start Inv-loop μ-loop
+loop-to-top c = search needs
 
 loop-again : tie.Need-loop-again Inv-loop μ-loop
 loop-again c =
-    appending-next (c .before .before .before .before .before .before .loop .inv) (c .before .before .before .before .before .loop-test .taken) (c .before .before .before .before .before .before .before .before .before .pre .1 .1) (c .before .before .before .triangle-at .ensures)
-    (c .before .before .put-triangle .ensures)
+    let put-triangle : tie.After-put-triangle Inv-loop μ-loop = search needs in
+    let triangle-at : tie.After-triangle-at Inv-loop μ-loop = search needs in
+    let in-loop : tie.In-loop Inv-loop μ-loop = search needs in
+    let loop : tie.At-loop Inv-loop μ-loop = search needs in
+    let top = loop-to-top loop in
+    appending-next (loop .loop .inv) (in-loop .loop-test .taken) (top .pre .1 .1) (triangle-at .triangle-at .ensures)
+    (put-triangle .put-triangle .ensures)
 
 same-length : tie.Need-same-length Inv-loop μ-loop
-same-length c = c .before .loop .inv .same
+same-length c =
+    let loop : tie.At-loop Inv-loop μ-loop = search needs in
+    loop .loop .inv .same
 
 returns : tie.Need-returns Inv-loop μ-loop
-returns c = appending-end (c .before .loop .inv) (c .loop-test .left)
+returns c =
+    let loop : tie.At-loop Inv-loop μ-loop = search needs in
+    appending-end (loop .loop .inv) (c .loop-test .left)
 
 pub append-rows-spec : {M : Type 1} → statement M
 append-rows-spec =

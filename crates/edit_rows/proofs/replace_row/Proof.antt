@@ -7,10 +7,12 @@ use Rattle.edit_rows.proofs.replace_row.Tie as tie
 
 returns : tie.Need-returns
 returns c =
-    let top = c .before .before .before .before .before .before .before .before .before .before in
+    let put-triangle : tie.After-put-triangle = search needs in
+    let append-rows : tie.After-append-rows = search needs in
+    let top : tie.Start = search needs in
     let a = top .args in
-    row-replaced (a .table .now) (a .out .now) (c .before .before .before .before .before .before .append-rows .last .1 .1 .1 .0) (c .before .before .put-triangle .last .0) (a .n) (a .i) (triangleOf (a .x)) (top .pre .0 .0) (omega arith)
-    (c .before .before .before .before .before .before .append-rows .ensures) (c .before .before .put-triangle .ensures)
+    row-replaced (a .table .now) (a .out .now) (append-rows .append-rows .last .1 .1 .1 .0) (put-triangle .put-triangle .last .0) (a .n) (a .i) (triangleOf (a .x)) (top .pre .0 .0) (omega arith)
+    (append-rows .append-rows .ensures) (put-triangle .put-triangle .ensures)
 
 pub replace-row-spec : {M : Type 1} → statement M
 replace-row-spec =

@@ -13,7 +13,8 @@ use Rattle.edit_split.proofs.split_table.Tie as tie
 
 returns : tie.Need-returns
 returns c =
-    let a = c .before .before .before .args in
+    let top : tie.Start = search needs in
+    let a = top .args in
     (sym (split-beyond (a .table .now) (a .n) (a .i) (a .p) (c .if1 .taken)), omega arith)
 
 triangle-at-requires : tie.Need-triangle-at-requires
@@ -24,24 +25,37 @@ is-strictly-inside-requires c κs = search needs
 
 returns-2 : tie.Need-returns-2
 returns-2 c =
-    let a = c .before .before .before .before .before .before .args in
+    let is-strictly-inside : tie.After-is-strictly-inside = search needs in
+    let triangle-at : tie.After-triangle-at = search needs in
+    let else1 : tie.Else1 = search needs in
+    let top : tie.Start = search needs in
+    let a = top .args in
     let t = triangleAt (a .table .now) (a .i) in
-    let test = c .before .is-strictly-inside .ensures ∙ ap (λ u. strictlyInside u (a .p)) (triangle-read t (c .before .before .triangle-at .ensures)) in (
-      sym (split-outside (a .table .now) (a .n) (a .i) (a .p) (omega (arith, c .before .before .before .if1 .left))
-          (sym test ∙ not-true (c .before .is-strictly-inside .result) (c .if2 .taken))),
+    let test = is-strictly-inside .is-strictly-inside .ensures ∙ ap (λ u. strictlyInside u (a .p)) (triangle-read t (triangle-at .triangle-at .ensures)) in (
+      sym (split-outside (a .table .now) (a .n) (a .i) (a .p) (omega (arith, else1 .if1 .left))
+          (sym test ∙ not-true (is-strictly-inside .is-strictly-inside .result) (c .if2 .taken))),
       omega arith,
     )
 
 add-if3 : tie.Need-add-if3
 add-if3 c = search needs
 
+-- an earlier place, found from a later one
+abbrev else1-to-top : tie.Else1 → tie.Start
+else1-to-top c = search needs
+
 returns-3 : tie.Need-returns-3
 returns-3 c =
-    let a = c .before .before .before .before .before .before .before .args in
+    let else2 : tie.Else2 = search needs in
+    let is-strictly-inside : tie.After-is-strictly-inside = search needs in
+    let triangle-at : tie.After-triangle-at = search needs in
+    let else1 : tie.Else1 = search needs in
+    let top = else1-to-top else1 in
+    let a = top .args in
     let t = triangleAt (a .table .now) (a .i) in
-    let test = c .before .before .is-strictly-inside .ensures ∙ ap (λ u. strictlyInside u (a .p)) (triangle-read t (c .before .before .before .triangle-at .ensures)) in (
-      sym (split-full (a .table .now) (a .n) (a .i) (a .p) (omega (arith, c .before .before .before .before .if1 .left))
-          (sym test ∙ not-false (c .before .before .is-strictly-inside .result) (c .before .if2 .left)) (c .if3 .taken)),
+    let test = is-strictly-inside .is-strictly-inside .ensures ∙ ap (λ u. strictlyInside u (a .p)) (triangle-read t (triangle-at .triangle-at .ensures)) in (
+      sym (split-full (a .table .now) (a .n) (a .i) (a .p) (omega (arith, else1 .if1 .left))
+          (sym test ∙ not-false (is-strictly-inside .is-strictly-inside .result) (else2 .if2 .left)) (c .if3 .taken)),
       omega arith,
     )
 
@@ -56,15 +70,22 @@ same-length c = search needs
 
 returns-4 : tie.Need-returns-4
 returns-4 c =
-    let a = c .before .before .before .before .before .before .before .before .before .before .before .args in
+    let put-split : tie.After-put-split = search needs in
+    let else3 : tie.Else3 = search needs in
+    let else2 : tie.Else2 = search needs in
+    let is-strictly-inside : tie.After-is-strictly-inside = search needs in
+    let triangle-at : tie.After-triangle-at = search needs in
+    let else1 : tie.Else1 = search needs in
+    let top = else1-to-top else1 in
+    let a = top .args in
     let ns = a .table .now in
     let t = triangleAt ns (a .i) in
-    let read = triangle-read t (c .before .before .before .before .before .before .before .triangle-at .ensures) in
-    let test = c .before .before .before .before .before .before .is-strictly-inside .ensures ∙ ap (λ u. strictlyInside u (a .p)) read in (
-      ap done (c .before .before .put-split .ensures ∙ ap (λ u. splitAt (tableOf ns (a .n)) (a .i) u (a .p)) read)
-          ∙ sym (split-made ns (a .n) (a .i) (a .p) (omega (arith, c .before .before .before .before .before .before .before .before .if1 .left))
-          (sym test ∙ not-false (c .before .before .before .before .before .before .is-strictly-inside .result) (c .before .before .before .before .before .if2 .left)) (omega (arith, c .before .before .before .before .if3 .left))),
-      omega (arith, c .before .before .before .before .if3 .left),
+    let read = triangle-read t (triangle-at .triangle-at .ensures) in
+    let test = is-strictly-inside .is-strictly-inside .ensures ∙ ap (λ u. strictlyInside u (a .p)) read in (
+      ap done (put-split .put-split .ensures ∙ ap (λ u. splitAt (tableOf ns (a .n)) (a .i) u (a .p)) read)
+          ∙ sym (split-made ns (a .n) (a .i) (a .p) (omega (arith, else1 .if1 .left))
+          (sym test ∙ not-false (is-strictly-inside .is-strictly-inside .result) (else2 .if2 .left)) (omega (arith, else3 .if3 .left))),
+      omega (arith, else3 .if3 .left),
     )
 
 pub split-table-spec : {M : Type 1} → statement M

@@ -18,8 +18,11 @@ rotated-requires c κs = search needs
 returns : tie.Need-returns
 unfolding triangle triangleOf rotated cornerAt
 returns c =
-    let a = c .before .before .before .before .args in
-    ap triangleOf (c .rotated .ensures) ∙ sym (ending-third (a .p) (triangleOf (a .t1)) (sym (c .before .before .same-point .ensures) ∙ c .before .if1 .taken))
+    let then1 : tie.Then1 = search needs in
+    let same-point : tie.After-same-point = search needs in
+    let top : tie.Start = search needs in
+    let a = top .args in
+    ap triangleOf (c .rotated .ensures) ∙ sym (ending-third (a .p) (triangleOf (a .t1)) (sym (same-point .same-point .ensures) ∙ then1 .if1 .taken))
 
 array-copy-out-same-point-2 : tie.Need-array-copy-out-same-point-2
 array-copy-out-same-point-2 c = search needs
@@ -33,9 +36,14 @@ rotated-requires-2 c κs = search needs
 returns-2 : tie.Need-returns-2
 unfolding triangle triangleOf rotated cornerAt
 returns-2 c =
-    let a = c .before .before .before .before .before .before .before .args in
+    let then2 : tie.Then2 = search needs in
+    let same-point2 : tie.After-same-point2 = search needs in
+    let else1 : tie.Else1 = search needs in
+    let same-point : tie.After-same-point = search needs in
+    let top : tie.Start = search needs in
+    let a = top .args in
     ap triangleOf (c .rotated2 .ensures)
-    ∙ sym (ending-second (a .p) (triangleOf (a .t1)) (sym (c .before .before .before .before .before .same-point .ensures) ∙ c .before .before .before .before .if1 .left) (sym (c .before .before .same-point2 .ensures) ∙ c .before .if2 .taken))
+    ∙ sym (ending-second (a .p) (triangleOf (a .t1)) (sym (same-point .same-point .ensures) ∙ else1 .if1 .left) (sym (same-point2 .same-point2 .ensures) ∙ then2 .if2 .taken))
 
 rotated-requires-3 : tie.Need-rotated-requires-3
 rotated-requires-3 c κs = search needs
@@ -43,9 +51,14 @@ rotated-requires-3 c κs = search needs
 returns-3 : tie.Need-returns-3
 unfolding triangle triangleOf rotated cornerAt
 returns-3 c =
-    let a = c .before .before .before .before .before .before .before .args in
+    let else2 : tie.Else2 = search needs in
+    let same-point2 : tie.After-same-point2 = search needs in
+    let else1 : tie.Else1 = search needs in
+    let same-point : tie.After-same-point = search needs in
+    let top : tie.Start = search needs in
+    let a = top .args in
     ap triangleOf (c .rotated3 .ensures)
-    ∙ sym (ending-first (a .p) (triangleOf (a .t1)) (sym (c .before .before .before .before .before .same-point .ensures) ∙ c .before .before .before .before .if1 .left) (sym (c .before .before .same-point2 .ensures) ∙ c .before .if2 .left))
+    ∙ sym (ending-first (a .p) (triangleOf (a .t1)) (sym (same-point .same-point .ensures) ∙ else1 .if1 .left) (sym (same-point2 .same-point2 .ensures) ∙ else2 .if2 .left))
 
 pub ending-in-spec : {M : Type 1} → statement M
 ending-in-spec =

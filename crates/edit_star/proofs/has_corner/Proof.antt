@@ -8,7 +8,10 @@ use Rattle.edit_star.proofs.has_corner.Tie as tie
 
 returns : tie.Need-returns
 unfolding hasCorner triangleOf cornerAt
-returns c = ap₂ _||_ (ap₂ _||_ (c .before .before .before .before .same-point .ensures) (c .before .before .same-point2 .ensures)) (c .same-point3 .ensures)
+returns c =
+    let same-point2 : tie.After-same-point2 = search needs in
+    let same-point : tie.After-same-point = search needs in
+    ap₂ _||_ (ap₂ _||_ (same-point .same-point .ensures) (same-point2 .same-point2 .ensures)) (c .same-point3 .ensures)
 
 pub has-corner-spec : {M : Type 1} → statement M
 has-corner-spec =

@@ -17,22 +17,30 @@ abbrev μ-loop : tie.MeasureT-loop
 
 loop-holds : tie.Need-loop-holds Inv-loop μ-loop
 loop-holds c =
-    let a = c .before .args in
+    let top : tie.Start Inv-loop μ-loop = search needs in
+    let a = top .args in
     passed-start (λ t. hasCorner (a .p) t) (a .table .now) (a .n) (a .first)
 
 triangle-at-requires : tie.Need-triangle-at-requires Inv-loop μ-loop
-triangle-at-requires c κs = omega (arith, c .loop-test .taken, c .before .before .before .pre)
+triangle-at-requires c κs =
+    let top : tie.Start Inv-loop μ-loop = search needs in
+    omega (arith, c .loop-test .taken, top .pre)
 
 has-corner-requires : tie.Need-has-corner-requires Inv-loop μ-loop
 has-corner-requires c κs = search needs
 
 returns : tie.Need-returns Inv-loop μ-loop
 returns c =
-    let a = c .before .before .before .before .before .before .args in
-    let l = c .before .before .before .before .loop in
+    let has-corner : tie.After-has-corner Inv-loop μ-loop = search needs in
+    let triangle-at : tie.After-triangle-at Inv-loop μ-loop = search needs in
+    let in-loop : tie.In-loop Inv-loop μ-loop = search needs in
+    let loop : tie.At-loop Inv-loop μ-loop = search needs in
+    let top : tie.Start Inv-loop μ-loop = search needs in
+    let a = top .args in
+    let l = loop .loop in
     let t = triangleAt (a .table .now) (l .i) in
-    let test = c .before .has-corner .ensures ∙ ap (hasCorner (a .p)) (triangle-read t (c .before .before .triangle-at .ensures)) in
-    let i = c .before .before .before .loop-test .taken in (
+    let test = has-corner .has-corner .ensures ∙ ap (hasCorner (a .p)) (triangle-read t (triangle-at .triangle-at .ensures)) in
+    let i = in-loop .loop-test .taken in (
       (l .inv .low, l .inv .high),
       (
         (λ h. passed-hit (λ t. hasCorner (a .p) t) (a .table .now) (a .n) (a .first) (l .i) (l .inv) h (sym test ∙ c .if1 .taken)),
@@ -48,16 +56,23 @@ loop-less c = search needs
 
 loop-again : tie.Need-loop-again Inv-loop μ-loop
 loop-again c =
-    let a = c .before .before .before .before .before .before .args in
-    let l = c .before .before .before .before .loop in
+    let has-corner : tie.After-has-corner Inv-loop μ-loop = search needs in
+    let triangle-at : tie.After-triangle-at Inv-loop μ-loop = search needs in
+    let in-loop : tie.In-loop Inv-loop μ-loop = search needs in
+    let loop : tie.At-loop Inv-loop μ-loop = search needs in
+    let top : tie.Start Inv-loop μ-loop = search needs in
+    let a = top .args in
+    let l = loop .loop in
     let t = triangleAt (a .table .now) (l .i) in
-    let test = c .before .has-corner .ensures ∙ ap (hasCorner (a .p)) (triangle-read t (c .before .before .triangle-at .ensures)) in
-    passed-next (λ t. hasCorner (a .p) t) (a .table .now) (a .n) (a .first) (l .i) (l .inv) (c .before .before .before .loop-test .taken) (sym test ∙ c .if1 .left)
+    let test = has-corner .has-corner .ensures ∙ ap (hasCorner (a .p)) (triangle-read t (triangle-at .triangle-at .ensures)) in
+    passed-next (λ t. hasCorner (a .p) t) (a .table .now) (a .n) (a .first) (l .i) (l .inv) (in-loop .loop-test .taken) (sym test ∙ c .if1 .left)
 
 returns-2 : tie.Need-returns-2 Inv-loop μ-loop
 returns-2 c =
-    let a = c .before .before .before .args in
-    let l = c .before .loop in (
+    let loop : tie.At-loop Inv-loop μ-loop = search needs in
+    let top : tie.Start Inv-loop μ-loop = search needs in
+    let a = top .args in
+    let l = loop .loop in (
       (l .inv .low, l .inv .high),
       (
         (λ h. absurd (omega (arith, c .loop-test .left))),

@@ -14,8 +14,10 @@ ending-in-requires c κs = search needs
 
 returns : tie.Need-returns
 returns c =
-    let a = c .before .before .before .args in
-    c .ending-in .ensures ∙ ap (endingIn (a .p)) (triangle-read (triangleAt (a .table .now) (a .i)) (c .before .triangle-at .ensures))
+    let triangle-at : tie.After-triangle-at = search needs in
+    let top : tie.Start = search needs in
+    let a = top .args in
+    c .ending-in .ensures ∙ ap (endingIn (a .p)) (triangle-read (triangleAt (a .table .now) (a .i)) (triangle-at .triangle-at .ensures))
 
 pub row-ending-in-spec : {M : Type 1} → statement M
 row-ending-in-spec = tie.close (tie.spec triangle-at-requires ending-in-requires returns)

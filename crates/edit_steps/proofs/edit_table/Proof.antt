@@ -31,19 +31,31 @@ same-length : tie.Need-same-length
 same-length c = search needs
 
 returns : tie.Need-returns
-returns c = (c .before .before .split-table .ensures .0 ∙ ap (λ e. tableEdit e (table (c .before .before .before .before .before .before .before .before .before))) (sym (c .before .before .before .before .before .edit .given .1)), c .before .before .split-table .ensures .1)
+returns c =
+    let split-table : tie.After-split-table = search needs in
+    let edit : tie.After-edit = search needs in
+    let top : tie.Start = search needs in
+    (split-table .split-table .ensures .0 ∙ ap (λ e. tableEdit e (table top)) (sym (edit .edit .given .1)), split-table .split-table .ensures .1)
 
 same-length-2 : tie.Need-same-length-2
 same-length-2 c = search needs
 
 returns-2 : tie.Need-returns-2
-returns-2 c = (c .before .before .take-out-table .ensures .0 ∙ ap (λ e. tableEdit e (table (c .before .before .before .before .before .before .before .before .before))) (sym (c .before .before .before .before .before .edit2 .given .1)), c .before .before .take-out-table .ensures .1)
+returns-2 c =
+    let take-out-table : tie.After-take-out-table = search needs in
+    let edit2 : tie.After-edit2 = search needs in
+    let top : tie.Start = search needs in
+    (take-out-table .take-out-table .ensures .0 ∙ ap (λ e. tableEdit e (table top)) (sym (edit2 .edit2 .given .1)), take-out-table .take-out-table .ensures .1)
 
 same-length-3 : tie.Need-same-length-3
 same-length-3 c = search needs
 
 returns-3 : tie.Need-returns-3
-returns-3 c = (c .before .before .flip-table .ensures .0 ∙ ap (λ e. tableEdit e (table (c .before .before .before .before .before .before .before .before .before))) (sym (c .before .before .before .before .before .edit3 .given .1)), c .before .before .flip-table .ensures .1)
+returns-3 c =
+    let flip-table : tie.After-flip-table = search needs in
+    let edit3 : tie.After-edit3 = search needs in
+    let top : tie.Start = search needs in
+    (flip-table .flip-table .ensures .0 ∙ ap (λ e. tableEdit e (table top)) (sym (edit3 .edit3 .given .1)), flip-table .flip-table .ensures .1)
 
 pub edit-table-spec : {M : Type 1} → statement M
 edit-table-spec =

@@ -27,7 +27,9 @@ enum-known-made c = search needs
 
 store-requires : tie.Need-store-requires
 store-requires c κs =
-    let top = c .before .before .before .before .before .before .before .before .before .before .before .before in (made-stored (top .args .scratch .now) (c .before .before .before .before .before .made .given .1) (top .pre .0), top .pre .1)
+    let made : tie.After-made = search needs in
+    let top : tie.Start = search needs in
+    (made-stored (top .args .scratch .now) (made .made .given .1) (top .pre .0), top .pre .1)
 
 same-length : tie.Need-same-length
 same-length c = search needs
@@ -41,11 +43,20 @@ same-length-3 c = search needs
 same-length-4 : tie.Need-same-length-4
 same-length-4 c = search needs
 
+-- an earlier place, found from a later one
+abbrev made-to-top : tie.After-made → tie.Start
+made-to-top c = search needs
+
+abbrev at-keys2-to-top : tie.At-match-keys2 → tie.Start
+at-keys2-to-top c = search needs
+
 returns : tie.Need-returns
 unfolding andThen
 returns c =
-    let top = c .before .before .before .before .before .before .before .before .before .before .before .before .before .before .before .before .before .before .before .before .before in
-    c .before .before .before .before .before .before .before .before .store .ensures ∙ ap (λ e. changedBy (chart top) (andThen (editedOutcome e (top .args .scratch .now)) (λ t. withinLimit t))) (sym (c .before .before .before .before .before .before .before .before .before .before .before .before .before .before .made .given .1))
+    let store : tie.After-store = search needs in
+    let made : tie.After-made = search needs in
+    let top = made-to-top made in
+    store .store .ensures ∙ ap (λ e. changedBy (chart top) (andThen (editedOutcome e (top .args .scratch .now)) (λ t. withinLimit t))) (sym (made .made .given .1))
 
 edited-change-requires : tie.Need-edited-change-requires
 edited-change-requires c κs = search needs
@@ -55,9 +66,11 @@ refused-requires c κs = search needs
 
 returns-2 : tie.Need-returns-2
 returns-2 c =
-    let top = c .before .before .before .before .before .before .before .before in
-    ap (kept top) (c .refused .ensures) ∙ ap (answered (chart top)) (c .before .edited-change .ensures)
-    ∙ edited-refused (chart top) (top .args .scratch .now) (top .args .made) (c .before .before .match .keys2)
+    let edited-change : tie.After-edited-change = search needs in
+    let at-keys2 : tie.At-match-keys2 = search needs in
+    let top = at-keys2-to-top at-keys2 in
+    ap (kept top) (c .refused .ensures) ∙ ap (answered (chart top)) (edited-change .edited-change .ensures)
+    ∙ edited-refused (chart top) (top .args .scratch .now) (top .args .made) (at-keys2 .match .keys2)
 
 pub finish-spec : {M : Type 1} → statement M
 finish-spec =

@@ -19,10 +19,13 @@ closes-round-requires-2 c κs = search needs
 
 returns : tie.Need-returns
 returns c =
-    let a = c .before .before .before .before .before .args in
-    let either = ap₂ _||_ (c .before .before .closes-round .ensures) (c .before .closes-round2 .ensures) in (
+    let closes-round2 : tie.After-closes-round2 = search needs in
+    let closes-round : tie.After-closes-round = search needs in
+    let top : tie.Start = search needs in
+    let a = top .args in
+    let either = ap₂ _||_ (closes-round .closes-round .ensures) (closes-round2 .closes-round2 .ensures) in (
       sym (merge-refused (tableOf (a .table .now) (a .n)) (a .i) (a .j) (a .k) (triangleOf (a .s)) (triangleOf (a .u)) (triangleOf (a .v))
-          (sym either ∙ not-true (c .before .before .closes-round .result || c .before .closes-round2 .result) (c .if1 .taken))),
+          (sym either ∙ not-true (closes-round .closes-round .result || closes-round2 .closes-round2 .result) (c .if1 .taken))),
       omega arith,
     )
 
@@ -38,19 +41,29 @@ sub-t18 c = search needs
 same-length : tie.Need-same-length
 same-length c = search needs
 
+-- an earlier place, found from a later one
+abbrev closes-round-to-top : tie.After-closes-round → tie.Start
+closes-round-to-top c = search needs
+
 returns-2 : tie.Need-returns-2
 returns-2 c =
-    let a = c .before .before .before .before .before .before .before .before .before .before .args in
+    let put-merged : tie.After-put-merged = search needs in
+    let merged-2 : tie.After-merged = search needs in
+    let else1 : tie.Else1 = search needs in
+    let closes-round2 : tie.After-closes-round2 = search needs in
+    let closes-round : tie.After-closes-round = search needs in
+    let top = closes-round-to-top closes-round in
+    let a = top .args in
     let table = tableOf (a .table .now) (a .n) in
     let s = triangleOf (a .s) in
     let u = triangleOf (a .u) in
     let v = triangleOf (a .v) in
-    let either = ap₂ _||_ (c .before .before .before .before .before .before .before .closes-round .ensures) (c .before .before .before .before .before .before .closes-round2 .ensures) in
-    let merged = c .before .before .before .before .merged .ensures ∙ ap (λ z. triangle (s .a) (s .b) (cond z (u .b) (v .b))) (c .before .before .before .before .before .before .before .closes-round .ensures) in (
-      ap done (c .before .before .put-merged .ensures ∙ ap (mergeAround table (a .i) (a .j) (a .k)) merged)
+    let either = ap₂ _||_ (closes-round .closes-round .ensures) (closes-round2 .closes-round2 .ensures) in
+    let merged = merged-2 .merged .ensures ∙ ap (λ z. triangle (s .a) (s .b) (cond z (u .b) (v .b))) (closes-round .closes-round .ensures) in (
+      ap done (put-merged .put-merged .ensures ∙ ap (mergeAround table (a .i) (a .j) (a .k)) merged)
           ∙ sym (merge-made table (a .i) (a .j) (a .k) s u v
-          (sym either ∙ not-false (c .before .before .before .before .before .before .before .closes-round .result || c .before .before .before .before .before .before .closes-round2 .result) (c .before .before .before .before .before .if1 .left))),
-      omega (arith, c .before .before .before .before .before .before .before .before .before .before .pre .1 .0),
+          (sym either ∙ not-false (closes-round .closes-round .result || closes-round2 .closes-round2 .result) (else1 .if1 .left))),
+      omega (arith, top .pre .1 .0),
     )
 
 pub merge-three-spec : {M : Type 1} → statement M

@@ -21,13 +21,15 @@ abbrev μ-loop : tie.MeasureT-loop
 
 loop-holds : tie.Need-loop-holds Inv-loop μ-loop
 loop-holds c =
-    let a = c .before .before .before .before .before .before .args in
+    let top : tie.Start Inv-loop μ-loop = search needs in
+    let a = top .args in
     ((omega arith, refl), near-none (boundsBox (a .b)) (boxAt (a .lefts .now) (a .tops .now) (a .rights .now) (a .bottoms .now)) (a .rows .now) (a .m) (a .i) (a .near .now))
 
 collect-word-requires : tie.Need-collect-word-requires Inv-loop μ-loop
 collect-word-requires c κs =
-    let top = c .before .before .before .before .before .before .before .before .before in
-    let l = c .before .before .loop in
+    let loop : tie.At-loop Inv-loop μ-loop = search needs in
+    let top : tie.Start Inv-loop μ-loop = search needs in
+    let l = loop .loop in
     ((top .pre .0 .0, (top .pre .0 .1, omega arith)), ((top .pre .1 .0, omega (arith, l .inv .0 .1, top .pre .1 .1)), l .inv .1))
 
 add-q : tie.Need-add-q Inv-loop μ-loop
@@ -38,16 +40,22 @@ loop-less c = search needs
 
 loop-again : tie.Need-loop-again Inv-loop μ-loop
 loop-again c =
-    let call = c .before .before .collect-word .ensures in
-    ((omega arith, call .1 ∙ c .before .before .before .before .before .loop .inv .0 .1), call .0)
+    let collect-word : tie.After-collect-word Inv-loop μ-loop = search needs in
+    let loop : tie.At-loop Inv-loop μ-loop = search needs in
+    let call = collect-word .collect-word .ensures in
+    ((omega arith, call .1 ∙ loop .loop .inv .0 .1), call .0)
 
 same-length : tie.Need-same-length Inv-loop μ-loop
-same-length c = c .before .loop .inv .0 .1
+same-length c =
+    let loop : tie.At-loop Inv-loop μ-loop = search needs in
+    loop .loop .inv .0 .1
 
 returns : tie.Need-returns Inv-loop μ-loop
 returns c =
-    let a = c .before .before .before .before .before .before .before .before .args in
-    let l = c .before .loop in
+    let loop : tie.At-loop Inv-loop μ-loop = search needs in
+    let top : tie.Start Inv-loop μ-loop = search needs in
+    let a = top .args in
+    let l = loop .loop in
     let e : 64 * l .q ≡ maxTriangles = omega arith in
     (subst (λ j. NearInRow (boundsBox (a .b)) (boxAt (a .lefts .now) (a .tops .now) (a .rights .now) (a .bottoms .now)) (a .rows .now) (a .m) (a .i) (l .near) j (l .c)) e (l .inv .1), l .inv .0 .1)
 

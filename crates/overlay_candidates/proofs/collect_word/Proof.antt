@@ -29,7 +29,9 @@ abbrev μ-loop : tie.MeasureT-loop
 
 -- what the function was given
 abbrev start : tie.In-loop Inv-loop μ-loop → tie.Start Inv-loop μ-loop
-start c = c .before .before .before .before .before .before .before .before .before
+start c =
+    let top : tie.Start Inv-loop μ-loop = search needs in
+    top
 
 -- the boxes of the lists
 abbrev boxes : tie.Start Inv-loop μ-loop → ℕ → Box
@@ -40,19 +42,27 @@ abbrev word : tie.Start Inv-loop μ-loop → ℕ
 word c = getD (c .args .rows .now) (rowWords * c .args .i + c .args .q) 0
 
 fits : (c : tie.In-loop Inv-loop μ-loop) → word (start c) < 2 ^ 64
-fits c = omega (arith, c .before .before .shared-slice-known6 .given (rowWords * start c .args .i + start c .args .q))
+fits c =
+    let shared-slice-known6 : tie.After-shared-slice-known6 Inv-loop μ-loop = search needs in
+    omega (arith, shared-slice-known6 .shared-slice-known6 .given (rowWords * start c .args .i + start c .args .q))
 
 -- its next mark
-mark : (c : tie.In-loop Inv-loop μ-loop) → Lowest (c .before .loop .w) (trailingZeros 64 (c .before .loop .w))
+mark : (c : tie.In-loop Inv-loop μ-loop) →
+    let loop : tie.At-loop Inv-loop μ-loop = search needs in
+    Lowest (loop .loop .w) (trailingZeros 64 (loop .loop .w))
 mark c =
+    let loop : tie.At-loop Inv-loop μ-loop = search needs in
     let a = start c .args in
-    let l = c .before .loop in
+    let l = loop .loop in
     next-mark (a .rows .now) (a .i) (l .j) (a .q) (l .w) (fits c) (l .inv .0 .0) (l .inv .1 .0) (omega arith)
 
-within : (c : tie.In-loop Inv-loop μ-loop) → c .before .loop .j + trailingZeros 64 (c .before .loop .w) < 64 * (start c .args .q + 1)
+within : (c : tie.In-loop Inv-loop μ-loop) →
+    let loop : tie.At-loop Inv-loop μ-loop = search needs in
+    loop .loop .j + trailingZeros 64 (loop .loop .w) < 64 * (start c .args .q + 1)
 within c =
+    let loop : tie.At-loop Inv-loop μ-loop = search needs in
     let a = start c .args in
-    let l = c .before .loop in
+    let l = loop .loop in
     mark-within (a .rows .now) (a .i) (l .j) (a .q) (l .w) (fits c) (l .inv .0 .0) (l .inv .1 .0) _ (mark c)
 
 mul-w : tie.Need-mul-w Inv-loop μ-loop
@@ -72,44 +82,61 @@ mul-j c = search needs
 
 loop-holds : tie.Need-loop-holds Inv-loop μ-loop
 loop-holds c =
-    let top = c .before .before .before .before .before .before .before in
+    let top : tie.Start Inv-loop μ-loop = search needs in
     ((omega arith, omega arith), (word-start (word top) (64 * top .args .q), (refl, top .pre .1 .1)))
 
 cast-j : tie.Need-cast-j Inv-loop μ-loop
-cast-j c = omega (arith, trailing-le 64 (c .before .loop .w))
+cast-j c =
+    let loop : tie.At-loop Inv-loop μ-loop = search needs in
+    omega (arith, trailing-le 64 (loop .loop .w))
 
 add-j : tie.Need-add-j Inv-loop μ-loop
-add-j c = omega (arith, trailing-le 64 (c .before .loop .w))
+add-j c =
+    let loop : tie.At-loop Inv-loop μ-loop = search needs in
+    omega (arith, trailing-le 64 (loop .loop .w))
 
 keep-requires : tie.Need-keep-requires Inv-loop μ-loop
 keep-requires c κs =
-    let top = start (c .before) in
+    let in-loop : tie.In-loop Inv-loop μ-loop = search needs in
+    let loop : tie.At-loop Inv-loop μ-loop = search needs in
+    let top = start in-loop in
     let a = top .args in
-    let l = c .before .before .loop in (
-      places-fewer (a .lefts .now) (a .tops .now) (a .rights .now) (a .bottoms .now) _ maxTriangles (omega (arith, within (c .before))) (top .pre .0 .0),
-      omega (arith, within (c .before), l .inv .1 .1 .1 .few, l .inv .1 .1 .0),
+    let l = loop .loop in (
+      places-fewer (a .lefts .now) (a .tops .now) (a .rights .now) (a .bottoms .now) _ maxTriangles (omega (arith, within in-loop)) (top .pre .0 .0),
+      omega (arith, within in-loop, l .inv .1 .1 .1 .few, l .inv .1 .1 .0),
     )
 
 cast-w : tie.Need-cast-w Inv-loop μ-loop
-cast-w c = omega (arith, trailing-le 64 (c .before .before .before .before .before .loop .w))
+cast-w c =
+    let loop : tie.At-loop Inv-loop μ-loop = search needs in
+    omega (arith, trailing-le 64 (loop .loop .w))
 
 shr-w : tie.Need-shr-w Inv-loop μ-loop
-shr-w c = omega (arith, within (c .before .before .before .before), c .before .before .before .before .before .loop .inv .0 .0)
+shr-w c =
+    let in-loop : tie.In-loop Inv-loop μ-loop = search needs in
+    let loop : tie.At-loop Inv-loop μ-loop = search needs in
+    omega (arith, within in-loop, loop .loop .inv .0 .0)
 
 add-j-2 : tie.Need-add-j-2 Inv-loop μ-loop
-add-j-2 c = omega (arith, trailing-le 64 (c .before .before .before .before .before .loop .w))
+add-j-2 c =
+    let loop : tie.At-loop Inv-loop μ-loop = search needs in
+    omega (arith, trailing-le 64 (loop .loop .w))
 
 loop-less : tie.Need-loop-less Inv-loop μ-loop
-loop-less c = omega (arith, within (c .before .before .before .before))
+loop-less c =
+    let in-loop : tie.In-loop Inv-loop μ-loop = search needs in
+    omega (arith, within in-loop)
 
 loop-again : tie.Need-loop-again Inv-loop μ-loop
 loop-again c =
-    let d = c .before .before .before .before in
+    let keep : tie.After-keep Inv-loop μ-loop = search needs in
+    let d : tie.In-loop Inv-loop μ-loop = search needs in
+    let loop : tie.At-loop Inv-loop μ-loop = search needs in
     let top = start d in
     let a = top .args in
-    let l = d .before .loop in
+    let l = loop .loop in
     let i = l .inv in
-    let call = c .before .before .keep in
+    let call = keep .keep in
     let bounds = boundsBox (a .b) in
     let skipped = near-skip bounds (boxes top) (a .rows .now) (a .m) (a .i) (i .1 .1 .1) _ (mark-next (a .rows .now) (a .i) (l .j) (a .q) (l .w) (fits d) (i .0 .0) (i .1 .0) _ (mark d)) in
     let there = mark-there (a .rows .now) (a .i) (l .j) (a .q) (l .w) (fits d) (i .0 .0) (i .1 .0) _ (mark d) in (
@@ -125,15 +152,23 @@ loop-again c =
     )
 
 same-length : tie.Need-same-length Inv-loop μ-loop
-same-length c = c .before .loop .inv .1 .1 .0
+same-length c =
+    let loop : tie.At-loop Inv-loop μ-loop = search needs in
+    loop .loop .inv .1 .1 .0
+
+-- an earlier place, found from a later one
+abbrev shared-slice-known6-to-top : tie.After-shared-slice-known6 Inv-loop μ-loop → tie.Start Inv-loop μ-loop
+shared-slice-known6-to-top c = search needs
 
 returns : tie.Need-returns Inv-loop μ-loop
 returns c =
-    let top = c .before .before .before .before .before .before .before .before .before in
+    let loop : tie.At-loop Inv-loop μ-loop = search needs in
+    let shared-slice-known6 : tie.After-shared-slice-known6 Inv-loop μ-loop = search needs in
+    let top = shared-slice-known6-to-top shared-slice-known6 in
     let a = top .args in
-    let l = c .before .loop in
+    let l = loop .loop in
     let i = l .inv in
-    let small : word top < 2 ^ 64 = omega (arith, c .before .before .shared-slice-known6 .given (rowWords * a .i + a .q)) in
+    let small : word top < 2 ^ 64 = omega (arith, shared-slice-known6 .shared-slice-known6 .given (rowWords * a .i + a .q)) in
     let none = word-ended (a .rows .now) (a .i) (l .j) (a .q) (l .w) small (i .0 .0) (i .1 .0) (omega arith) in
     let e : l .j + (64 * (a .q + 1) - l .j) ≡ 64 * (a .q + 1) = omega (arith, i .0 .1) in
     let bounds = boundsBox (a .b) in

@@ -15,7 +15,8 @@ abbrev μ-loop : tie.MeasureT-loop
 
 loop-holds : tie.Need-loop-holds Inv-loop μ-loop
 loop-holds c =
-    let a = c .before .before .args in
+    let top : tie.Start Inv-loop μ-loop = search needs in
+    let a = top .args in
     ((omega arith, omega arith), insert-start (a .set .now) (a .items .now) (a .a))
 
 mul-place : tie.Need-mul-place Inv-loop μ-loop
@@ -28,7 +29,9 @@ place-requires : tie.Need-place-requires Inv-loop μ-loop
 place-requires c κs = tt
 
 insert-requires : tie.Need-insert-requires Inv-loop μ-loop
-insert-requires c κs = omega (arith, c .before .before .before .before .loop .inv .1 .kept, c .place .ensures)
+insert-requires c κs =
+    let loop : tie.At-loop Inv-loop μ-loop = search needs in
+    omega (arith, loop .loop .inv .1 .kept, c .place .ensures)
 
 add-i : tie.Need-add-i Inv-loop μ-loop
 add-i c = search needs
@@ -38,16 +41,23 @@ loop-less c = search needs
 
 loop-again : tie.Need-loop-again Inv-loop μ-loop
 loop-again c =
-    let l = c .before .before .before .before .before .before .before .loop in
-    ((omega arith, omega arith), insert-more (l .inv .1) (omega arith) (omega arith) (c .before .before .before .place .ensures) (c .before .before .insert .ensures))
+    let insert : tie.After-insert Inv-loop μ-loop = search needs in
+    let place : tie.After-place Inv-loop μ-loop = search needs in
+    let loop : tie.At-loop Inv-loop μ-loop = search needs in
+    let l = loop .loop in
+    ((omega arith, omega arith), insert-more (l .inv .1) (omega arith) (omega arith) (place .place .ensures) (insert .insert .ensures))
 
 same-length : tie.Need-same-length Inv-loop μ-loop
-same-length c = c .before .loop .inv .1 .kept
+same-length c =
+    let loop : tie.At-loop Inv-loop μ-loop = search needs in
+    loop .loop .inv .1 .kept
 
 returns : tie.Need-returns Inv-loop μ-loop
 returns c =
-    let a = c .before .before .before .before .args in
-    let l = c .before .loop in
+    let loop : tie.At-loop Inv-loop μ-loop = search needs in
+    let top : tie.Start Inv-loop μ-loop = search needs in
+    let a = top .args in
+    let l = loop .loop in
     let e : l .i ≡ a .r = omega arith in
     subst (λ x. ItemsInserted (a .set .now) (a .items .now) (a .a) x (l .set)) e (l .inv .1)
 

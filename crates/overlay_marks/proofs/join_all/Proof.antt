@@ -15,7 +15,8 @@ abbrev μ-loop : tie.MeasureT-loop
 
 loop-holds : tie.Need-loop-holds Inv-loop μ-loop
 loop-holds c =
-    let a = c .before .before .before .args in
+    let top : tie.Start Inv-loop μ-loop = search needs in
+    let a = top .args in
     ((omega arith, omega arith), join-start (a .rows .now) (a .items .now) (a .a) (a .set .now))
 
 mul-place : tie.Need-mul-place Inv-loop μ-loop
@@ -31,7 +32,9 @@ mul-join : tie.Need-mul-join Inv-loop μ-loop
 mul-join c = omega (arith, c .place .ensures)
 
 join-requires : tie.Need-join-requires Inv-loop μ-loop
-join-requires c κs = (omega (arith, c .before .before .before .before .loop .inv .1 .kept, c .place .ensures), search needs)
+join-requires c κs =
+    let loop : tie.At-loop Inv-loop μ-loop = search needs in
+    (omega (arith, loop .loop .inv .1 .kept, c .place .ensures), search needs)
 
 add-i : tie.Need-add-i Inv-loop μ-loop
 add-i c = search needs
@@ -41,16 +44,23 @@ loop-less c = search needs
 
 loop-again : tie.Need-loop-again Inv-loop μ-loop
 loop-again c =
-    let l = c .before .before .before .before .before .before .before .loop in
-    ((omega arith, omega arith), join-more (l .inv .1) (omega arith) (omega arith) (c .before .before .before .place .ensures) (c .before .before .join .ensures))
+    let join : tie.After-join Inv-loop μ-loop = search needs in
+    let place : tie.After-place Inv-loop μ-loop = search needs in
+    let loop : tie.At-loop Inv-loop μ-loop = search needs in
+    let l = loop .loop in
+    ((omega arith, omega arith), join-more (l .inv .1) (omega arith) (omega arith) (place .place .ensures) (join .join .ensures))
 
 same-length : tie.Need-same-length Inv-loop μ-loop
-same-length c = c .before .loop .inv .1 .kept
+same-length c =
+    let loop : tie.At-loop Inv-loop μ-loop = search needs in
+    loop .loop .inv .1 .kept
 
 returns : tie.Need-returns Inv-loop μ-loop
 returns c =
-    let a = c .before .before .before .before .before .args in
-    let l = c .before .loop in
+    let loop : tie.At-loop Inv-loop μ-loop = search needs in
+    let top : tie.Start Inv-loop μ-loop = search needs in
+    let a = top .args in
+    let l = loop .loop in
     let e : l .i ≡ a .r = omega arith in
     subst (λ x. SetJoined (a .rows .now) (a .items .now) (a .a) x (a .set .now) (l .rows)) e (l .inv .1)
 

@@ -4,7 +4,10 @@ use Rattle.overlay_marks.proofs.mark_parts.Statement.{statement}
 use Rattle.overlay_marks.proofs.mark_parts.Tie as tie
 
 returns : tie.Need-returns
-returns c = parts-marked 9 (c .before .before .before .before .before .before .insert-all .ensures) (c .before .before .join-all .ensures)
+returns c =
+    let join-all : tie.After-join-all = search needs in
+    let insert-all : tie.After-insert-all = search needs in
+    parts-marked 9 (insert-all .insert-all .ensures) (join-all .join-all .ensures)
 
 pub mark-parts-spec : {M : Type 1} → statement M
 mark-parts-spec =

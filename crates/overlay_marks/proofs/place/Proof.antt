@@ -10,7 +10,9 @@ index-requires : tie.Need-index-requires
 index-requires c κs = search needs
 
 returns : tie.Need-returns
-returns c = c .index .ensures .0 ∙ c .before .smaller .ensures
+returns c =
+    let smaller : tie.After-smaller = search needs in
+    c .index .ensures .0 ∙ smaller .smaller .ensures
 
 pub place-spec : {M : Type 1} → statement M
 place-spec = tie.close (tie.spec smaller-requires index-requires returns)

@@ -18,11 +18,17 @@ run-end-requires-2 c κs = search needs
 mark-parts-requires : tie.Need-mark-parts-requires
 mark-parts-requires c κs = search needs
 
+-- an earlier place, found from a later one
+abbrev run-end-to-top : tie.After-run-end → tie.Start
+run-end-to-top c = search needs
+
 mul-t16 : tie.Need-mul-t16
 mul-t16 c =
-    let top = c .before .before .before .before .before .before .before .before .before .before .before .before .before .before in
-    let s = c .before .before .before .before .before .before .before .run-end in
-    let t = c .before .before .before .before .before .before .run-end2 in
+    let run-end2 : tie.After-run-end2 = search needs in
+    let run-end : tie.After-run-end = search needs in
+    let top = run-end-to-top run-end in
+    let s = run-end .run-end in
+    let t = run-end2 .run-end2 in
     omega (arith, cells-fit (s .ensures) (t .ensures) (top .pre .1 .1 .0 .0) (top .pre .1 .1 .0 .1))
 
 same-length : tie.Need-same-length
@@ -30,15 +36,19 @@ same-length c = search needs
 
 returns : tie.Need-returns
 returns c =
-    let s = c .before .before .before .before .before .before .before .run-end .ensures in
-    let t = c .before .before .before .before .before .before .run-end2 .ensures in
+    let mark-parts : tie.After-mark-parts = search needs in
+    let run-end2 : tie.After-run-end2 = search needs in
+    let run-end : tie.After-run-end = search needs in
+    let block-end : tie.After-block-end = search needs in
+    let s = run-end .run-end .ensures in
+    let t = run-end2 .run-end2 .ensures in
     record {
-      end = c .before .before .before .before .before .before .before .before .block-end .result;
-      ends = c .before .before .before .before .before .before .before .before .block-end .ensures;
+      end = block-end .block-end .result;
+      ends = block-end .block-end .ensures;
       first = s .ends;
       second = t .ends;
       count = ap₂ _*_ (s .count) (t .count);
-      marks = c .before .before .before .before .mark-parts .ensures;
+      marks = mark-parts .mark-parts .ensures;
     }
 
 pub mark-block-spec : {M : Type 1} → statement M

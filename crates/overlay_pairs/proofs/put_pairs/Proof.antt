@@ -2,13 +2,18 @@ use borrow.Author.Needs.{needs}
 use Rattle.overlay_pairs.proofs.put_pairs.Statement.{statement}
 use Rattle.overlay_pairs.proofs.put_pairs.Tie as tie
 
+-- an earlier place, found from a later one
+abbrev put-boxes-to-top : tie.After-put-boxes → tie.Start
+put-boxes-to-top c = search needs
+
 put-rows-requires : tie.Need-put-rows-requires
 put-rows-requires c κs =
-    let top = c .before .before .before .before .before .before .before .before .before .before .before .before .before .before .before .before .before .before .before in
+    let put-boxes : tie.After-put-boxes = search needs in
+    let top = put-boxes-to-top put-boxes in
     let second = top .pre .1 .0 in (
       top .pre .0,
       (
-        (record { rows = second .0 .1; places = search needs; oriented = second .1; boxes = c .before .before .before .before .before .before .before .before .before .before .put-boxes .ensures }, search needs),
+        (record { rows = second .0 .1; places = search needs; oriented = second .1; boxes = put-boxes .put-boxes .ensures }, search needs),
         (second .0 .0, search needs),
       ),
     )

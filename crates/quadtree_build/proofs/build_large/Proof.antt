@@ -5,7 +5,8 @@ use Rattle.quadtree_build.proofs.build_large.Tie as tie
 
 build-requires : tie.Need-build-requires
 build-requires c κs =
-    let p = c .before .before .before .before .before .before .before .pre in
+    let top : tie.Start = search needs in
+    let p = top .pre in
     (((omega arith, p .0 .0 .1), p .0 .1), ((omega arith, (omega arith, omega arith)), (omega arith, p .1)))
 
 pub build-large-spec : {M : Type 1} → statement M

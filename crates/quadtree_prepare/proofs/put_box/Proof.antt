@@ -17,7 +17,9 @@ slice-write-shape-4 c = simp length-set (omega arith)
 
 returns : tie.Need-returns
 unfolding boxShape
-returns c = let k = c .before .before .before .before .before .before .before .before .before .args .k in cc (add-one k, add-two k, add-three k)
+returns c =
+    let top : tie.Start = search needs in
+    let k = top .args .k in cc (add-one k, add-two k, add-three k)
 
 pub put-box-spec : {M : Type 1} → statement M
 put-box-spec =

@@ -43,10 +43,13 @@ same-length c = search needs
 
 returns : tie.Need-returns
 returns c =
-    let a = c .before .before .before .before .args in
-    put-corners (a .corners .now) (a .k) (c .before .before .packed-point .result) (c .before .packed-point2 .result) (c .packed-point3 .result) (a .a) (a .b) (a .c)
-    (c .before .before .packed-point .ensures)
-    (c .before .packed-point2 .ensures)
+    let packed-point2 : tie.After-packed-point2 = search needs in
+    let packed-point : tie.After-packed-point = search needs in
+    let top : tie.Start = search needs in
+    let a = top .args in
+    put-corners (a .corners .now) (a .k) (packed-point .packed-point .result) (packed-point2 .packed-point2 .result) (c .packed-point3 .result) (a .a) (a .b) (a .c)
+    (packed-point .packed-point .ensures)
+    (packed-point2 .packed-point2 .ensures)
     (c .packed-point3 .ensures)
 
 pub put-corners-spec : {M : Type 1} → statement M

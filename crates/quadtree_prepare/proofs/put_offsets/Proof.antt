@@ -43,10 +43,13 @@ same-length c = search needs
 
 returns : tie.Need-returns
 returns c =
-    let a = c .before .before .before .before .args in
-    put-offsets (a .offsets .now) (a .k) (c .before .before .offset .result) (c .before .offset2 .result) (c .offset3 .result) (a .a) (a .b) (a .c)
-    (c .before .before .offset .ensures)
-    (c .before .offset2 .ensures)
+    let offset2 : tie.After-offset2 = search needs in
+    let offset : tie.After-offset = search needs in
+    let top : tie.Start = search needs in
+    let a = top .args in
+    put-offsets (a .offsets .now) (a .k) (offset .offset .result) (offset2 .offset2 .result) (c .offset3 .result) (a .a) (a .b) (a .c)
+    (offset .offset .ensures)
+    (offset2 .offset2 .ensures)
     (c .offset3 .ensures)
 
 pub put-offsets-spec : {M : Type 1} → statement M

@@ -3,15 +3,27 @@ use borrow.Author.Needs.{needs}
 use Rattle.quadtree_prepare.proofs.put_shape.Statement.{statement}
 use Rattle.quadtree_prepare.proofs.put_shape.Tie as tie
 
+-- an earlier place, found from a later one
+abbrev put-side2-to-put-side : tie.After-put-side2 → tie.After-put-side
+put-side2-to-put-side c = search needs
+
+abbrev put-side-to-top : tie.After-put-side → tie.Start
+put-side-to-top c = search needs
+
 returns : tie.Need-returns
 returns c =
-    let a = c .before .before .before .before .before .before .before .before .before .before .before .before .before .before .before .before .before .args in
-    put-shape (a .shape .now) (c .before .before .before .before .before .before .before .before .before .before .before .before .before .before .put-side .last .0) (c .before .before .before .before .before .before .before .before .before .before .put-side2 .last .0) (c .before .before .before .before .before .before .put-side3 .last .0) (c .before .before .put-box .last .0)
+    let put-box : tie.After-put-box = search needs in
+    let put-side3 : tie.After-put-side3 = search needs in
+    let put-side2 : tie.After-put-side2 = search needs in
+    let put-side = put-side2-to-put-side put-side2 in
+    let top = put-side-to-top put-side in
+    let a = top .args in
+    put-shape (a .shape .now) (put-side .put-side .last .0) (put-side2 .put-side2 .last .0) (put-side3 .put-side3 .last .0) (put-box .put-box .last .0)
     (a .k) (a .a) (a .b) (a .c)
-    (c .before .before .before .before .before .before .before .before .before .before .before .before .before .before .put-side .ensures)
-    (c .before .before .before .before .before .before .before .before .before .before .put-side2 .ensures)
-    (c .before .before .before .before .before .before .put-side3 .ensures)
-    (c .before .before .put-box .ensures)
+    (put-side .put-side .ensures)
+    (put-side2 .put-side2 .ensures)
+    (put-side3 .put-side3 .ensures)
+    (put-box .put-box .ensures)
 
 pub put-shape-spec : {M : Type 1} → statement M
 put-shape-spec =

@@ -104,7 +104,9 @@ same-length c = simp length-set
 
 returns : tie.Need-returns
 unfolding sideShape
-returns c = let k = c .before .before .before .before .before .before .before .before .before .args .k in cc (add-one k, add-two k, add-three k, add-four k, add-five k, add-six k, add-seven k)
+returns c =
+    let top : tie.Start = search needs in
+    let k = top .args .k in cc (add-one k, add-two k, add-three k, add-four k, add-five k, add-six k, add-seven k)
 
 pub put-side-spec : {M : Type 1} → statement M
 put-side-spec =

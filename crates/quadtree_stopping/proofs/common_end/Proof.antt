@@ -16,7 +16,8 @@ use Rattle.quadtree_stopping.proofs.common_end.Tie as tie
 
 first-met-requires : tie.Need-first-met-requires
 first-met-requires c κs =
-    let p = c .before .before .before .before .pre in
+    let top : tie.Start = search needs in
+    let p = top .pre in
     (p .0, p .1 .0)
 
 mul-index : tie.Need-mul-index
@@ -34,10 +35,21 @@ mul-a c = search needs
 mul-a-2 : tie.Need-mul-a-2
 mul-a-2 c = search needs
 
+-- an earlier place, found from a later one
+abbrev first-met-to-top : tie.After-first-met → tie.Start
+first-met-to-top c = search needs
+
+abbrev start-of-to-index : tie.After-start-of → tie.After-index
+start-of-to-index c = search needs
+
 shared-slice-read-a : tie.Need-shared-slice-read-a
 shared-slice-read-a c =
-    let r = c .before .before .before .before .before .before .before .before .before .pre .1 .1 (c .before .before .before .before .first-met .result .at) (c .before .before .before .before .first-met .ensures .0 [] .low) (c .before .before .before .if1 .taken) in
-    let w = c .before .index .ensures .0 in
+    let index : tie.After-index = search needs in
+    let then1 : tie.Then1 = search needs in
+    let first-met : tie.After-first-met = search needs in
+    let top = first-met-to-top first-met in
+    let r = top .pre .1 .1 (first-met .first-met .result .at) (first-met .first-met .ensures .0 [] .low) (then1 .if1 .taken) in
+    let w = index .index .ensures .0 in
     omega arith
 
 mul-b : tie.Need-mul-b
@@ -51,8 +63,12 @@ mul-b-2 c = search needs
 
 shared-slice-read-b : tie.Need-shared-slice-read-b
 shared-slice-read-b c =
-    let r = c .before .before .before .before .before .before .before .before .before .before .pre .1 .1 (c .before .before .before .before .before .first-met .result .at) (c .before .before .before .before .before .first-met .ensures .0 [] .low) (c .before .before .before .before .if1 .taken) in
-    let w = c .before .before .index .ensures .0 in
+    let index : tie.After-index = search needs in
+    let then1 : tie.Then1 = search needs in
+    let first-met : tie.After-first-met = search needs in
+    let top = first-met-to-top first-met in
+    let r = top .pre .1 .1 (first-met .first-met .result .at) (first-met .first-met .ensures .0 [] .low) (then1 .if1 .taken) in
+    let w = index .index .ensures .0 in
     omega arith
 
 mul-c : tie.Need-mul-c
@@ -66,8 +82,12 @@ mul-c-2 c = search needs
 
 shared-slice-read-c : tie.Need-shared-slice-read-c
 shared-slice-read-c c =
-    let r = c .before .before .before .before .before .before .before .before .before .before .before .pre .1 .1 (c .before .before .before .before .before .before .first-met .result .at) (c .before .before .before .before .before .before .first-met .ensures .0 [] .low) (c .before .before .before .before .before .if1 .taken) in
-    let w = c .before .before .before .index .ensures .0 in
+    let index : tie.After-index = search needs in
+    let then1 : tie.Then1 = search needs in
+    let first-met : tie.After-first-met = search needs in
+    let top = first-met-to-top first-met in
+    let r = top .pre .1 .1 (first-met .first-met .result .at) (first-met .first-met .ensures .0 [] .low) (then1 .if1 .taken) in
+    let w = index .index .ensures .0 in
     omega arith
 
 start-of-requires : tie.Need-start-of-requires
@@ -77,19 +97,32 @@ start-of-requires-2 : tie.Need-start-of-requires-2
 start-of-requires-2 c κs = search needs
 
 missed-requires : tie.Need-missed-requires
-missed-requires c κs = c .before .before .before .before .before .before .before .before .first-met .ensures .1 (c .before .before .before .before .before .before .before .if1 .taken) .1 .1
+missed-requires c κs =
+    let then1 : tie.Then1 = search needs in
+    let first-met : tie.After-first-met = search needs in
+    first-met .first-met .ensures .1 (then1 .if1 .taken) .1 .1
 
 missed-requires-2 : tie.Need-missed-requires-2
-missed-requires-2 c κs = c .before .before .before .before .before .before .before .before .before .first-met .ensures .1 (c .before .before .before .before .before .before .before .before .if1 .taken) .1 .1
+missed-requires-2 c κs =
+    let then1 : tie.Then1 = search needs in
+    let first-met : tie.After-first-met = search needs in
+    first-met .first-met .ensures .1 (then1 .if1 .taken) .1 .1
 
 either-end-requires : tie.Need-either-end-requires
 either-end-requires c κs =
-    let a = c .before .before .before .before .before .before .before .before .before .before .before .before .before .before .before .args in
-    let g = c .before .before .before .before .before .before .before .before .before .before .before .before .before .before .before .pre .0 in
-    let rest = c .before .before .before .before .before .before .before .before .before .before .before .before .before .before .before .pre .1 in
-    let r = c .before .before .before .before .before .before .before .before .before .before .first-met .ensures in
-    let i = c .before .before .before .before .before .before .before .index .result in
-    let h = c .before .before .before .before .before .before .before .before .before .if1 .taken in (
+    let missed : tie.After-missed = search needs in
+    let start-of2 : tie.After-start-of2 = search needs in
+    let start-of : tie.After-start-of = search needs in
+    let index = start-of-to-index start-of in
+    let then1 : tie.Then1 = search needs in
+    let first-met : tie.After-first-met = search needs in
+    let top = first-met-to-top first-met in
+    let a = top .args in
+    let g = top .pre .0 in
+    let rest = top .pre .1 in
+    let r = first-met .first-met .ensures in
+    let i = index .index .result in
+    let h = then1 .if1 .taken in (
       (
         record {
           order = r .0 [] .high;
@@ -99,43 +132,51 @@ either-end-requires c κs =
         },
         (rest .0, λ k lo hi. rest .1 k (omega (arith, r .0 [] .low)) hi),
       ),
-      tested-read (coordinates (a .corners .now)) (a .shape .now) (a .offsets .now) (boxOf (a .f)) (a .stack .now) (c .before .before .before .start-of .result) (c .before .before .start-of2 .result) (c .before .before .before .before .before .before .before .before .before .before .first-met .result .at) (a .to)
-          (c .before .before .before .before .before .before .before .index .result) (c .before .before .before .before .before .before .before .before .before .before .first-met .result .mask) (getD (a .corners .now) (3 * i) 0) (getD (a .corners .now) (3 * i + 1) 0) (getD (a .corners .now) (3 * i + 2) 0) (c .before .missed .result) (c .missed2 .result)
+      tested-read (coordinates (a .corners .now)) (a .shape .now) (a .offsets .now) (boxOf (a .f)) (a .stack .now) (start-of .start-of .result) (start-of2 .start-of2 .result) (first-met .first-met .result .at) (a .to)
+          (index .index .result) (first-met .first-met .result .mask) (getD (a .corners .now) (3 * i) 0) (getD (a .corners .now) (3 * i + 1) 0) (getD (a .corners .now) (3 * i + 2) 0) (missed .missed .result) (c .missed2 .result)
           h (g .within)
           (record {
-            number = c .before .before .before .before .before .before .before .index .ensures .0;
-            mask = r .1 h .0 ∙ ap (λ i. maskOf (sidesMet (a .shape .now) (a .offsets .now) (boxOf (a .f)) i)) (sym (c .before .before .before .before .before .before .before .index .ensures .0));
+            number = index .index .ensures .0;
+            mask = r .1 h .0 ∙ ap (λ i. maskOf (sidesMet (a .shape .now) (a .offsets .now) (boxOf (a .f)) i)) (sym (index .index .ensures .0));
             first = point-kept (a .corners .now) (3 * i) (numbersPerTriangle * i) (omega arith);
             second = point-kept (a .corners .now) (3 * i + 1) (numbersPerTriangle * i + 2) (omega arith);
             third = point-kept (a .corners .now) (3 * i + 2) (numbersPerTriangle * i + 4) (omega arith);
           })
-          (c .before .missed .ensures) (c .missed2 .ensures),
+          (missed .missed .ensures) (c .missed2 .ensures),
     )
 
 returns : tie.Need-returns
 returns c =
-    let a = c .before .before .before .before .before .before .before .before .before .before .before .before .before .before .before .before .args in
-    let r = c .before .before .before .before .before .before .before .before .before .before .before .first-met .ensures in
-    let i = c .before .before .before .before .before .before .before .before .index .result in
-    let h = c .before .before .before .before .before .before .before .before .before .before .if1 .taken in
+    let start-of2 : tie.After-start-of2 = search needs in
+    let start-of : tie.After-start-of = search needs in
+    let index : tie.After-index = search needs in
+    let then1 : tie.Then1 = search needs in
+    let first-met : tie.After-first-met = search needs in
+    let top = first-met-to-top first-met in
+    let a = top .args in
+    let r = first-met .first-met .ensures in
+    let i = index .index .result in
+    let h = then1 .if1 .taken in
     c .either-end .ensures
-    ∙ common-read (coordinates (a .corners .now)) (a .shape .now) (a .offsets .now) (boxOf (a .f)) (a .stack .now) (a .from) (c .before .before .before .before .before .before .before .before .before .before .before .first-met .result .at) (a .to)
-    (c .before .before .before .before .before .before .before .before .index .result) (c .before .before .before .before .before .before .before .before .before .before .before .first-met .result .mask) (getD (a .corners .now) (3 * i) 0) (getD (a .corners .now) (3 * i + 1) 0) (getD (a .corners .now) (3 * i + 2) 0) (c .before .before .before .before .start-of .result) (c .before .before .before .start-of2 .result)
-    (r .0 (coordinates (a .corners .now))) h (c .before .before .before .before .before .before .before .before .before .before .before .before .before .before .before .before .pre .0 .within)
+    ∙ common-read (coordinates (a .corners .now)) (a .shape .now) (a .offsets .now) (boxOf (a .f)) (a .stack .now) (a .from) (first-met .first-met .result .at) (a .to)
+    (index .index .result) (first-met .first-met .result .mask) (getD (a .corners .now) (3 * i) 0) (getD (a .corners .now) (3 * i + 1) 0) (getD (a .corners .now) (3 * i + 2) 0) (start-of .start-of .result) (start-of2 .start-of2 .result)
+    (r .0 (coordinates (a .corners .now))) h (top .pre .0 .within)
     (record {
-      number = c .before .before .before .before .before .before .before .before .index .ensures .0;
-      mask = r .1 h .0 ∙ ap (λ i. maskOf (sidesMet (a .shape .now) (a .offsets .now) (boxOf (a .f)) i)) (sym (c .before .before .before .before .before .before .before .before .index .ensures .0));
+      number = index .index .ensures .0;
+      mask = r .1 h .0 ∙ ap (λ i. maskOf (sidesMet (a .shape .now) (a .offsets .now) (boxOf (a .f)) i)) (sym (index .index .ensures .0));
       first = point-kept (a .corners .now) (3 * i) (numbersPerTriangle * i) (omega arith);
       second = point-kept (a .corners .now) (3 * i + 1) (numbersPerTriangle * i + 2) (omega arith);
       third = point-kept (a .corners .now) (3 * i + 2) (numbersPerTriangle * i + 4) (omega arith);
     })
-    (r .1 h .1 .0) (r .1 h .1 .1) (c .before .before .before .before .start-of .ensures) (c .before .before .before .start-of2 .ensures)
+    (r .1 h .1 .0) (r .1 h .1 .1) (start-of .start-of .ensures) (start-of2 .start-of2 .ensures)
 
 returns-2 : tie.Need-returns-2
 unfolding commonEnd
 returns-2 c =
-    let r = c .before .first-met .ensures .0 (coordinates (c .before .before .before .before .before .before .args .corners .now)) in
-    let k : c .before .first-met .result .at ≡ c .before .before .before .before .before .before .args .to = omega (arith, r .high) in
+    let first-met : tie.After-first-met = search needs in
+    let top : tie.Start = search needs in
+    let r = first-met .first-met .ensures .0 (coordinates (top .args .corners .now)) in
+    let k : first-met .first-met .result .at ≡ top .args .to = omega (arith, r .high) in
     sym (ap commonEnd (rw k at (r .none)))
 
 pub common-end-spec : {M : Type 1} → statement M

@@ -8,6 +8,7 @@ use Rattle.quadtree_shapes.specs.Masks.{unpacked}
 use Rattle.quadtree_stopping.specs.Stopping.{sidesAt, Tested}
 use Rattle.quadtree_stopping.proofs.EndLaws.{tested-more, tested-out, tested-all}
 use Rattle.quadtree_stopping.proofs.CoordinateLaws.{point-kept}
+use borrow.Author.Needs.{needs}
 use Rattle.quadtree_stopping.proofs.either_end.Statement.{statement}
 use Rattle.quadtree_stopping.proofs.either_end.Tie as tie
 
@@ -19,95 +20,147 @@ abbrev μ-loop : tie.MeasureT-loop
 μ-loop corners shape offsets stack from to f p q x y first₀ second₀ k₀ first second k = to - k
 
 add-k : tie.Need-add-k Inv-loop μ-loop
-add-k c = omega (arith, c .before .before .before .before .pre .1 .high)
+add-k c =
+    let top : tie.Start Inv-loop μ-loop = search needs in
+    omega (arith, top .pre .1 .high)
 
 loop-holds : tie.Need-loop-holds Inv-loop μ-loop
-loop-holds c = c .before .before .before .before .pre .1
+loop-holds c =
+    let top : tie.Start Inv-loop μ-loop = search needs in
+    top .pre .1
 
 mul-index : tie.Need-mul-index Inv-loop μ-loop
 mul-index c = omega arith
 
 shared-slice-read-index : tie.Need-shared-slice-read-index Inv-loop μ-loop
-shared-slice-read-index c = omega (arith, c .before .before .before .before .before .before .before .pre .0 .0 .within)
+shared-slice-read-index c =
+    let top : tie.Start Inv-loop μ-loop = search needs in
+    omega (arith, top .pre .0 .0 .within)
 
 index-requires : tie.Need-index-requires Inv-loop μ-loop
 index-requires c κs = tt
 
+-- an earlier place, found from a later one
+abbrev loop-to-top : tie.At-loop Inv-loop μ-loop → tie.Start Inv-loop μ-loop
+loop-to-top c = search needs
+
 sides-met-requires : tie.Need-sides-met-requires Inv-loop μ-loop
 sides-met-requires c κs =
-    let p = c .before .before .before .before .before .before .before .before .pre .0 in
-    let l = c .before .before .before .loop in
-    let h = p .0 .shapes (l .k) (l .inv .low) (c .before .before .loop-test .taken) in
-    let o = p .0 .offs (l .k) (l .inv .low) (c .before .before .loop-test .taken) in
+    let in-loop : tie.In-loop Inv-loop μ-loop = search needs in
+    let loop : tie.At-loop Inv-loop μ-loop = search needs in
+    let top = loop-to-top loop in
+    let p = top .pre .0 in
+    let l = loop .loop in
+    let h = p .0 .shapes (l .k) (l .inv .low) (in-loop .loop-test .taken) in
+    let o = p .0 .offs (l .k) (l .inv .low) (in-loop .loop-test .taken) in
     let w = c .index .ensures .0 in
     ((omega arith, omega arith), p .1 .0)
 
 mul-a : tie.Need-mul-a Inv-loop μ-loop
-mul-a c = omega (arith, c .before .index .ensures .1)
+mul-a c =
+    let index : tie.After-index Inv-loop μ-loop = search needs in
+    omega (arith, index .index .ensures .1)
 
 mul-a-2 : tie.Need-mul-a-2 Inv-loop μ-loop
-mul-a-2 c = omega (arith, c .before .index .ensures .1)
+mul-a-2 c =
+    let index : tie.After-index Inv-loop μ-loop = search needs in
+    omega (arith, index .index .ensures .1)
 
 shared-slice-read-a : tie.Need-shared-slice-read-a Inv-loop μ-loop
 shared-slice-read-a c =
-    let r = c .before .before .before .before .before .before .before .before .before .before .pre .0 .1 .1 (c .before .before .before .before .before .loop .k) (c .before .before .before .before .before .loop .inv .low) (c .before .before .before .before .loop-test .taken) in
-    let w = c .before .before .index .ensures .0 in
+    let index : tie.After-index Inv-loop μ-loop = search needs in
+    let in-loop : tie.In-loop Inv-loop μ-loop = search needs in
+    let loop : tie.At-loop Inv-loop μ-loop = search needs in
+    let top = loop-to-top loop in
+    let r = top .pre .0 .1 .1 (loop .loop .k) (loop .loop .inv .low) (in-loop .loop-test .taken) in
+    let w = index .index .ensures .0 in
     omega arith
 
 mul-b : tie.Need-mul-b Inv-loop μ-loop
-mul-b c = omega (arith, c .before .before .index .ensures .1)
+mul-b c =
+    let index : tie.After-index Inv-loop μ-loop = search needs in
+    omega (arith, index .index .ensures .1)
 
 add-b : tie.Need-add-b Inv-loop μ-loop
-add-b c = omega (arith, c .before .before .index .ensures .1)
+add-b c =
+    let index : tie.After-index Inv-loop μ-loop = search needs in
+    omega (arith, index .index .ensures .1)
 
 mul-b-2 : tie.Need-mul-b-2 Inv-loop μ-loop
-mul-b-2 c = omega (arith, c .before .before .index .ensures .1)
+mul-b-2 c =
+    let index : tie.After-index Inv-loop μ-loop = search needs in
+    omega (arith, index .index .ensures .1)
 
 shared-slice-read-b : tie.Need-shared-slice-read-b Inv-loop μ-loop
 shared-slice-read-b c =
-    let r = c .before .before .before .before .before .before .before .before .before .before .before .pre .0 .1 .1 (c .before .before .before .before .before .before .loop .k) (c .before .before .before .before .before .before .loop .inv .low) (c .before .before .before .before .before .loop-test .taken) in
-    let w = c .before .before .before .index .ensures .0 in
+    let index : tie.After-index Inv-loop μ-loop = search needs in
+    let in-loop : tie.In-loop Inv-loop μ-loop = search needs in
+    let loop : tie.At-loop Inv-loop μ-loop = search needs in
+    let top = loop-to-top loop in
+    let r = top .pre .0 .1 .1 (loop .loop .k) (loop .loop .inv .low) (in-loop .loop-test .taken) in
+    let w = index .index .ensures .0 in
     omega arith
 
 mul-c : tie.Need-mul-c Inv-loop μ-loop
-mul-c c = omega (arith, c .before .before .before .index .ensures .1)
+mul-c c =
+    let index : tie.After-index Inv-loop μ-loop = search needs in
+    omega (arith, index .index .ensures .1)
 
 add-c : tie.Need-add-c Inv-loop μ-loop
-add-c c = omega (arith, c .before .before .before .index .ensures .1)
+add-c c =
+    let index : tie.After-index Inv-loop μ-loop = search needs in
+    omega (arith, index .index .ensures .1)
 
 mul-c-2 : tie.Need-mul-c-2 Inv-loop μ-loop
-mul-c-2 c = omega (arith, c .before .before .before .index .ensures .1)
+mul-c-2 c =
+    let index : tie.After-index Inv-loop μ-loop = search needs in
+    omega (arith, index .index .ensures .1)
 
 shared-slice-read-c : tie.Need-shared-slice-read-c Inv-loop μ-loop
 shared-slice-read-c c =
-    let r = c .before .before .before .before .before .before .before .before .before .before .before .before .pre .0 .1 .1 (c .before .before .before .before .before .before .before .loop .k) (c .before .before .before .before .before .before .before .loop .inv .low) (c .before .before .before .before .before .before .loop-test .taken) in
-    let w = c .before .before .before .before .index .ensures .0 in
+    let index : tie.After-index Inv-loop μ-loop = search needs in
+    let in-loop : tie.In-loop Inv-loop μ-loop = search needs in
+    let loop : tie.At-loop Inv-loop μ-loop = search needs in
+    let top = loop-to-top loop in
+    let r = top .pre .0 .1 .1 (loop .loop .k) (loop .loop .inv .low) (in-loop .loop-test .taken) in
+    let w = index .index .ensures .0 in
     omega arith
 
 missed-requires : tie.Need-missed-requires Inv-loop μ-loop
-missed-requires c κs = c .before .before .before .sides-met .ensures .1
+missed-requires c κs =
+    let sides-met : tie.After-sides-met Inv-loop μ-loop = search needs in
+    sides-met .sides-met .ensures .1
 
 missed-requires-2 : tie.Need-missed-requires-2 Inv-loop μ-loop
-missed-requires-2 c κs = c .before .before .before .before .sides-met .ensures .1
+missed-requires-2 c κs =
+    let sides-met : tie.After-sides-met Inv-loop μ-loop = search needs in
+    sides-met .sides-met .ensures .1
 
 returns : tie.Need-returns Inv-loop μ-loop
 returns c =
-    let a = c .before .before .before .before .before .before .before .before .before .before .before .before .before .before .before .args in
-    let v = c .before .before .before .before .before .before .before .before .before .before .loop .inv in
-    let i = c .before .before .before .before .before .before .before .index .result in
+    let missed2 : tie.After-missed2 Inv-loop μ-loop = search needs in
+    let missed : tie.After-missed Inv-loop μ-loop = search needs in
+    let sides-met : tie.After-sides-met Inv-loop μ-loop = search needs in
+    let index : tie.After-index Inv-loop μ-loop = search needs in
+    let in-loop : tie.In-loop Inv-loop μ-loop = search needs in
+    let loop : tie.At-loop Inv-loop μ-loop = search needs in
+    let top = loop-to-top loop in
+    let a = top .args in
+    let v = loop .loop .inv in
+    let i = index .index .result in
     let w =
-    tested-more (coordinates (a .corners .now)) (a .shape .now) (a .offsets .now) (boxOf (a .f)) (a .stack .now) (a .p) (a .q) (a .from) (a .to) (c .before .before .before .before .before .before .before .before .before .before .loop .k) (c .before .before .before .before .before .before .before .before .before .before .loop .first) (c .before .before .before .before .before .before .before .before .before .before .loop .second)
-    (c .before .before .before .before .before .before .before .index .result) (c .before .before .before .before .before .before .sides-met .result) (getD (a .corners .now) (3 * i) 0) (getD (a .corners .now) (3 * i + 1) 0) (getD (a .corners .now) (3 * i + 2) 0) (c .before .before .missed .result) (c .before .missed2 .result)
-    (c .before .before .before .before .before .before .before .before .before .before .before .before .before .before .before .pre .0 .0 .within) v (c .before .before .before .before .before .before .before .before .before .loop-test .taken)
+    tested-more (coordinates (a .corners .now)) (a .shape .now) (a .offsets .now) (boxOf (a .f)) (a .stack .now) (a .p) (a .q) (a .from) (a .to) (loop .loop .k) (loop .loop .first) (loop .loop .second)
+    (index .index .result) (sides-met .sides-met .result) (getD (a .corners .now) (3 * i) 0) (getD (a .corners .now) (3 * i + 1) 0) (getD (a .corners .now) (3 * i + 2) 0) (missed .missed .result) (missed2 .missed2 .result)
+    (top .pre .0 .0 .within) v (in-loop .loop-test .taken)
     (record {
-      number = c .before .before .before .before .before .before .before .index .ensures .0;
-      mask = c .before .before .before .before .before .before .sides-met .ensures .0;
+      number = index .index .ensures .0;
+      mask = sides-met .sides-met .ensures .0;
       first = point-kept (a .corners .now) (3 * i) (numbersPerTriangle * i) (omega arith);
       second = point-kept (a .corners .now) (3 * i + 1) (numbersPerTriangle * i + 2) (omega arith);
       third = point-kept (a .corners .now) (3 * i + 2) (numbersPerTriangle * i + 4) (omega arith);
     })
-    (c .before .before .missed .ensures) (c .before .missed2 .ensures) in
-    tested-out (sidesAt (coordinates (a .corners .now)) (a .shape .now) (a .offsets .now) (boxOf (a .f))) (a .stack .now) (unpacked (a .p)) (unpacked (a .q)) (a .from) (a .to) (c .before .before .before .before .before .before .before .before .before .before .loop .k + 1) _ _ w (c .if1 .taken)
+    (missed .missed .ensures) (missed2 .missed2 .ensures) in
+    tested-out (sidesAt (coordinates (a .corners .now)) (a .shape .now) (a .offsets .now) (boxOf (a .f))) (a .stack .now) (unpacked (a .p)) (unpacked (a .q)) (a .from) (a .to) (loop .loop .k + 1) _ _ w (c .if1 .taken)
 
 add-k-2 : tie.Need-add-k-2 Inv-loop μ-loop
 add-k-2 c = omega arith
@@ -117,25 +170,34 @@ loop-less c = omega arith
 
 loop-again : tie.Need-loop-again Inv-loop μ-loop
 loop-again c =
-    let a = c .before .before .before .before .before .before .before .before .before .before .before .before .before .before .before .args in
-    let v = c .before .before .before .before .before .before .before .before .before .before .loop .inv in
-    let i = c .before .before .before .before .before .before .before .index .result in
-    tested-more (coordinates (a .corners .now)) (a .shape .now) (a .offsets .now) (boxOf (a .f)) (a .stack .now) (a .p) (a .q) (a .from) (a .to) (c .before .before .before .before .before .before .before .before .before .before .loop .k) (c .before .before .before .before .before .before .before .before .before .before .loop .first) (c .before .before .before .before .before .before .before .before .before .before .loop .second)
-    (c .before .before .before .before .before .before .before .index .result) (c .before .before .before .before .before .before .sides-met .result) (getD (a .corners .now) (3 * i) 0) (getD (a .corners .now) (3 * i + 1) 0) (getD (a .corners .now) (3 * i + 2) 0) (c .before .before .missed .result) (c .before .missed2 .result)
-    (c .before .before .before .before .before .before .before .before .before .before .before .before .before .before .before .pre .0 .0 .within) v (c .before .before .before .before .before .before .before .before .before .loop-test .taken)
+    let missed2 : tie.After-missed2 Inv-loop μ-loop = search needs in
+    let missed : tie.After-missed Inv-loop μ-loop = search needs in
+    let sides-met : tie.After-sides-met Inv-loop μ-loop = search needs in
+    let index : tie.After-index Inv-loop μ-loop = search needs in
+    let in-loop : tie.In-loop Inv-loop μ-loop = search needs in
+    let loop : tie.At-loop Inv-loop μ-loop = search needs in
+    let top = loop-to-top loop in
+    let a = top .args in
+    let v = loop .loop .inv in
+    let i = index .index .result in
+    tested-more (coordinates (a .corners .now)) (a .shape .now) (a .offsets .now) (boxOf (a .f)) (a .stack .now) (a .p) (a .q) (a .from) (a .to) (loop .loop .k) (loop .loop .first) (loop .loop .second)
+    (index .index .result) (sides-met .sides-met .result) (getD (a .corners .now) (3 * i) 0) (getD (a .corners .now) (3 * i + 1) 0) (getD (a .corners .now) (3 * i + 2) 0) (missed .missed .result) (missed2 .missed2 .result)
+    (top .pre .0 .0 .within) v (in-loop .loop-test .taken)
     (record {
-      number = c .before .before .before .before .before .before .before .index .ensures .0;
-      mask = c .before .before .before .before .before .before .sides-met .ensures .0;
+      number = index .index .ensures .0;
+      mask = sides-met .sides-met .ensures .0;
       first = point-kept (a .corners .now) (3 * i) (numbersPerTriangle * i) (omega arith);
       second = point-kept (a .corners .now) (3 * i + 1) (numbersPerTriangle * i + 2) (omega arith);
       third = point-kept (a .corners .now) (3 * i + 2) (numbersPerTriangle * i + 4) (omega arith);
     })
-    (c .before .before .missed .ensures) (c .before .missed2 .ensures)
+    (missed .missed .ensures) (missed2 .missed2 .ensures)
 
 returns-2 : tie.Need-returns-2 Inv-loop μ-loop
 returns-2 c =
-    let a = c .before .before .before .before .before .before .args in
-    tested-all (sidesAt (coordinates (a .corners .now)) (a .shape .now) (a .offsets .now) (boxOf (a .f))) (a .stack .now) (unpacked (a .p)) (unpacked (a .q)) (a .from) (a .to) (c .before .loop .k) (c .before .loop .first) (c .before .loop .second) (c .before .loop .inv) (omega arith)
+    let loop : tie.At-loop Inv-loop μ-loop = search needs in
+    let top : tie.Start Inv-loop μ-loop = search needs in
+    let a = top .args in
+    tested-all (sidesAt (coordinates (a .corners .now)) (a .shape .now) (a .offsets .now) (boxOf (a .f))) (a .stack .now) (unpacked (a .p)) (unpacked (a .q)) (a .from) (a .to) (loop .loop .k) (loop .loop .first) (loop .loop .second) (loop .loop .inv) (omega arith)
 
 pub either-end-spec : {M : Type 1} → statement M
 either-end-spec =

@@ -7,6 +7,7 @@ use Rattle.quadtree_shapes.specs.Shape.{boxOf}
 use Rattle.quadtree_shapes.specs.Masks.{maskOf, sidesMet}
 use Rattle.quadtree_stopping.specs.Stopping.{sidesAt, Skipped}
 use Rattle.quadtree_stopping.proofs.EndLaws.{skipped-start, skipped-next, sides-absent}
+use borrow.Author.Needs.{needs}
 use Rattle.quadtree_stopping.proofs.first_met.Statement.{statement}
 use Rattle.quadtree_stopping.proofs.first_met.Tie as tie
 
@@ -19,32 +20,46 @@ abbrev μ-loop : tie.MeasureT-loop
 
 loop-holds : tie.Need-loop-holds Inv-loop μ-loop
 loop-holds c =
-    let a = c .before .before .before .args in
-    λ table. skipped-start (sidesAt table (a .shape .now) (a .offsets .now) (boxOf (a .f))) (a .stack .now) (a .from) (a .to) (c .before .before .before .pre .0 .order)
+    let top : tie.Start Inv-loop μ-loop = search needs in
+    let a = top .args in
+    λ table. skipped-start (sidesAt table (a .shape .now) (a .offsets .now) (boxOf (a .f))) (a .stack .now) (a .from) (a .to) (top .pre .0 .order)
 
 mul-index : tie.Need-mul-index Inv-loop μ-loop
 mul-index c = omega arith
 
 shared-slice-read-index : tie.Need-shared-slice-read-index Inv-loop μ-loop
-shared-slice-read-index c = omega (arith, c .before .before .before .before .before .before .pre .0 .within)
+shared-slice-read-index c =
+    let top : tie.Start Inv-loop μ-loop = search needs in
+    omega (arith, top .pre .0 .within)
 
 index-requires : tie.Need-index-requires Inv-loop μ-loop
 index-requires c κs = tt
 
 sides-met-requires : tie.Need-sides-met-requires Inv-loop μ-loop
 sides-met-requires c κs =
-    let g = c .before .before .before .before .before .before .before .pre .0 in
-    let h = g .shapes (c .before .before .before .loop .k) (c .before .before .before .loop .inv [] .low) (c .before .before .loop-test .taken) in
-    let o = g .offs (c .before .before .before .loop .k) (c .before .before .before .loop .inv [] .low) (c .before .before .loop-test .taken) in
+    let in-loop : tie.In-loop Inv-loop μ-loop = search needs in
+    let loop : tie.At-loop Inv-loop μ-loop = search needs in
+    let top : tie.Start Inv-loop μ-loop = search needs in
+    let g = top .pre .0 in
+    let h = g .shapes (loop .loop .k) (loop .loop .inv [] .low) (in-loop .loop-test .taken) in
+    let o = g .offs (loop .loop .k) (loop .loop .inv [] .low) (in-loop .loop-test .taken) in
     let w = c .index .ensures .0 in
-    ((omega (arith, h), omega (arith, o)), c .before .before .before .before .before .before .before .pre .1)
+    ((omega (arith, h), omega (arith, o)), top .pre .1)
+
+-- an earlier place, found from a later one
+abbrev loop-to-top : tie.At-loop Inv-loop μ-loop → tie.Start Inv-loop μ-loop
+loop-to-top c = search needs
 
 returns : tie.Need-returns Inv-loop μ-loop
 returns c =
-    let a = c .before .before .before .before .before .before .before .before .before .args in
-    let v = c .before .before .before .before .before .loop .inv in
-    let e = c .before .sides-met .ensures .0 ∙ ap (λ i. maskOf (sidesMet (a .shape .now) (a .offsets .now) (boxOf (a .f)) i)) (c .before .before .index .ensures .0) in
-    (v, λ h. (e, (omega arith, c .before .sides-met .ensures .1)))
+    let sides-met : tie.After-sides-met Inv-loop μ-loop = search needs in
+    let index : tie.After-index Inv-loop μ-loop = search needs in
+    let loop : tie.At-loop Inv-loop μ-loop = search needs in
+    let top = loop-to-top loop in
+    let a = top .args in
+    let v = loop .loop .inv in
+    let e = sides-met .sides-met .ensures .0 ∙ ap (λ i. maskOf (sidesMet (a .shape .now) (a .offsets .now) (boxOf (a .f)) i)) (index .index .ensures .0) in
+    (v, λ h. (e, (omega arith, sides-met .sides-met .ensures .1)))
 
 add-k : tie.Need-add-k Inv-loop μ-loop
 add-k c = omega arith
@@ -54,16 +69,23 @@ loop-less c = omega arith
 
 loop-again : tie.Need-loop-again Inv-loop μ-loop
 loop-again c =
-    let a = c .before .before .before .before .before .before .before .before .before .args in
-    let v = c .before .before .before .before .before .loop .inv in
-    let e = c .before .sides-met .ensures .0 ∙ ap (λ i. maskOf (sidesMet (a .shape .now) (a .offsets .now) (boxOf (a .f)) i)) (c .before .before .index .ensures .0) in
-    λ table. skipped-next (sidesAt table (a .shape .now) (a .offsets .now) (boxOf (a .f))) (a .stack .now) (a .from) (a .to) (c .before .before .before .before .before .loop .k) (c .before .before .before .before .before .before .before .before .before .pre .0 .within) (v table) (c .before .before .before .before .loop-test .taken)
-    (sides-absent table (a .shape .now) (a .offsets .now) (boxOf (a .f)) (c .before .sides-met .result) (getD (a .stack .now) (c .before .before .before .before .before .loop .k) 0) e (c .if1 .left))
+    let sides-met : tie.After-sides-met Inv-loop μ-loop = search needs in
+    let index : tie.After-index Inv-loop μ-loop = search needs in
+    let in-loop : tie.In-loop Inv-loop μ-loop = search needs in
+    let loop : tie.At-loop Inv-loop μ-loop = search needs in
+    let top = loop-to-top loop in
+    let a = top .args in
+    let v = loop .loop .inv in
+    let e = sides-met .sides-met .ensures .0 ∙ ap (λ i. maskOf (sidesMet (a .shape .now) (a .offsets .now) (boxOf (a .f)) i)) (index .index .ensures .0) in
+    λ table. skipped-next (sidesAt table (a .shape .now) (a .offsets .now) (boxOf (a .f))) (a .stack .now) (a .from) (a .to) (loop .loop .k) (top .pre .0 .within) (v table) (in-loop .loop-test .taken)
+    (sides-absent table (a .shape .now) (a .offsets .now) (boxOf (a .f)) (sides-met .sides-met .result) (getD (a .stack .now) (loop .loop .k) 0) e (c .if1 .left))
 
 returns-2 : tie.Need-returns-2 Inv-loop μ-loop
 returns-2 c =
-    let v = c .before .loop .inv in
-    let k : c .before .loop .k ≡ c .before .before .before .before .before .args .to = omega (arith, v [] .high) in
+    let loop : tie.At-loop Inv-loop μ-loop = search needs in
+    let top : tie.Start Inv-loop μ-loop = search needs in
+    let v = loop .loop .inv in
+    let k : loop .loop .k ≡ top .args .to = omega (arith, v [] .high) in
     (rw k at v, λ h. absurd (omega arith))
 
 pub first-met-spec : {M : Type 1} → statement M

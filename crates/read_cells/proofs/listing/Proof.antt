@@ -22,10 +22,12 @@ chained c count levels w h = record { keys = c .pre .0 .0; levels = w; items = c
 
 returns : tie.Need-returns
 returns c =
-    let top = c .before .before .before .before .before .before .before in
-    let f = c .before .before .before in
-    let z = f .before .z-order .ensures in
-    let m = c .before .if1 .taken in (
+    let then1 : tie.Then1 = search needs in
+    let f : tie.After-last-block = search needs in
+    let z-order : tie.After-z-order = search needs in
+    let top : tie.Start = search needs in
+    let z = z-order .z-order .ensures in
+    let m = then1 .if1 .taken in (
       λ count levels w h. point-none (chained top count levels w h) (top .args .p) z (f .last-block .ensures) m,
       λ count levels w h.
           own-part 0 0 (omega arith) (omega arith) refl refl refl
@@ -34,11 +36,13 @@ returns c =
 
 returns-2 : tie.Need-returns-2
 returns-2 c =
-    let top = c .before .before .before .before .before .before .before in
-    let f = c .before .before .before in
-    let z = f .before .z-order .ensures in
+    let else1 : tie.Else1 = search needs in
+    let f : tie.After-last-block = search needs in
+    let z-order : tie.After-z-order = search needs in
+    let top : tie.Start = search needs in
+    let z = z-order .z-order .ensures in
     let l = f .last-block in
-    let m = c .before .if1 .left in (
+    let m = else1 .if1 .left in (
       λ count levels w h. point-listed (chained top count levels w h) (top .args .p) z (l .ensures) m,
       λ count levels w h.
           own-part (l .result .from) (l .result .to) (omega (arith, l .ensures .some))

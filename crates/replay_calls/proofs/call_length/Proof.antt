@@ -13,17 +13,30 @@ add-result c = search needs
 
 returns : tie.Need-returns
 returns c =
-    let a = c .before .before .args in
-    ap (λ k. k + 2) (c .index .ensures .0) ∙ sym (length-load (a .command) (a .n) (c .before .if1 .taken))
+    let then1 : tie.Then1 = search needs in
+    let top : tie.Start = search needs in
+    let a = top .args in
+    ap (λ k. k + 2) (c .index .ensures .0) ∙ sym (length-load (a .command) (a .n) (then1 .if1 .taken))
 
 returns-2 : tie.Need-returns-2
-returns-2 c = let a = c .before .before .args in sym (length-split (a .command) (a .n) (c .before .if1 .left) (c .if2 .taken))
+returns-2 c =
+    let else1 : tie.Else1 = search needs in
+    let top : tie.Start = search needs in
+    let a = top .args in sym (length-split (a .command) (a .n) (else1 .if1 .left) (c .if2 .taken))
 
 returns-3 : tie.Need-returns-3
-returns-3 c = let a = c .before .before .before .args in sym (length-other (a .command) (a .n) (c .before .before .if1 .left) (c .before .if2 .left) (c .if3 .taken))
+returns-3 c =
+    let else2 : tie.Else2 = search needs in
+    let else1 : tie.Else1 = search needs in
+    let top : tie.Start = search needs in
+    let a = top .args in sym (length-other (a .command) (a .n) (else1 .if1 .left) (else2 .if2 .left) (c .if3 .taken))
 
 returns-4 : tie.Need-returns-4
-returns-4 c = let a = c .before .before .before .args in sym (length-none (a .command) (a .n) (c .before .before .if1 .left) (c .before .if2 .left) (c .if3 .left))
+returns-4 c =
+    let else2 : tie.Else2 = search needs in
+    let else1 : tie.Else1 = search needs in
+    let top : tie.Start = search needs in
+    let a = top .args in sym (length-none (a .command) (a .n) (else1 .if1 .left) (else2 .if2 .left) (c .if3 .left))
 
 pub call-length-spec : {M : Type 1} → statement M
 call-length-spec =

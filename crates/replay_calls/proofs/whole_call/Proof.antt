@@ -10,7 +10,8 @@ sub-left c = search needs
 
 returns : tie.Need-returns
 returns c =
-    let a = c .before .before .args in
+    let top : tie.Start = search needs in
+    let a = top .args in
     whole-short (drop (a .at) (a .calls .now)) (omega (arith, length-drop (a .at) (a .calls .now), c .if1 .taken))
 
 mul-call-length : tie.Need-mul-call-length
@@ -32,10 +33,16 @@ call-length-requires : tie.Need-call-length-requires
 call-length-requires c κs = search needs
 
 returns-2 : tie.Need-returns-2
-returns-2 c = let a = c .before .before .before .before .before .before .args in whole-at (a .calls .now) (a .at) (c .before .call-length .ensures) (omega (arith, c .if2 .taken))
+returns-2 c =
+    let call-length : tie.After-call-length = search needs in
+    let top : tie.Start = search needs in
+    let a = top .args in whole-at (a .calls .now) (a .at) (call-length .call-length .ensures) (omega (arith, c .if2 .taken))
 
 returns-3 : tie.Need-returns-3
-returns-3 c = let a = c .before .before .before .before .before .before .args in cut-at (a .calls .now) (a .at) (c .before .call-length .ensures) (omega (arith, c .if2 .left))
+returns-3 c =
+    let call-length : tie.After-call-length = search needs in
+    let top : tie.Start = search needs in
+    let a = top .args in cut-at (a .calls .now) (a .at) (call-length .call-length .ensures) (omega (arith, c .if2 .left))
 
 pub whole-call-spec : {M : Type 1} → statement M
 whole-call-spec =

@@ -24,10 +24,15 @@ loop-holds : tie.Need-loop-holds Inv-loop μ-loop
 loop-holds c = record { ran = ran-start (c .whole-call .ensures); table = refl; keys = refl; levels = refl; items = refl }
 
 add-call : tie.Need-add-call Inv-loop μ-loop
-add-call c = omega (arith, ran-end (c .before .loop .inv .ran))
+add-call c =
+    let loop : tie.At-loop Inv-loop μ-loop = search needs in
+    omega (arith, ran-end (loop .loop .inv .ran))
 
 mul-call : tie.Need-mul-call Inv-loop μ-loop
-mul-call c = omega (arith, ran-end (c .before .loop .inv .ran), c .before .before .before .before .before .before .before .before .good .0)
+mul-call c =
+    let loop : tie.At-loop Inv-loop μ-loop = search needs in
+    let top : tie.Start Inv-loop μ-loop = search needs in
+    omega (arith, ran-end (loop .loop .inv .ran), top .good .0)
 
 sub-call : tie.Need-sub-call Inv-loop μ-loop
 sub-call c = omega arith
@@ -36,45 +41,81 @@ part-call-start : tie.Need-part-call-start Inv-loop μ-loop
 part-call-start c = omega arith
 
 part-call-end : tie.Need-part-call-end Inv-loop μ-loop
-part-call-end c = ran-end (c .before .loop .inv .ran)
+part-call-end c =
+    let loop : tie.At-loop Inv-loop μ-loop = search needs in
+    ran-end (loop .loop .inv .ran)
 
 run-call-requires : tie.Need-run-call-requires Inv-loop μ-loop
-run-call-requires c κs = ran-call (c .before .before .before .before .before .before .loop .inv .ran) (c .before .before .before .before .before .loop-test .taken)
+run-call-requires c κs =
+    let in-loop : tie.In-loop Inv-loop μ-loop = search needs in
+    let loop : tie.At-loop Inv-loop μ-loop = search needs in
+    ran-call (loop .loop .inv .ran) (in-loop .loop-test .taken)
 
 add-at : tie.Need-add-at Inv-loop μ-loop
-add-at c = omega (arith, ran-end (c .before .before .before .before .before .before .before .before .before .before .before .before .before .before .before .loop .inv .ran))
+add-at c =
+    let run-call-arg : tie.After-run-call-arg Inv-loop μ-loop = search needs in
+    let loop : tie.At-loop Inv-loop μ-loop = search needs in
+    omega (arith, ran-end (loop .loop .inv .ran))
 
 whole-call-requires-2 : tie.Need-whole-call-requires-2 Inv-loop μ-loop
-whole-call-requires-2 c κs = ran-end (c .before .before .before .before .before .before .before .before .before .before .before .before .before .before .before .loop .inv .ran)
+whole-call-requires-2 c κs =
+    let run-call-arg : tie.After-run-call-arg Inv-loop μ-loop = search needs in
+    let loop : tie.At-loop Inv-loop μ-loop = search needs in
+    ran-end (loop .loop .inv .ran)
 
 loop-less : tie.Need-loop-less Inv-loop μ-loop
-loop-less c = omega (arith, ran-end (c .before .before .before .before .before .before .before .before .before .before .before .before .before .before .before .before .loop .inv .ran), c .before .before .before .before .before .before .before .before .before .before .before .before .before .before .before .loop-test .taken)
+loop-less c =
+    let run-call : tie.After-run-call Inv-loop μ-loop = search needs in
+    let in-loop : tie.In-loop Inv-loop μ-loop = search needs in
+    let loop : tie.At-loop Inv-loop μ-loop = search needs in
+    omega (arith, ran-end (loop .loop .inv .ran), in-loop .loop-test .taken)
+
+-- an earlier place, found from a later one
+abbrev run-call-to-in-loop : tie.After-run-call Inv-loop μ-loop → tie.In-loop Inv-loop μ-loop
+run-call-to-in-loop c = search needs
 
 loop-again : tie.Need-loop-again Inv-loop μ-loop
 loop-again c =
-    let inv = c .before .before .before .before .before .before .before .before .before .before .before .before .before .before .before .before .loop .inv in
+    let items-2 : tie.After-items Inv-loop μ-loop = search needs in
+    let levels-2 : tie.After-levels Inv-loop μ-loop = search needs in
+    let keys-2 : tie.After-keys Inv-loop μ-loop = search needs in
+    let table-2 : tie.After-table Inv-loop μ-loop = search needs in
+    let run-call : tie.After-run-call Inv-loop μ-loop = search needs in
+    let in-loop = run-call-to-in-loop run-call in
+    let loop : tie.At-loop Inv-loop μ-loop = search needs in
+    let inv = loop .loop .inv in
     record {
-      ran = ran-next (inv .ran) (c .before .before .before .before .before .before .before .before .before .before .before .before .before .before .before .loop-test .taken) (ap (λ d. d .chart) (c .before .before .before .before .before .before .before .before .before .run-call .ensures)) (c .whole-call2 .ensures);
-      table = c .before .before .before .before .before .before .before .before .table .given ∙ inv .table;
-      keys = c .before .before .before .before .before .before .keys .given ∙ inv .keys;
-      levels = c .before .before .before .before .levels .given ∙ inv .levels;
-      items = c .before .before .items .given ∙ inv .items;
+      ran = ran-next (inv .ran) (in-loop .loop-test .taken) (ap (λ d. d .chart) (run-call .run-call .ensures)) (c .whole-call2 .ensures);
+      table = table-2 .table .given ∙ inv .table;
+      keys = keys-2 .keys .given ∙ inv .keys;
+      levels = levels-2 .levels .given ∙ inv .levels;
+      items = items-2 .items .given ∙ inv .items;
     }
 
 same-length : tie.Need-same-length Inv-loop μ-loop
-same-length c = c .before .loop .inv .table
+same-length c =
+    let loop : tie.At-loop Inv-loop μ-loop = search needs in
+    loop .loop .inv .table
 
 same-length-2 : tie.Need-same-length-2 Inv-loop μ-loop
-same-length-2 c = c .before .loop .inv .keys
+same-length-2 c =
+    let loop : tie.At-loop Inv-loop μ-loop = search needs in
+    loop .loop .inv .keys
 
 same-length-3 : tie.Need-same-length-3 Inv-loop μ-loop
-same-length-3 c = c .before .loop .inv .levels
+same-length-3 c =
+    let loop : tie.At-loop Inv-loop μ-loop = search needs in
+    loop .loop .inv .levels
 
 same-length-4 : tie.Need-same-length-4 Inv-loop μ-loop
-same-length-4 c = c .before .loop .inv .items
+same-length-4 c =
+    let loop : tie.At-loop Inv-loop μ-loop = search needs in
+    loop .loop .inv .items
 
 returns : tie.Need-returns Inv-loop μ-loop
-returns c = ran-all (c .before .loop .inv .ran) (omega (arith, c .loop-test .left))
+returns c =
+    let loop : tie.At-loop Inv-loop μ-loop = search needs in
+    ran-all (loop .loop .inv .ran) (omega (arith, c .loop-test .left))
 
 pub run-calls-spec : {M : Type 1} → statement M
 run-calls-spec =

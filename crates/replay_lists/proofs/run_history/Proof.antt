@@ -5,11 +5,22 @@ use Rattle.replay_calls.specs.Encoding.{decode}
 use Rattle.replay_lists.proofs.run_history.Statement.{statement}
 use Rattle.replay_lists.proofs.run_history.Tie as tie
 
+-- an earlier place, found from a later one
+abbrev run-calls-to-table : tie.After-run-calls → tie.After-table
+run-calls-to-table c = search needs
+
+abbrev load-to-top : tie.After-load → tie.Start
+load-to-top c = search needs
+
 returns : tie.Need-returns
 unfolding chartAfter eventCall
 returns c =
-    let calls = c .before .before .before .before .before .before .before .before .before .before .before .before .before .before .before .before .before .before .before .before .before .before .before .before .before .before .before .before .before .before .before .before .args .calls .now in
-    c .before .before .before .before .before .before .before .before .run-calls .ensures ∙ ap (λ d. chartAfter (decode calls) (d .chart)) (c .before .before .before .before .before .before .before .before .before .before .before .before .before .before .before .before .before .before .before .before .before .load .ensures)
+    let run-calls : tie.After-run-calls = search needs in
+    let table = run-calls-to-table run-calls in
+    let load : tie.After-load = search needs in
+    let top = load-to-top load in
+    let calls = top .args .calls .now in
+    run-calls .run-calls .ensures ∙ ap (λ d. chartAfter (decode calls) (d .chart)) (load .load .ensures)
 
 pub run-history-spec : {M : Type 1} → statement M
 run-history-spec =

@@ -14,25 +14,40 @@ array-borrow-prefix-bytes : tie.Need-array-borrow-prefix-bytes
 array-borrow-prefix-bytes c = search needs
 
 slice-aggregate-read-full : tie.Need-slice-aggregate-read-full
-slice-aggregate-read-full c = lent-length (2 * c .before .before .before .before .before .args .n) 6400 (omega arith)
+slice-aggregate-read-full c =
+    let top : tie.Start = search needs in
+    lent-length (2 * top .args .n) 6400 (omega arith)
 
 read-full-requires : tie.Need-read-full-requires
 read-full-requires c κs = search needs
 
 slice-aggregate-decode : tie.Need-slice-aggregate-decode
-slice-aggregate-decode c = back-length (2 * c .before .before .before .before .before .before .before .before .args .n) 6400 (c .before .before .read-full .last .1 .0) (omega arith) (c .before .before .read-full .kept .1 .0)
+slice-aggregate-decode c =
+    let read-full : tie.After-read-full = search needs in
+    let top : tie.Start = search needs in
+    back-length (2 * top .args .n) 6400 (read-full .read-full .last .1 .0) (omega arith) (read-full .read-full .kept .1 .0)
 
 slice-aggregate-decode-2 : tie.Need-slice-aggregate-decode-2
 slice-aggregate-decode-2 c = search needs
 
 decode-requires : tie.Need-decode-requires
-decode-requires c κs = let b = back-length (2 * c .before .before .before .before .before .before .before .before .before .args .n) 6400 (c .before .before .before .read-full .last .1 .0) (omega arith) (c .before .before .before .read-full .kept .1 .0) in (omega (arith, b), omega arith)
+decode-requires c κs =
+    let read-full : tie.After-read-full = search needs in
+    let top : tie.Start = search needs in
+    let b = back-length (2 * top .args .n) 6400 (read-full .read-full .last .1 .0) (omega arith) (read-full .read-full .kept .1 .0) in (omega (arith, b), omega arith)
 
 array-share-prefix-given : tie.Need-array-share-prefix-given
 array-share-prefix-given c = search needs
 
+-- an earlier place, found from a later one
+abbrev decode-to-top : tie.After-decode → tie.Start
+decode-to-top c = search needs
+
 slice-aggregate-say-change : tie.Need-slice-aggregate-say-change
-slice-aggregate-say-change c = sym (length-take-le (c .before .before .before .before .before .before .before .before .before .before .before .before .args .n) (c .before .before .decode .last .1 .1 .0) (omega arith))
+slice-aggregate-say-change c =
+    let decode : tie.After-decode = search needs in
+    let top = decode-to-top decode in
+    sym (length-take-le (top .args .n) (decode .decode .last .1 .1 .0) (omega arith))
 
 say-change-requires : tie.Need-say-change-requires
 say-change-requires c κs = search needs

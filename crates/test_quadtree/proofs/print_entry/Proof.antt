@@ -6,7 +6,9 @@ use Rattle.test_quadtree.proofs.print_entry.Statement.{statement}
 use Rattle.test_quadtree.proofs.print_entry.Tie as tie
 
 slice-aggregate-write-all : tie.Need-slice-aggregate-write-all
-slice-aggregate-write-all c = sym (length-take-le (c .before .before .put-number3 .result) (c .before .before .put-number3 .last .0) (omega arith))
+slice-aggregate-write-all c =
+    let put-number3 : tie.After-put-number3 = search needs in
+    sym (length-take-le (put-number3 .put-number3 .result) (put-number3 .put-number3 .last .0) (omega arith))
 
 pub print-entry-spec : {M : Type 1} → statement M
 print-entry-spec =

@@ -14,10 +14,14 @@ abbrev μ-loop : tie.MeasureT-loop
 μ-loop line₀ at x after text n k₀ line k = n - k
 
 loop-holds : tie.Need-loop-holds Inv-loop μ-loop
-loop-holds c = (few-digits (c .before .before .before .args .x) (c .decimal .result) (omega arith) (c .decimal .ensures .1 .0), (omega arith, refl))
+loop-holds c =
+    let top : tie.Start Inv-loop μ-loop = search needs in
+    (few-digits (top .args .x) (c .decimal .result) (omega arith) (c .decimal .ensures .1 .0), (omega arith, refl))
 
 loop-again : tie.Need-loop-again Inv-loop μ-loop
-loop-again c = (c .before .loop .inv .0, (omega arith, search needs))
+loop-again c =
+    let loop : tie.At-loop Inv-loop μ-loop = search needs in
+    (loop .loop .inv .0, (omega arith, search needs))
 
 pub put-number-spec : {M : Type 1} → statement M
 put-number-spec =

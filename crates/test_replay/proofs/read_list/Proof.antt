@@ -6,13 +6,21 @@ use Rattle.test_replay.proofs.read_list.Statement.{statement}
 use Rattle.test_replay.proofs.read_list.Tie as tie
 
 slice-aggregate-read-full-2 : tie.Need-slice-aggregate-read-full-2
-slice-aggregate-read-full-2 c = lent-length (2 * c .before .before .short-at .result) 8192 (omega arith)
+slice-aggregate-read-full-2 c =
+    let short-at : tie.After-short-at = search needs in
+    lent-length (2 * short-at .short-at .result) 8192 (omega arith)
 
 slice-aggregate-decode : tie.Need-slice-aggregate-decode
-slice-aggregate-decode c = back-length (2 * c .before .before .before .before .before .before .short-at .result) 8192 (c .before .before .before .read-full2 .last .1 .0) (omega arith) (c .before .before .before .read-full2 .kept .1 .0)
+slice-aggregate-decode c =
+    let read-full2 : tie.After-read-full2 = search needs in
+    let short-at : tie.After-short-at = search needs in
+    back-length (2 * short-at .short-at .result) 8192 (read-full2 .read-full2 .last .1 .0) (omega arith) (read-full2 .read-full2 .kept .1 .0)
 
 decode-requires : tie.Need-decode-requires
-decode-requires c κs = let b = back-length (2 * c .before .before .before .before .before .before .before .short-at .result) 8192 (c .before .before .before .before .read-full2 .last .1 .0) (omega arith) (c .before .before .before .before .read-full2 .kept .1 .0) in (omega (arith, b), omega arith)
+decode-requires c κs =
+    let read-full2 : tie.After-read-full2 = search needs in
+    let short-at : tie.After-short-at = search needs in
+    let b = back-length (2 * short-at .short-at .result) 8192 (read-full2 .read-full2 .last .1 .0) (omega arith) (read-full2 .read-full2 .kept .1 .0) in (omega (arith, b), omega arith)
 
 pub read-list-spec : {M : Type 1} → statement M
 read-list-spec =

@@ -23,16 +23,20 @@ same-length c = search needs
 
 returns : tie.Need-returns
 returns c =
-    let a = c .before .before .before .before .before .before .before .args in
-    (refl, sym (ap (λ b. cond b (a .c) (a .c + 1)) (sym (ap (λ b. b || leb (a .m) (a .j)) (c .before .is-clear .ensures)) ∙ c .if1 .taken)))
+    let is-clear : tie.After-is-clear = search needs in
+    let top : tie.Start = search needs in
+    let a = top .args in
+    (refl, sym (ap (λ b. cond b (a .c) (a .c + 1)) (sym (ap (λ b. b || leb (a .m) (a .j)) (is-clear .is-clear .ensures)) ∙ c .if1 .taken)))
 
 same-length-2 : tie.Need-same-length-2
 same-length-2 c = search needs
 
 returns-2 : tie.Need-returns-2
 returns-2 c =
-    let a = c .before .before .before .before .before .before .before .args in
-    (refl, sym (ap (λ b. cond b (a .c) (a .c + 1)) (sym (ap (λ b. b || leb (a .m) (a .j)) (c .before .is-clear .ensures)) ∙ c .if1 .left)))
+    let is-clear : tie.After-is-clear = search needs in
+    let top : tie.Start = search needs in
+    let a = top .args in
+    (refl, sym (ap (λ b. cond b (a .c) (a .c + 1)) (sym (ap (λ b. b || leb (a .m) (a .j)) (is-clear .is-clear .ensures)) ∙ c .if1 .left)))
 
 pub keep-spec : {M : Type 1} → statement M
 keep-spec =

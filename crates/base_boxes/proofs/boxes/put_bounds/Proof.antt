@@ -6,7 +6,8 @@ use Rattle.base_boxes.proofs.boxes.put_bounds.Tie as tie
 
 returns : tie.Need-returns
 returns c =
-    let a = c .before .before .before .before .before .before .args in
+    let top : tie.Start = search needs in
+    let a = top .args in
     let e = c .triangle-box .ensures in (
       ap (λ b. set (a .lefts .now) (a .i) (b .left)) e,
       (

@@ -22,14 +22,16 @@ abbrev μ-loop : tie.MeasureT-loop
 
 loop-holds : tie.Need-loop-holds Inv-loop μ-loop
 loop-holds c =
-    let a = c .before .before .before .before .before .args in
+    let top : tie.Start Inv-loop μ-loop = search needs in
+    let a = top .args in
     ((omega arith, ((refl, refl), (refl, refl))), boxes-none (a .table .now) (a .lefts .now) (a .tops .now) (a .rights .now) (a .bottoms .now))
 
 put-bounds-requires : tie.Need-put-bounds-requires Inv-loop μ-loop
 put-bounds-requires c κs =
-    let top = c .before .before .before .before .before .before .before .before .before .before .before in
+    let loop : tie.At-loop Inv-loop μ-loop = search needs in
+    let top : tie.Start Inv-loop μ-loop = search needs in
     let a = top .args in
-    let l = c .before .before .before .before .before .loop in
+    let l = loop .loop in
     let s = l .inv .0 .1 in (
       omega arith,
       places-fewer _ _ _ _ (l .i + 1) (a .n) (omega arith)
@@ -42,13 +44,19 @@ add-i c = search needs
 loop-less : tie.Need-loop-less Inv-loop μ-loop
 loop-less c = search needs
 
+-- an earlier place, found from a later one
+abbrev loop-to-top : tie.At-loop Inv-loop μ-loop → tie.Start Inv-loop μ-loop
+loop-to-top c = search needs
+
 loop-again : tie.Need-loop-again Inv-loop μ-loop
 loop-again c =
-    let top = c .before .before .before .before .before .before .before .before .before .before .before .before .before .before .before .before .before .before .before .before in
+    let put-bounds : tie.After-put-bounds Inv-loop μ-loop = search needs in
+    let loop : tie.At-loop Inv-loop μ-loop = search needs in
+    let top = loop-to-top loop in
     let a = top .args in
-    let l = c .before .before .before .before .before .before .before .before .before .before .before .before .before .before .loop in
+    let l = loop .loop in
     let s = l .inv .0 .1 in
-    let e = c .before .before .before .before .before .before .before .before .put-bounds .ensures in
+    let e = put-bounds .put-bounds .ensures in
     let d = triangleBox (triangleAt (a .table .now) (l .i)) in
     let room = places-fewer _ _ _ _ (l .i + 1) (a .n) (omega arith)
     (places-kept (a .lefts .now) (a .tops .now) (a .rights .now) (a .bottoms .now) (l .lefts) (l .tops) (l .rights) (l .bottoms) (a .n) (s .0 .0) (s .0 .1) (s .1 .0) (s .1 .1) (top .pre .1)) in (
@@ -63,19 +71,29 @@ loop-again c =
     )
 
 same-length : tie.Need-same-length Inv-loop μ-loop
-same-length c = c .before .loop .inv .0 .1 .0 .0
+same-length c =
+    let loop : tie.At-loop Inv-loop μ-loop = search needs in
+    loop .loop .inv .0 .1 .0 .0
 
 same-length-2 : tie.Need-same-length-2 Inv-loop μ-loop
-same-length-2 c = c .before .loop .inv .0 .1 .0 .1
+same-length-2 c =
+    let loop : tie.At-loop Inv-loop μ-loop = search needs in
+    loop .loop .inv .0 .1 .0 .1
 
 same-length-3 : tie.Need-same-length-3 Inv-loop μ-loop
-same-length-3 c = c .before .loop .inv .0 .1 .1 .0
+same-length-3 c =
+    let loop : tie.At-loop Inv-loop μ-loop = search needs in
+    loop .loop .inv .0 .1 .1 .0
 
 same-length-4 : tie.Need-same-length-4 Inv-loop μ-loop
-same-length-4 c = c .before .loop .inv .0 .1 .1 .1
+same-length-4 c =
+    let loop : tie.At-loop Inv-loop μ-loop = search needs in
+    loop .loop .inv .0 .1 .1 .1
 
 returns : tie.Need-returns Inv-loop μ-loop
-returns c = λ k h. c .before .loop .inv .1 k (omega arith)
+returns c =
+    let loop : tie.At-loop Inv-loop μ-loop = search needs in
+    λ k h. loop .loop .inv .1 k (omega arith)
 
 pub put-boxes-spec : {M : Type 1} → statement M
 put-boxes-spec =

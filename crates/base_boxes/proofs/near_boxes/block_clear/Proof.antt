@@ -20,7 +20,8 @@ abbrev μ-loop : tie.MeasureT-loop
 
 loop-holds : tie.Need-loop-holds Inv-loop μ-loop
 loop-holds c =
-    let a = c .before .before .before .before .args in
+    let top : tie.Start Inv-loop μ-loop = search needs in
+    let a = top .args in
     let box = boxAt (a .lefts .now) (a .tops .now) (a .rights .now) (a .bottoms .now) in
     (omega arith, sym (all-below-none (λ n. clear (boundsBox (a .b)) (box (a .j + n)))))
 
@@ -29,9 +30,10 @@ add-is-clear c = search needs
 
 is-clear-requires : tie.Need-is-clear-requires Inv-loop μ-loop
 is-clear-requires c κs =
-    let top = c .before .before .before .before .before .before in
+    let loop : tie.At-loop Inv-loop μ-loop = search needs in
+    let top : tie.Start Inv-loop μ-loop = search needs in
     let a = top .args in
-    places-fewer (a .lefts .now) (a .tops .now) (a .rights .now) (a .bottoms .now) (a .j + c .before .loop .k + 1) (a .j + blockSize) (omega arith) (top .pre)
+    places-fewer (a .lefts .now) (a .tops .now) (a .rights .now) (a .bottoms .now) (a .j + loop .loop .k + 1) (a .j + blockSize) (omega arith) (top .pre)
 
 add-k : tie.Need-add-k Inv-loop μ-loop
 add-k c = search needs
@@ -41,16 +43,20 @@ loop-less c = search needs
 
 loop-again : tie.Need-loop-again Inv-loop μ-loop
 loop-again c =
-    let a = c .before .before .before .before .before .before .before .args in
-    let l = c .before .before .loop in
+    let loop : tie.At-loop Inv-loop μ-loop = search needs in
+    let top : tie.Start Inv-loop μ-loop = search needs in
+    let a = top .args in
+    let l = loop .loop in
     let box = boxAt (a .lefts .now) (a .tops .now) (a .rights .now) (a .bottoms .now) in
     (omega arith, all-below-step (λ n. clear (boundsBox (a .b)) (box (a .j + n))) (l .k) (l .inv .1) (c .is-clear .ensures))
 
 returns : tie.Need-returns Inv-loop μ-loop
 returns c =
-    let a = c .before .before .before .before .before .before .args in
+    let loop : tie.At-loop Inv-loop μ-loop = search needs in
+    let top : tie.Start Inv-loop μ-loop = search needs in
+    let a = top .args in
     let box = boxAt (a .lefts .now) (a .tops .now) (a .rights .now) (a .bottoms .now) in
-    c .before .loop .inv .1 ∙ ap (λ k. all (λ n. clear (boundsBox (a .b)) (box (a .j + n))) (upTo k)) (omega arith)
+    loop .loop .inv .1 ∙ ap (λ k. all (λ n. clear (boundsBox (a .b)) (box (a .j + n))) (upTo k)) (omega arith)
 
 pub block-clear-spec : {M : Type 1} → statement M
 block-clear-spec =

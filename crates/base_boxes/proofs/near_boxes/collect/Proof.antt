@@ -19,14 +19,15 @@ abbrev μ-loop : tie.MeasureT-loop
 
 loop-holds : tie.Need-loop-holds Inv-loop μ-loop
 loop-holds c =
-    let top = c .before .before .before .before .before in
+    let top : tie.Start Inv-loop μ-loop = search needs in
     ((top .pre .0 .1 .0, refl), top .pre .1)
 
 keep-requires : tie.Need-keep-requires Inv-loop μ-loop
 keep-requires c κs =
-    let top = c .before .before .before .before .before .before .before .before in
+    let loop : tie.At-loop Inv-loop μ-loop = search needs in
+    let top : tie.Start Inv-loop μ-loop = search needs in
     let a = top .args in
-    let l = c .before .before .loop in (
+    let l = loop .loop in (
       places-fewer (a .lefts .now) (a .tops .now) (a .rights .now) (a .bottoms .now) (l .k + 1) (a .m) (omega arith) (top .pre .0 .0),
       omega (arith, l .inv .1 .few),
     )
@@ -37,23 +38,34 @@ add-k c = search needs
 loop-less : tie.Need-loop-less Inv-loop μ-loop
 loop-less c = search needs
 
+-- an earlier place, found from a later one
+abbrev loop-to-top : tie.At-loop Inv-loop μ-loop → tie.Start Inv-loop μ-loop
+loop-to-top c = search needs
+
 loop-again : tie.Need-loop-again Inv-loop μ-loop
 loop-again c =
-    let a = c .before .before .before .before .before .before .before .before .before .before .before .args in
-    let l = c .before .before .before .before .before .loop in
-    let call = c .before .before .keep in (
+    let keep : tie.After-keep Inv-loop μ-loop = search needs in
+    let loop : tie.At-loop Inv-loop μ-loop = search needs in
+    let top = loop-to-top loop in
+    let a = top .args in
+    let l = loop .loop in
+    let call = keep .keep in (
       (omega arith, set-length (l .near) _ (l .n) (l .k) _ (call .ensures .0) (l .inv .0 .1)),
       near-more (boundsBox (a .b)) (boxAt (a .lefts .now) (a .tops .now) (a .rights .now) (a .bottoms .now)) (l .inv .1) (a .m) (omega arith) _
           (call .result) (omega (arith, l .inv .1 .few)) (call .ensures .0) (call .ensures .1),
     )
 
 same-length : tie.Need-same-length Inv-loop μ-loop
-same-length c = c .before .loop .inv .0 .1
+same-length c =
+    let loop : tie.At-loop Inv-loop μ-loop = search needs in
+    loop .loop .inv .0 .1
 
 returns : tie.Need-returns Inv-loop μ-loop
 returns c =
-    let a = c .before .before .before .before .before .before .before .args in
-    let l = c .before .loop in
+    let loop : tie.At-loop Inv-loop μ-loop = search needs in
+    let top : tie.Start Inv-loop μ-loop = search needs in
+    let a = top .args in
+    let l = loop .loop in
     let e : l .k ≡ a .m = omega arith in
     (subst (λ x. Near (boundsBox (a .b)) (boxAt (a .lefts .now) (a .tops .now) (a .rights .now) (a .bottoms .now)) (l .near) x (l .n)) e (l .inv .1), l .inv .0 .1)
 

@@ -19,7 +19,8 @@ abbrev μ-loop : tie.MeasureT-loop
 
 loop-holds : tie.Need-loop-holds Inv-loop μ-loop
 loop-holds c =
-    let a = c .before .before .before .before .before .args in
+    let top : tie.Start Inv-loop μ-loop = search needs in
+    let a = top .args in
     ((omega arith, refl), kept-none (λ k. boxesOverlap (boundsBox (a .b)) (boxAt (a .lefts .now) (a .tops .now) (a .rights .now) (a .bottoms .now)) k) (a .near .now))
 
 sub-loop : tie.Need-sub-loop Inv-loop μ-loop
@@ -27,9 +28,10 @@ sub-loop c = search needs
 
 collect-block-requires : tie.Need-collect-block-requires Inv-loop μ-loop
 collect-block-requires c κs =
-    let top = c .before .before .before .before .before .before .before .before in
+    let loop : tie.At-loop Inv-loop μ-loop = search needs in
+    let top : tie.Start Inv-loop μ-loop = search needs in
     let a = top .args in
-    let l = c .before .before .loop in
+    let l = loop .loop in
     ((places-fewer (a .lefts .now) (a .tops .now) (a .rights .now) (a .bottoms .now) (l .j + blockSize) (a .i) (omega arith) (top .pre .0), omega arith), l .inv .1)
 
 add-j : tie.Need-add-j Inv-loop μ-loop
@@ -40,21 +42,30 @@ loop-less c = omega arith
 
 loop-again : tie.Need-loop-again Inv-loop μ-loop
 loop-again c =
-    let call = c .before .before .collect-block .ensures in
-    ((omega arith, call .1 ∙ c .before .before .before .before .before .loop .inv .0 .1), call .0)
+    let collect-block : tie.After-collect-block Inv-loop μ-loop = search needs in
+    let loop : tie.At-loop Inv-loop μ-loop = search needs in
+    let call = collect-block .collect-block .ensures in
+    ((omega arith, call .1 ∙ loop .loop .inv .0 .1), call .0)
 
 collect-requires : tie.Need-collect-requires Inv-loop μ-loop
 collect-requires c κs =
-    let l = c .before .before .loop in
-    ((c .before .before .before .before .before .before .before .before .pre .0, (omega arith, omega arith)), l .inv .1)
+    let loop : tie.At-loop Inv-loop μ-loop = search needs in
+    let top : tie.Start Inv-loop μ-loop = search needs in
+    let l = loop .loop in
+    ((top .pre .0, (omega arith, omega arith)), l .inv .1)
 
 same-length : tie.Need-same-length Inv-loop μ-loop
-same-length c = c .before .before .collect .ensures .1 ∙ c .before .before .before .before .before .loop .inv .0 .1
+same-length c =
+    let collect : tie.After-collect Inv-loop μ-loop = search needs in
+    let loop : tie.At-loop Inv-loop μ-loop = search needs in
+    collect .collect .ensures .1 ∙ loop .loop .inv .0 .1
 
 returns : tie.Need-returns Inv-loop μ-loop
 returns c =
-    let call = c .before .before .collect .ensures in
-    (call .0, call .1 ∙ c .before .before .before .before .before .loop .inv .0 .1)
+    let collect : tie.After-collect Inv-loop μ-loop = search needs in
+    let loop : tie.At-loop Inv-loop μ-loop = search needs in
+    let call = collect .collect .ensures in
+    (call .0, call .1 ∙ loop .loop .inv .0 .1)
 
 pub collect-before-spec : {M : Type 1} → statement M
 collect-before-spec =

@@ -8,10 +8,11 @@ use Rattle.base_boxes.proofs.near_boxes.collect_block.Tie as tie
 
 returns : tie.Need-returns
 returns c =
-    let top = c .before .before .before .before .before .before .before in
+    let block-clear : tie.After-block-clear = search needs in
+    let top : tie.Start = search needs in
     let a = top .args in (
       near-block (boundsBox (a .b)) (boxAt (a .lefts .now) (a .tops .now) (a .rights .now) (a .bottoms .now)) (top .pre .1) blockSize
-          (sym (c .before .block-clear .ensures) ∙ c .if1 .taken),
+          (sym (block-clear .block-clear .ensures) ∙ c .if1 .taken),
       refl,
     )
 

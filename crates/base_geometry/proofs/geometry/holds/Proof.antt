@@ -7,7 +7,10 @@ use Rattle.base_geometry.proofs.geometry.holds.Tie as tie
 
 returns : tie.Need-returns
 unfolding holds triangleOf cornerAt
-returns c = ap₂ _&&_ (ap₂ _&&_ (c .before .before .before .before .before .before .is-not-outer .ensures) (c .before .before .before .is-not-outer2 .ensures)) (c .is-not-outer3 .ensures)
+returns c =
+    let is-not-outer2 : tie.After-is-not-outer2 = search needs in
+    let is-not-outer : tie.After-is-not-outer = search needs in
+    ap₂ _&&_ (ap₂ _&&_ (is-not-outer .is-not-outer .ensures) (is-not-outer2 .is-not-outer2 .ensures)) (c .is-not-outer3 .ensures)
 
 pub holds-spec : {M : Type 1} → statement M
 holds-spec =

@@ -7,7 +7,10 @@ use Rattle.base_geometry.proofs.geometry.is_strictly_inside.Tie as tie
 
 returns : tie.Need-returns
 unfolding strictlyInside triangleOf cornerAt
-returns c = ap₂ _&&_ (ap₂ _&&_ (c .before .before .before .before .before .before .is-inner .ensures) (c .before .before .before .is-inner2 .ensures)) (c .is-inner3 .ensures)
+returns c =
+    let is-inner2 : tie.After-is-inner2 = search needs in
+    let is-inner : tie.After-is-inner = search needs in
+    ap₂ _&&_ (ap₂ _&&_ (is-inner .is-inner .ensures) (is-inner2 .is-inner2 .ensures)) (c .is-inner3 .ensures)
 
 pub is-strictly-inside-spec : {M : Type 1} → statement M
 is-strictly-inside-spec =

@@ -7,8 +7,9 @@ use Rattle.base_geometry.proofs.geometry.rotated.Tie as tie
 returns : tie.Need-returns
 unfolding rotated cornerAt
 returns c =
-    let t = c .before .before .before .args .t1 in
-    let i = c .before .before .before .args .i in
+    let top : tie.Start = search needs in
+    let t = top .args .t1 in
+    let i = top .args .i in
     rw (mod-add i 1, mod-add i 2)
 
 pub rotated-spec : {M : Type 1} → statement M

@@ -17,8 +17,10 @@ no-side-separates-requires c κs = search needs
 returns : tie.Need-returns
 unfolding interiorsMeet
 returns c =
-    let a = c .before .before .args in
-    let first = c .before .no-side-separates in
+    let no-side-separates : tie.After-no-side-separates = search needs in
+    let top : tie.Start = search needs in
+    let a = top .args in
+    let first = no-side-separates .no-side-separates in
     first-fails (noSideSeparates (triangleOf (a .t)) (triangleOf (a .s))) (sym (not-true (first .result) (c .if1 .taken)) ∙ first .ensures)
 
 no-side-separates-requires-2 : tie.Need-no-side-separates-requires-2
@@ -27,8 +29,10 @@ no-side-separates-requires-2 c κs = search needs
 returns-2 : tie.Need-returns-2
 unfolding interiorsMeet
 returns-2 c =
-    let first = c .before .before .no-side-separates in
-    ap₂ _&&_ (sym (not-false (first .result) (c .before .if1 .left)) ∙ first .ensures) (c .no-side-separates2 .ensures)
+    let else1 : tie.Else1 = search needs in
+    let no-side-separates : tie.After-no-side-separates = search needs in
+    let first = no-side-separates .no-side-separates in
+    ap₂ _&&_ (sym (not-false (first .result) (else1 .if1 .left)) ∙ first .ensures) (c .no-side-separates2 .ensures)
 
 pub interiors-meet-spec : {M : Type 1} → statement M
 interiors-meet-spec =

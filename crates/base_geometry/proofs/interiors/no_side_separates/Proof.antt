@@ -26,9 +26,11 @@ some-corner-inner-requires c κs = search needs
 returns : tie.Need-returns
 unfolding noSideSeparates triangleOf cornerAt
 returns c =
-    let s = triangleOf (c .before .before .before .before .args .t1) in
-    let t = triangleOf (c .before .before .before .before .args .t) in
-    let first = c .before .some-corner-inner in
+    let some-corner-inner : tie.After-some-corner-inner = search needs in
+    let top : tie.Start = search needs in
+    let s = triangleOf (top .args .t1) in
+    let t = triangleOf (top .args .t) in
+    let first = some-corner-inner .some-corner-inner in
     first-fails (someCornerInner (s .b) (s .c) t) (someCornerInner (s .c) (s .a) t) (sym (not-true (first .result) (c .if1 .taken)) ∙ first .ensures)
 
 array-copy-out-some-corner-inner-3 : tie.Need-array-copy-out-some-corner-inner-3
@@ -43,11 +45,15 @@ some-corner-inner-requires-2 c κs = search needs
 returns-2 : tie.Need-returns-2
 unfolding noSideSeparates triangleOf cornerAt
 returns-2 c =
-    let s = triangleOf (c .before .before .before .before .before .before .before .before .args .t1) in
-    let t = triangleOf (c .before .before .before .before .before .before .before .before .args .t) in
-    let first = c .before .before .before .before .before .some-corner-inner in
-    let second = c .before .some-corner-inner2 in
-    second-fails (someCornerInner (s .c) (s .a) t) (sym (not-false (first .result) (c .before .before .before .before .if1 .left)) ∙ first .ensures)
+    let some-corner-inner2 : tie.After-some-corner-inner2 = search needs in
+    let else1 : tie.Else1 = search needs in
+    let some-corner-inner : tie.After-some-corner-inner = search needs in
+    let top : tie.Start = search needs in
+    let s = triangleOf (top .args .t1) in
+    let t = triangleOf (top .args .t) in
+    let first = some-corner-inner .some-corner-inner in
+    let second = some-corner-inner2 .some-corner-inner2 in
+    second-fails (someCornerInner (s .c) (s .a) t) (sym (not-false (first .result) (else1 .if1 .left)) ∙ first .ensures)
     (sym (not-true (second .result) (c .if2 .taken)) ∙ second .ensures)
 
 array-copy-out-some-corner-inner-5 : tie.Need-array-copy-out-some-corner-inner-5
@@ -62,11 +68,15 @@ some-corner-inner-requires-3 c κs = search needs
 returns-3 : tie.Need-returns-3
 unfolding noSideSeparates triangleOf cornerAt
 returns-3 c =
-    let first = c .before .before .before .before .before .before .before .before .some-corner-inner in
-    let second = c .before .before .before .before .some-corner-inner2 in
+    let else2 : tie.Else2 = search needs in
+    let some-corner-inner2 : tie.After-some-corner-inner2 = search needs in
+    let else1 : tie.Else1 = search needs in
+    let some-corner-inner : tie.After-some-corner-inner = search needs in
+    let first = some-corner-inner .some-corner-inner in
+    let second = some-corner-inner2 .some-corner-inner2 in
     ap₂ _&&_
-    (ap₂ _&&_ (sym (not-false (first .result) (c .before .before .before .before .before .before .before .if1 .left)) ∙ first .ensures)
-    (sym (not-false (second .result) (c .before .before .before .if2 .left)) ∙ second .ensures))
+    (ap₂ _&&_ (sym (not-false (first .result) (else1 .if1 .left)) ∙ first .ensures)
+    (sym (not-false (second .result) (else2 .if2 .left)) ∙ second .ensures))
     (c .some-corner-inner3 .ensures)
 
 pub no-side-separates-spec : {M : Type 1} → statement M

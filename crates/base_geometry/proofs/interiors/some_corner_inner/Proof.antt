@@ -8,7 +8,10 @@ use Rattle.base_geometry.proofs.interiors.some_corner_inner.Tie as tie
 
 returns : tie.Need-returns
 unfolding someCornerInner triangleOf cornerAt
-returns c = ap₂ _||_ (ap₂ _||_ (c .before .before .before .before .is-inner .ensures) (c .before .before .is-inner2 .ensures)) (c .is-inner3 .ensures)
+returns c =
+    let is-inner2 : tie.After-is-inner2 = search needs in
+    let is-inner : tie.After-is-inner = search needs in
+    ap₂ _||_ (ap₂ _||_ (is-inner .is-inner .ensures) (is-inner2 .is-inner2 .ensures)) (c .is-inner3 .ensures)
 
 pub some-corner-inner-spec : {M : Type 1} → statement M
 some-corner-inner-spec =

@@ -8,7 +8,8 @@ orientation-requires c κs = search needs
 
 returns : tie.Need-returns
 returns c =
-    let d = c .before .orientation in
+    let orientation : tie.After-orientation = search needs in
+    let d = orientation .orientation in
     sums-nonneg (d .result .high) (d .result .low) (d .ensures .0)
 
 pub is-not-outer-spec : {M : Type 1} → statement M

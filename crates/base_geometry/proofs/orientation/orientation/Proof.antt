@@ -7,10 +7,16 @@ use Rattle.base_geometry.proofs.orientation.orientation.Tie as tie
 
 returns : tie.Need-returns
 returns c =
-    let a = c .before .before .before .before .before .before .args in (
+    let product5 : tie.After-product5 = search needs in
+    let product4 : tie.After-product4 = search needs in
+    let product3 : tie.After-product3 = search needs in
+    let product2 : tie.After-product2 = search needs in
+    let product : tie.After-product = search needs in
+    let top : tie.Start = search needs in
+    let a = top .args in (
       sums-orient (a .p) (a .q) (a .r)
-          (ap₂ _+_ (ap₂ _+_ (c .before .before .before .before .before .product .ensures .0) (c .before .before .before .before .product2 .ensures .0)) (c .before .before .before .product3 .ensures .0))
-          (ap₂ _+_ (ap₂ _+_ (c .before .before .product4 .ensures .0) (c .before .product5 .ensures .0)) (c .product6 .ensures .0)),
+          (ap₂ _+_ (ap₂ _+_ (product .product .ensures .0) (product2 .product2 .ensures .0)) (product3 .product3 .ensures .0))
+          (ap₂ _+_ (ap₂ _+_ (product4 .product4 .ensures .0) (product5 .product5 .ensures .0)) (c .product6 .ensures .0)),
       (search needs, search needs),
     )
 

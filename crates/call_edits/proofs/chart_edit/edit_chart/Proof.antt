@@ -29,12 +29,20 @@ abbrev kept : tie.Start → Changed → Calls·Changed
 kept c r = let a = c .args in changedOf r (a .table .now) (a .keys .now) (a .levels .now) (a .items .now)
 
 -- nothing is against the chart
-judged : (c : tie.After-enum-told) → done true ≡ ifIndexed (chart (c .before .before .before .before .before .before .before .before .before .before .before)) (done true)
-judged c = sym (ap judgedOutcome (c .enum-told .given .1)) ∙ c .before .before .judge-edit .ensures
+judged : (c : tie.After-enum-told) →
+    let top : tie.Start = search needs in
+    done true ≡ ifIndexed (chart top) (done true)
+judged c =
+    let judge-edit : tie.After-judge-edit = search needs in
+    sym (ap judgedOutcome (c .enum-told .given .1)) ∙ judge-edit .judge-edit .ensures
 
 -- so it is long enough and holds to the chain rule
-fine : (c : tie.After-enum-told) → let chart = chart (c .before .before .before .before .before .before .before .before .before .before .before) in (tooShort chart ≡ false) × (chainRule chart ≡ true)
-fine c = let p = indexed-passed (chart (c .before .before .before .before .before .before .before .before .before .before .before)) (judged c) in (p .0, p .1 .0)
+fine : (c : tie.After-enum-told) →
+    let top : tie.Start = search needs in
+    let chart = chart top in (tooShort chart ≡ false) × (chainRule chart ≡ true)
+fine c =
+    let top : tie.Start = search needs in
+    let p = indexed-passed (chart top) (judged c) in (p .0, p .1 .0)
 
 judge-edit-requires : tie.Need-judge-edit-requires
 judge-edit-requires c κs = search needs
@@ -45,11 +53,19 @@ enum-told c = search needs
 slice-aggregate-edit-table : tie.Need-slice-aggregate-edit-table
 slice-aggregate-edit-table c = search needs
 
+-- an earlier place, found from a later one
+abbrev enum-told-to-top : tie.After-enum-told → tie.Start
+enum-told-to-top c = search needs
+
+abbrev judge-edit-to-top : tie.After-judge-edit → tie.Start
+judge-edit-to-top c = search needs
+
 edit-table-requires : tie.Need-edit-table-requires
 unfolding chartTable
 edit-table-requires c κs =
-    let d = c .before .before in
-    let h = rule-held (chart (c .before .before .before .before .before .before .before .before .before .before .before .before .before)) (fine d .0) (fine d .1) in
+    let d : tie.After-enum-told = search needs in
+    let top = enum-told-to-top d in
+    let h = rule-held (chart top) (fine d .0) (fine d .1) in
     (h .few, (h .room, omega arith))
 
 slice-aggregate-finish : tie.Need-slice-aggregate-finish
@@ -58,9 +74,9 @@ slice-aggregate-finish c = search needs
 finish-requires : tie.Need-finish-requires
 unfolding chartTable
 finish-requires c κs =
-    let s = c .before .before .before .before .before .before in
-    let d = c .before .before .before .before .before .before .before .before .before in
-    let top = c .before .before .before .before .before .before .before .before .before .before .before .before .before .before .before .before .before .before .before .before in
+    let s : tie.After-edit-table = search needs in
+    let d : tie.After-enum-told = search needs in
+    let top = enum-told-to-top d in
     let good = made-proper (chart top) (fine d .1) (tableEdit (top .args .edit)) (edit-keeps (top .args .edit)) (s .edit-table .result) (s .edit-table .last .1 .1 .1 .0) (s .edit-table .ensures .0) in
     (((s .edit-table .ensures .1, omega arith), good), fine d .0)
 
@@ -79,10 +95,13 @@ same-length-4 c = search needs
 returns : tie.Need-returns
 unfolding chartTable
 returns c =
-    let top = c .before .before .before .before .before .before .before .before .before .before .before .before .before .before .before .before .before .before .before .before .before .before .before .before .before .before .before .before .before in
-    c .before .before .before .before .before .before .before .before .finish .ensures
-    ∙ ap (λ o. changedBy (chart top) (andThen o (λ t. withinLimit t))) (c .before .before .before .before .before .before .before .before .before .before .before .before .before .before .before .edit-table .ensures .0)
-    ∙ edit-judged (chart top) (tableEdit (top .args .edit)) (judged (c .before .before .before .before .before .before .before .before .before .before .before .before .before .before .before .before .before .before))
+    let finish : tie.After-finish = search needs in
+    let edit-table : tie.After-edit-table = search needs in
+    let enum-told : tie.After-enum-told = search needs in
+    let top = enum-told-to-top enum-told in
+    finish .finish .ensures
+    ∙ ap (λ o. changedBy (chart top) (andThen o (λ t. withinLimit t))) (edit-table .edit-table .ensures .0)
+    ∙ edit-judged (chart top) (tableEdit (top .args .edit)) (judged enum-told)
 
 judged-change-requires : tie.Need-judged-change-requires
 judged-change-requires c κs = search needs
@@ -104,9 +123,12 @@ same-length-8 c = search needs
 
 returns-2 : tie.Need-returns-2
 returns-2 c =
-    let top = c .before .before .before .before .before .before .before .before .before .before .before .before in
-    ap (kept top) (c .refused .ensures) ∙ ap (answered (chart top)) (c .before .judged-change .ensures)
-    ∙ judged-refused (chart top) (tableEdit (top .args .edit)) (c .before .before .before .judge-edit .result) (c .before .before .match .keys2) (c .before .before .before .judge-edit .ensures)
+    let judged-change : tie.After-judged-change = search needs in
+    let at-keys2 : tie.At-match-keys2 = search needs in
+    let judge-edit : tie.After-judge-edit = search needs in
+    let top = judge-edit-to-top judge-edit in
+    ap (kept top) (c .refused .ensures) ∙ ap (answered (chart top)) (judged-change .judged-change .ensures)
+    ∙ judged-refused (chart top) (tableEdit (top .args .edit)) (judge-edit .judge-edit .result) (at-keys2 .match .keys2) (judge-edit .judge-edit .ensures)
 
 pub edit-chart-spec : {M : Type 1} → statement M
 edit-chart-spec =

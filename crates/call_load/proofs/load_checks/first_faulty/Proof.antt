@@ -29,11 +29,15 @@ is-proper-requires c κs = search needs
 returns : tie.Need-returns Inv-loop μ-loop
 unfolding triangleOf cornerAt
 returns c =
-    let a = c .before .before .before .before .before .before .args in
-    let l = c .before .before .before .before .loop in
+    let is-proper : tie.After-is-proper Inv-loop μ-loop = search needs in
+    let triangle-at : tie.After-triangle-at Inv-loop μ-loop = search needs in
+    let loop : tie.At-loop Inv-loop μ-loop = search needs in
+    let top : tie.Start Inv-loop μ-loop = search needs in
+    let a = top .args in
+    let l = loop .loop in
     faulty-found (a .table .now) (a .n) (l .i) (l .inv .0) (l .inv .1) (λ h.
-    sym (c .before .is-proper .ensures ∙ ap (λ t. proper (triangleOf t)) (c .before .before .triangle-at .ensures))
-    ∙ not-true (c .before .is-proper .result) (c .if1 .taken))
+    sym (is-proper .is-proper .ensures ∙ ap (λ t. proper (triangleOf t)) (triangle-at .triangle-at .ensures))
+    ∙ not-true (is-proper .is-proper .result) (c .if1 .taken))
 
 add-i : tie.Need-add-i Inv-loop μ-loop
 add-i c = search needs
@@ -44,17 +48,22 @@ loop-less c = search needs
 loop-again : tie.Need-loop-again Inv-loop μ-loop
 unfolding triangleOf cornerAt
 loop-again c =
-    let l = c .before .before .before .before .loop in
+    let is-proper : tie.After-is-proper Inv-loop μ-loop = search needs in
+    let triangle-at : tie.After-triangle-at Inv-loop μ-loop = search needs in
+    let loop : tie.At-loop Inv-loop μ-loop = search needs in
+    let l = loop .loop in
     let here =
-    sym (c .before .is-proper .ensures ∙ ap (λ t. proper (triangleOf t)) (c .before .before .triangle-at .ensures))
-    ∙ not-false (c .before .is-proper .result) (c .if1 .left)
+    sym (is-proper .is-proper .ensures ∙ ap (λ t. proper (triangleOf t)) (triangle-at .triangle-at .ensures))
+    ∙ not-false (is-proper .is-proper .result) (c .if1 .left)
     in
     (omega arith, below-more _ (l .i) (l .inv .1) here)
 
 returns-2 : tie.Need-returns-2 Inv-loop μ-loop
 returns-2 c =
-    let a = c .before .before .before .args in
-    let l = c .before .loop in
+    let loop : tie.At-loop Inv-loop μ-loop = search needs in
+    let top : tie.Start Inv-loop μ-loop = search needs in
+    let a = top .args in
+    let l = loop .loop in
     let e : a .n ≡ l .i = omega arith in
     e ∙ faulty-found (a .table .now) (a .n) (l .i) (l .inv .0) (l .inv .1) (λ h. absurd (omega arith))
 

@@ -2,7 +2,8 @@ use mathlib.Core.Path.{sym, _∙_, ap}
 use mathlib.Core.Bool.{Bool, true}
 use native.Mathlib.Omega.{arith}
 use borrow.Author.Needs.{needs}
-use Rattle.spec_charts.specs.Refusals.{Outcome, faultyTriangle, refused, done, andThen}
+use Rattle.spec_charts.specs.declared.Refusal.the-variants.{FaultyTriangle}
+use Rattle.spec_charts.specs.Refusals.{Outcome, refused, done, andThen}
 use Rattle.spec_charts.specs.Table.{Table}
 use Rattle.spec_charts.specs.Edits.{givenTable}
 use Rattle.call_load.proofs.GivenLaws.{given-length, given-faulty, given-done}
@@ -15,7 +16,9 @@ judged o = andThen o (λ t. done true)
 
 returns : tie.Need-returns
 unfolding andThen
-returns c = sym (ap judged (given-length (c .before .before .args .given .now) (c .if1 .taken)))
+returns c =
+    let top : tie.Start = search needs in
+    sym (ap judged (given-length (top .args .given .now) (c .if1 .taken)))
 
 first-faulty-requires : tie.Need-first-faulty-requires
 first-faulty-requires c κs = search needs
@@ -23,17 +26,21 @@ first-faulty-requires c κs = search needs
 returns-2 : tie.Need-returns-2
 unfolding andThen givenTable
 returns-2 c =
-    let f = c .before in
+    let f : tie.After-first-faulty = search needs in
+    let else1 : tie.Else1 = search needs in
+    let top : tie.Start = search needs in
     let e = f .first-faulty .ensures in
-    ap (λ i. refused (faultyTriangle i)) e
-    ∙ sym (ap judged (given-faulty (f .before .before .before .args .given .now) (f .before .if1 .left) (omega (arith, e, c .if2 .taken))))
+    ap (λ i. refused (FaultyTriangle i)) e
+    ∙ sym (ap judged (given-faulty (top .args .given .now) (else1 .if1 .left) (omega (arith, e, c .if2 .taken))))
 
 returns-3 : tie.Need-returns-3
 unfolding andThen givenTable
 returns-3 c =
-    let f = c .before in
+    let f : tie.After-first-faulty = search needs in
+    let else1 : tie.Else1 = search needs in
+    let top : tie.Start = search needs in
     let e = f .first-faulty .ensures in
-    sym (ap judged (given-done (f .before .before .before .args .given .now) (f .before .if1 .left) (omega (arith, e, c .if2 .left))))
+    sym (ap judged (given-done (top .args .given .now) (else1 .if1 .left) (omega (arith, e, c .if2 .left))))
 
 pub judge-given-spec : {M : Type 1} → statement M
 judge-given-spec = tie.close (tie.spec returns first-faulty-requires returns-2 returns-3)

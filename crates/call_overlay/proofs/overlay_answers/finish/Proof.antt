@@ -1,6 +1,5 @@
 use native.Mathlib.Omega.{arith}
 use borrow.Author.Needs.{needs}
-use Rattle.spec_charts.specs.Refusals.{outcomeNumber}
 use Rattle.call_overlay.proofs.FinishLaws.{finish-over, finish-done}
 use Rattle.call_overlay.proofs.overlay_answers.finish.Statement.{statement}
 use Rattle.call_overlay.proofs.overlay_answers.finish.Tie as tie
@@ -15,9 +14,10 @@ same-length : tie.Need-same-length
 same-length c = search needs
 
 returns : tie.Need-returns
-unfolding outcomeNumber
 returns c =
-    λ ps before w. finish-over w (c .before .before .before .before .before .before .before .pre .1) (c .before .before .before .before .before .before .before .args .meetings) _ (omega arith) (c .before .before .before .clear-items .ensures) (c .refused .ensures)
+    let clear-items : tie.After-clear-items = search needs in
+    let top : tie.Start = search needs in
+    λ ps before w. finish-over w (top .pre .1) (top .args .meetings) _ (omega arith) (clear-items .clear-items .ensures) (c .refused .ensures)
 
 mul-clear-items : tie.Need-mul-clear-items
 mul-clear-items c = search needs
@@ -29,10 +29,11 @@ same-length-2 : tie.Need-same-length-2
 same-length-2 c = search needs
 
 returns-2 : tie.Need-returns-2
-unfolding outcomeNumber
 returns-2 c =
+    let clear-items2 : tie.After-clear-items2 = search needs in
+    let top : tie.Start = search needs in
     λ ps before w.
-    finish-done w (c .before .before .before .before .before .before .pre .1) (c .before .before .before .before .before .before .args .meetings) _ (omega arith) (c .before .before .clear-items2 .ensures)
+    finish-done w (top .pre .1) (top .args .meetings) _ (omega arith) (clear-items2 .clear-items2 .ensures)
 
 pub finish-spec : {M : Type 1} → statement M
 finish-spec =

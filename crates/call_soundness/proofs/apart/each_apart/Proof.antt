@@ -24,7 +24,8 @@ triangle-at-requires c κs = search needs
 
 loop-holds : tie.Need-loop-holds Inv-loop μ-loop
 loop-holds c =
-    let a = c .before .before .args in
+    let top : tie.Start Inv-loop μ-loop = search needs in
+    let a = top .args in
     ((omega arith, all-below-none (λ n. trianglesApart (a .table .now) (a .i) n)), c .triangle-at .ensures)
 
 triangle-at-requires-2 : tie.Need-triangle-at-requires-2 Inv-loop μ-loop
@@ -36,10 +37,14 @@ interiors-meet-requires c κs = search needs
 returns : tie.Need-returns Inv-loop μ-loop
 unfolding triangleOf cornerAt
 returns c =
-    let a = c .before .before .before .before .before .before .before .args in
-    let l = c .before .before .before .before .loop in
-    let meet = c .before .interiors-meet .ensures
-    ∙ ap₂ (λ s t. interiorsMeet (triangleOf s) (triangleOf t)) (l .inv .1) (c .before .before .triangle-at2 .ensures) in
+    let interiors-meet : tie.After-interiors-meet Inv-loop μ-loop = search needs in
+    let triangle-at2 : tie.After-triangle-at2 Inv-loop μ-loop = search needs in
+    let loop : tie.At-loop Inv-loop μ-loop = search needs in
+    let top : tie.Start Inv-loop μ-loop = search needs in
+    let a = top .args in
+    let l = loop .loop in
+    let meet = interiors-meet .interiors-meet .ensures
+    ∙ ap₂ (λ s t. interiorsMeet (triangleOf s) (triangleOf t)) (l .inv .1) (triangle-at2 .triangle-at2 .ensures) in
     all-below-fails (λ n. trianglesApart (a .table .now) (a .i) n) (a .i) (l .k) (omega arith) (ap not (sym meet ∙ c .if1 .taken))
 
 add-k : tie.Need-add-k Inv-loop μ-loop
@@ -51,10 +56,14 @@ loop-less c = search needs
 loop-again : tie.Need-loop-again Inv-loop μ-loop
 unfolding triangleOf cornerAt
 loop-again c =
-    let a = c .before .before .before .before .before .before .before .args in
-    let l = c .before .before .before .before .loop in
-    let meet = c .before .interiors-meet .ensures
-    ∙ ap₂ (λ s t. interiorsMeet (triangleOf s) (triangleOf t)) (l .inv .1) (c .before .before .triangle-at2 .ensures) in (
+    let interiors-meet : tie.After-interiors-meet Inv-loop μ-loop = search needs in
+    let triangle-at2 : tie.After-triangle-at2 Inv-loop μ-loop = search needs in
+    let loop : tie.At-loop Inv-loop μ-loop = search needs in
+    let top : tie.Start Inv-loop μ-loop = search needs in
+    let a = top .args in
+    let l = loop .loop in
+    let meet = interiors-meet .interiors-meet .ensures
+    ∙ ap₂ (λ s t. interiorsMeet (triangleOf s) (triangleOf t)) (l .inv .1) (triangle-at2 .triangle-at2 .ensures) in (
       (
         omega arith,
         all-below-passes (λ n. trianglesApart (a .table .now) (a .i) n) (l .k) (l .inv .0 .1) (ap not (sym meet ∙ c .if1 .left)),
@@ -64,8 +73,10 @@ loop-again c =
 
 returns-2 : tie.Need-returns-2 Inv-loop μ-loop
 returns-2 c =
-    let a = c .before .before .before .before .args in
-    let l = c .before .loop in
+    let loop : tie.At-loop Inv-loop μ-loop = search needs in
+    let top : tie.Start Inv-loop μ-loop = search needs in
+    let a = top .args in
+    let l = loop .loop in
     sym (l .inv .0 .1) ∙ ap (λ k. all (λ n. trianglesApart (a .table .now) (a .i) n) (upTo k)) (omega arith)
 
 pub each-apart-spec : {M : Type 1} → statement M

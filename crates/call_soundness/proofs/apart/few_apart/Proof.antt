@@ -17,17 +17,22 @@ abbrev μ-loop : tie.MeasureT-loop
 μ-loop table n i₀ i = n - i
 
 loop-holds : tie.Need-loop-holds Inv-loop μ-loop
-loop-holds c = let table = c .before .args .table .now in (omega arith, all-below-none (λ i. all (λ j. trianglesApart table i j) (upTo i)))
+loop-holds c =
+    let top : tie.Start Inv-loop μ-loop = search needs in
+    let table = top .args .table .now in (omega arith, all-below-none (λ i. all (λ j. trianglesApart table i j) (upTo i)))
 
 each-apart-requires : tie.Need-each-apart-requires Inv-loop μ-loop
 each-apart-requires c κs = omega arith
 
 returns : tie.Need-returns Inv-loop μ-loop
 returns c =
-    let a = c .before .before .before .before .before .args in
+    let each-apart : tie.After-each-apart Inv-loop μ-loop = search needs in
+    let loop : tie.At-loop Inv-loop μ-loop = search needs in
+    let top : tie.Start Inv-loop μ-loop = search needs in
+    let a = top .args in
     let table = a .table .now in
-    let call = c .before .each-apart in
-    all-below-fails (λ i. all (λ j. trianglesApart table i j) (upTo i)) (a .n) (c .before .before .before .loop .i) (omega arith)
+    let call = each-apart .each-apart in
+    all-below-fails (λ i. all (λ j. trianglesApart table i j) (upTo i)) (a .n) (loop .loop .i) (omega arith)
     (sym (call .ensures) ∙ not-true (call .result) (c .if1 .taken))
     ∙ sound-below table (a .n)
 
@@ -39,9 +44,12 @@ loop-less c = search needs
 
 loop-again : tie.Need-loop-again Inv-loop μ-loop
 loop-again c =
-    let table = c .before .before .before .before .before .args .table .now in
-    let l = c .before .before .before .loop in
-    let call = c .before .each-apart in (
+    let each-apart : tie.After-each-apart Inv-loop μ-loop = search needs in
+    let loop : tie.At-loop Inv-loop μ-loop = search needs in
+    let top : tie.Start Inv-loop μ-loop = search needs in
+    let table = top .args .table .now in
+    let l = loop .loop in
+    let call = each-apart .each-apart in (
       omega arith,
       all-below-passes (λ i. all (λ j. trianglesApart table i j) (upTo i)) (l .i) (l .inv .1)
           (sym (call .ensures) ∙ not-false (call .result) (c .if1 .left)),
@@ -49,9 +57,11 @@ loop-again c =
 
 returns-2 : tie.Need-returns-2 Inv-loop μ-loop
 returns-2 c =
-    let a = c .before .before .before .args in
+    let loop : tie.At-loop Inv-loop μ-loop = search needs in
+    let top : tie.Start Inv-loop μ-loop = search needs in
+    let a = top .args in
     let table = a .table .now in
-    sym (c .before .loop .inv .1) ∙ ap (λ k. all (λ i. all (λ j. trianglesApart table i j) (upTo i)) (upTo k)) (omega arith)
+    sym (loop .loop .inv .1) ∙ ap (λ k. all (λ i. all (λ j. trianglesApart table i j) (upTo i)) (upTo k)) (omega arith)
     ∙ sound-below table (a .n)
 
 pub few-apart-spec : {M : Type 1} → statement M

@@ -25,7 +25,8 @@ triangle-at-requires c κs = search needs
 
 loop-holds : tie.Need-loop-holds Inv-loop μ-loop
 loop-holds c =
-    let a = c .before .before .before .args in
+    let top : tie.Start Inv-loop μ-loop = search needs in
+    let a = top .args in
     ((omega arith, all-below-none (λ n. trianglesApart (a .table .now) (a .i) (getD (a .near .now) n 0))), c .triangle-at .ensures)
 
 mul-triangle-at : tie.Need-mul-triangle-at Inv-loop μ-loop
@@ -36,20 +37,29 @@ shared-slice-read-triangle-at c = omega arith
 
 triangle-at-requires-2 : tie.Need-triangle-at-requires-2 Inv-loop μ-loop
 triangle-at-requires-2 c κs =
-    let top = c .before .before .before .before .before .before in
-    let below = top .pre .1 .1 (c .before .before .loop .k) (omega arith) in
+    let loop : tie.At-loop Inv-loop μ-loop = search needs in
+    let top : tie.Start Inv-loop μ-loop = search needs in
+    let below = top .pre .1 .1 (loop .loop .k) (omega arith) in
     omega arith
 
 interiors-meet-requires : tie.Need-interiors-meet-requires Inv-loop μ-loop
 interiors-meet-requires c κs = search needs
 
+-- an earlier place, found from a later one
+abbrev loop-to-top : tie.At-loop Inv-loop μ-loop → tie.Start Inv-loop μ-loop
+loop-to-top c = search needs
+
 returns : tie.Need-returns Inv-loop μ-loop
 unfolding triangleOf cornerAt
 returns c =
-    let a = c .before .before .before .before .before .before .before .before .before .args in
-    let l = c .before .before .before .before .before .loop in
-    let meet = c .before .interiors-meet .ensures
-    ∙ ap₂ (λ s t. interiorsMeet (triangleOf s) (triangleOf t)) (l .inv .1) (c .before .before .triangle-at2 .ensures) in
+    let interiors-meet : tie.After-interiors-meet Inv-loop μ-loop = search needs in
+    let triangle-at2 : tie.After-triangle-at2 Inv-loop μ-loop = search needs in
+    let loop : tie.At-loop Inv-loop μ-loop = search needs in
+    let top = loop-to-top loop in
+    let a = top .args in
+    let l = loop .loop in
+    let meet = interiors-meet .interiors-meet .ensures
+    ∙ ap₂ (λ s t. interiorsMeet (triangleOf s) (triangleOf t)) (l .inv .1) (triangle-at2 .triangle-at2 .ensures) in
     all-below-fails (λ n. trianglesApart (a .table .now) (a .i) (getD (a .near .now) n 0)) (a .c) (l .k) (omega arith)
     (ap not (sym meet ∙ c .if1 .taken))
 
@@ -62,10 +72,14 @@ loop-less c = search needs
 loop-again : tie.Need-loop-again Inv-loop μ-loop
 unfolding triangleOf cornerAt
 loop-again c =
-    let a = c .before .before .before .before .before .before .before .before .before .args in
-    let l = c .before .before .before .before .before .loop in
-    let meet = c .before .interiors-meet .ensures
-    ∙ ap₂ (λ s t. interiorsMeet (triangleOf s) (triangleOf t)) (l .inv .1) (c .before .before .triangle-at2 .ensures) in (
+    let interiors-meet : tie.After-interiors-meet Inv-loop μ-loop = search needs in
+    let triangle-at2 : tie.After-triangle-at2 Inv-loop μ-loop = search needs in
+    let loop : tie.At-loop Inv-loop μ-loop = search needs in
+    let top = loop-to-top loop in
+    let a = top .args in
+    let l = loop .loop in
+    let meet = interiors-meet .interiors-meet .ensures
+    ∙ ap₂ (λ s t. interiorsMeet (triangleOf s) (triangleOf t)) (l .inv .1) (triangle-at2 .triangle-at2 .ensures) in (
       (
         omega arith,
         all-below-passes (λ n. trianglesApart (a .table .now) (a .i) (getD (a .near .now) n 0)) (l .k) (l .inv .0 .1)
@@ -76,8 +90,10 @@ loop-again c =
 
 returns-2 : tie.Need-returns-2 Inv-loop μ-loop
 returns-2 c =
-    let a = c .before .before .before .before .before .args in
-    let l = c .before .loop in
+    let loop : tie.At-loop Inv-loop μ-loop = search needs in
+    let top : tie.Start Inv-loop μ-loop = search needs in
+    let a = top .args in
+    let l = loop .loop in
     sym (l .inv .0 .1) ∙ ap (λ k. all (λ n. trianglesApart (a .table .now) (a .i) (getD (a .near .now) n 0)) (upTo k)) (omega arith)
 
 pub near-apart-spec : {M : Type 1} → statement M

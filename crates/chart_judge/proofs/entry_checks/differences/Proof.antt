@@ -21,7 +21,8 @@ abbrev μ-loop : tie.MeasureT-loop
 
 loop-holds : tie.Need-loop-holds Inv-loop μ-loop
 loop-holds c =
-    let a = c .before .before .before .before .args in
+    let top : tie.Start Inv-loop μ-loop = search needs in
+    let a = top .args in
     (search needs, sym (all-below-none (λ k. eqb (getD (a .entries .now) k 0) (packedAt (a .keys .now) (a .levels .now) (a .items .now) k))))
 
 mul-found : tie.Need-mul-found Inv-loop μ-loop
@@ -57,8 +58,10 @@ loop-less c = search needs
 loop-again : tie.Need-loop-again Inv-loop μ-loop
 unfolding entryAt
 loop-again c =
-    let a = c .before .before .before .before .before .before .before .before .before .before .before .args in
-    let l = c .before .before .before .before .before .before .loop in
+    let loop : tie.At-loop Inv-loop μ-loop = search needs in
+    let top : tie.Start Inv-loop μ-loop = search needs in
+    let a = top .args in
+    let l = loop .loop in
     let x = getD (a .entries .now) (l .i) 0 in (
       omega arith,
       or-zero (l .found) _
@@ -69,8 +72,10 @@ loop-again c =
 
 returns : tie.Need-returns Inv-loop μ-loop
 returns c =
-    let a = c .before .before .before .before .before .before .args in
-    let l = c .before .loop in
+    let loop : tie.At-loop Inv-loop μ-loop = search needs in
+    let top : tie.Start Inv-loop μ-loop = search needs in
+    let a = top .args in
+    let l = loop .loop in
     l .inv .1
     ∙ ap (λ m. all (λ k. eqb (getD (a .entries .now) k 0) (packedAt (a .keys .now) (a .levels .now) (a .items .now) k)) (upTo m)) (omega arith)
 

@@ -14,7 +14,9 @@ abbrev μ-loop : tie.MeasureT-loop
 μ-loop entries n items₀ i₀ items i = n - i
 
 loop-holds : tie.Need-loop-holds Inv-loop μ-loop
-loop-holds c = let a = c .before .before .args in copying-start itemOf (a .entries .now) (a .items .now) (a .n)
+loop-holds c =
+    let top : tie.Start Inv-loop μ-loop = search needs in
+    let a = top .args in copying-start itemOf (a .entries .now) (a .items .now) (a .n)
 
 mul-item-of : tie.Need-mul-item-of Inv-loop μ-loop
 mul-item-of c = search needs
@@ -38,7 +40,11 @@ loop-less : tie.Need-loop-less Inv-loop μ-loop
 loop-less c = search needs
 
 loop-again : tie.Need-loop-again Inv-loop μ-loop
-loop-again c = copying-next (c .before .before .before .loop .inv) (c .before .before .loop-test .taken) (c .before .before .before .before .before .before .pre .0) (c .item-of .ensures)
+loop-again c =
+    let in-loop : tie.In-loop Inv-loop μ-loop = search needs in
+    let loop : tie.At-loop Inv-loop μ-loop = search needs in
+    let top : tie.Start Inv-loop μ-loop = search needs in
+    copying-next (loop .loop .inv) (in-loop .loop-test .taken) (top .pre .0) (c .item-of .ensures)
 
 clear-items-requires : tie.Need-clear-items-requires Inv-loop μ-loop
 clear-items-requires c κs = omega arith
@@ -48,8 +54,11 @@ same-length c = search needs
 
 returns : tie.Need-returns Inv-loop μ-loop
 returns c =
-    let p = c .before .before .before .before .before .before .before .before .pre in
-    padded-copy maxEntries (c .before .before .before .before .before .loop .inv) (omega arith) (p .0) (p .1 .0) (p .1 .1) (c .before .before .clear-items .ensures)
+    let clear-items : tie.After-clear-items Inv-loop μ-loop = search needs in
+    let loop : tie.At-loop Inv-loop μ-loop = search needs in
+    let top : tie.Start Inv-loop μ-loop = search needs in
+    let p = top .pre in
+    padded-copy maxEntries (loop .loop .inv) (omega arith) (p .0) (p .1 .0) (p .1 .1) (clear-items .clear-items .ensures)
 
 pub put-items-spec : {M : Type 1} → statement M
 put-items-spec =

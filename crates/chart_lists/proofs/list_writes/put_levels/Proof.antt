@@ -14,7 +14,9 @@ abbrev μ-loop : tie.MeasureT-loop
 μ-loop entries n levels₀ i₀ levels i = n - i
 
 loop-holds : tie.Need-loop-holds Inv-loop μ-loop
-loop-holds c = let a = c .before .before .args in copying-start levelOf (a .entries .now) (a .levels .now) (a .n)
+loop-holds c =
+    let top : tie.Start Inv-loop μ-loop = search needs in
+    let a = top .args in copying-start levelOf (a .entries .now) (a .levels .now) (a .n)
 
 mul-level-of : tie.Need-mul-level-of Inv-loop μ-loop
 mul-level-of c = search needs
@@ -35,7 +37,11 @@ loop-less : tie.Need-loop-less Inv-loop μ-loop
 loop-less c = search needs
 
 loop-again : tie.Need-loop-again Inv-loop μ-loop
-loop-again c = copying-next (c .before .before .before .loop .inv) (c .before .before .loop-test .taken) (c .before .before .before .before .before .before .pre .0) (c .level-of .ensures)
+loop-again c =
+    let in-loop : tie.In-loop Inv-loop μ-loop = search needs in
+    let loop : tie.At-loop Inv-loop μ-loop = search needs in
+    let top : tie.Start Inv-loop μ-loop = search needs in
+    copying-next (loop .loop .inv) (in-loop .loop-test .taken) (top .pre .0) (c .level-of .ensures)
 
 clear-levels-requires : tie.Need-clear-levels-requires Inv-loop μ-loop
 clear-levels-requires c κs = omega arith
@@ -45,8 +51,11 @@ same-length c = search needs
 
 returns : tie.Need-returns Inv-loop μ-loop
 returns c =
-    let p = c .before .before .before .before .before .before .before .before .pre in
-    padded-copy maxEntries (c .before .before .before .before .before .loop .inv) (omega arith) (p .0) (p .1 .0) (p .1 .1) (c .before .before .clear-levels .ensures)
+    let clear-levels : tie.After-clear-levels Inv-loop μ-loop = search needs in
+    let loop : tie.At-loop Inv-loop μ-loop = search needs in
+    let top : tie.Start Inv-loop μ-loop = search needs in
+    let p = top .pre in
+    padded-copy maxEntries (loop .loop .inv) (omega arith) (p .0) (p .1 .0) (p .1 .1) (clear-levels .clear-levels .ensures)
 
 pub put-levels-spec : {M : Type 1} → statement M
 put-levels-spec =

@@ -17,7 +17,9 @@ abbrev μ-loop : tie.MeasureT-loop
 μ-loop given n table₀ i₀ table i = n - i
 
 loop-holds : tie.Need-loop-holds Inv-loop μ-loop
-loop-holds c = let a = c .before .before .args in copying-start (λ x. x) (a .given .now) (a .table .now) (a .n)
+loop-holds c =
+    let top : tie.Start Inv-loop μ-loop = search needs in
+    let a = top .args in copying-start (λ x. x) (a .given .now) (a .table .now) (a .n)
 
 mul-table : tie.Need-mul-table Inv-loop μ-loop
 mul-table c = search needs
@@ -39,8 +41,11 @@ loop-less c = search needs
 
 loop-again : tie.Need-loop-again Inv-loop μ-loop
 loop-again c =
-    copying-next (c .before .before .loop .inv) (c .before .loop-test .taken)
-    (c .before .before .before .before .before .pre .0) refl
+    let in-loop : tie.In-loop Inv-loop μ-loop = search needs in
+    let loop : tie.At-loop Inv-loop μ-loop = search needs in
+    let top : tie.Start Inv-loop μ-loop = search needs in
+    copying-next (loop .loop .inv) (in-loop .loop-test .taken)
+    (top .pre .0) refl
 
 clear-items-requires : tie.Need-clear-items-requires Inv-loop μ-loop
 clear-items-requires c κs = omega arith
@@ -50,10 +55,12 @@ same-length c = search needs
 
 returns : tie.Need-returns Inv-loop μ-loop
 returns c =
-    let top = c .before .before .before .before .before .before .before .before in
+    let clear-items : tie.After-clear-items Inv-loop μ-loop = search needs in
+    let loop : tie.At-loop Inv-loop μ-loop = search needs in
+    let top : tie.Start Inv-loop μ-loop = search needs in
     let a = top .args in
-    padded-copy tableLength (c .before .before .before .before .before .loop .inv) (omega arith) (top .pre .0) (top .pre .1 .0)
-    (top .pre .1 .1) (c .before .before .clear-items .ensures)
+    padded-copy tableLength (loop .loop .inv) (omega arith) (top .pre .0) (top .pre .1 .0)
+    (top .pre .1 .1) (clear-items .clear-items .ensures)
     ∙ ap (λ l. padded tableLength l (a .table .now)) (map-id (take (a .n) (a .given .now)))
 
 pub put-table-spec : {M : Type 1} → statement M

@@ -19,7 +19,8 @@ use Rattle.chart_rule.proofs.entry_chains.chain_holds.Tie as tie
 
 returns : tie.Need-returns
 returns c =
-    let a = c .before .before .before .before .args in
+    let top : tie.Start = search needs in
+    let a = top .args in
     no-entries (a .count) (zipEntries (a .keys .now) (a .levels .now) (a .items .now)) (c .if1 .taken)
 
 levels-fit-requires : tie.Need-levels-fit-requires
@@ -27,15 +28,20 @@ levels-fit-requires c κs = search needs
 
 returns-2 : tie.Need-returns-2
 returns-2 c =
-    let top = c .before .before .before .before .before .before in
+    let levels-fit : tie.After-levels-fit = search needs in
+    let top : tie.Start = search needs in
     let a = top .args in
-    let fit = c .before .levels-fit in
+    let fit = levels-fit .levels-fit in
     chain-stopped (a .count) (a .keys .now) (a .levels .now) (a .items .now) (a .n) (a .n - 1) (omega arith) (top .pre .0) (top .pre .1 .0) (top .pre .1 .1)
     (sym (fit .ensures) ∙ not-true (fit .result) (c .if2 .taken))
 
 -- from here on every level fits
-levels-ok : (c : tie.Else2) → let a = c .before .before .before .before .before .before .args in all (λ i. leb (getD (a .levels .now) i 0) depth) (upTo (a .n)) ≡ true
-levels-ok c = let fit = c .before .levels-fit in sym (fit .ensures) ∙ not-false (fit .result) (c .if2 .left)
+levels-ok : (c : tie.Else2) →
+    let top : tie.Start = search needs in
+    let a = top .args in all (λ i. leb (getD (a .levels .now) i 0) depth) (upTo (a .n)) ≡ true
+levels-ok c =
+    let levels-fit : tie.After-levels-fit = search needs in
+    let fit = levels-fit .levels-fit in sym (fit .ensures) ∙ not-false (fit .result) (c .if2 .left)
 
 sub-last : tie.Need-sub-last
 sub-last c = search needs
@@ -75,12 +81,13 @@ part-faults-end-3 c = search needs
 
 faults-requires : tie.Need-faults-requires
 faults-requires c κs =
-    let top = c .before .before .before .before .before .before .before .before .before .before in
+    let else2 : tie.Else2 = search needs in
+    let top : tie.Start = search needs in
     let levels = top .args .levels .now in (
       omega arith,
       (
         simp (length-take, length-drop) (omega arith),
-        all-below-fewer (λ i. leb (getD levels i 0) depth) (omega arith) (levels-ok (c .before .before .before .before)),
+        all-below-fewer (λ i. leb (getD levels i 0) depth) (omega arith) (levels-ok else2),
       ),
     )
 
@@ -98,19 +105,27 @@ shared-slice-read-ends-tree-2 c = search needs
 
 ends-tree-requires : tie.Need-ends-tree-requires
 ends-tree-requires c κs =
-    let top = c .before .before .before .before .before .before .before .before .before .before .before .before .before .before in
+    let else2 : tie.Else2 = search needs in
+    let top : tie.Start = search needs in
     let levels = top .args .levels .now in
     leb→le (getD levels (top .args .n - 1) 0) depth
-    (all-below-at (λ i. leb (getD levels i 0) depth) (levels-ok (c .before .before .before .before .before .before .before .before)) (omega arith))
+    (all-below-at (λ i. leb (getD levels i 0) depth) (levels-ok else2) (omega arith))
+
+-- an earlier place, found from a later one
+abbrev else2-to-top : tie.Else2 → tie.Start
+else2-to-top c = search needs
 
 returns-3 : tie.Need-returns-3
 unfolding entryAt
 returns-3 c =
-    let top = c .before .before .before .before .before .before .before .before .before .before .before .before .before .before .before in
+    let faults : tie.After-faults = search needs in
+    let count-for-all : tie.After-count-for-all = search needs in
+    let else2 : tie.Else2 = search needs in
+    let top = else2-to-top else2 in
     let a = top .args in
     chain-joined (a .count) (a .keys .now) (a .levels .now) (a .items .now) (a .n) (a .n - 1) (omega arith) (top .pre .0) (top .pre .1 .0) (top .pre .1 .1)
-    (levels-ok (c .before .before .before .before .before .before .before .before .before))
-    (c .before .before .before .before .before .before .before .before .count-for-all .ensures (a .count)) (c .before .before .before .before .faults .ensures) (c .ends-tree .ensures (getD (a .items .now) (a .n - 1) 0))
+    (levels-ok else2)
+    (count-for-all .count-for-all .ensures (a .count)) (faults .faults .ensures) (c .ends-tree .ensures (getD (a .items .now) (a .n - 1) 0))
 
 pub chain-holds-spec : {M : Type 1} → statement M
 chain-holds-spec =

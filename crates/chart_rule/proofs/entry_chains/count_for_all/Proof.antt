@@ -18,7 +18,9 @@ abbrev μ-loop : tie.MeasureT-loop
 μ-loop items n most₀ i₀ most i = n - i
 
 loop-holds : tie.Need-loop-holds Inv-loop μ-loop
-loop-holds c = (search needs, λ count. leb·zero count ∙ sym (all-below-none (λ k. itemFits count (getD (c .before .args .items .now) k 0))))
+loop-holds c =
+    let top : tie.Start Inv-loop μ-loop = search needs in
+    (search needs, λ count. leb·zero count ∙ sym (all-below-none (λ k. itemFits count (getD (top .args .items .now) k 0))))
 
 mul-count-for : tie.Need-mul-count-for Inv-loop μ-loop
 mul-count-for c = search needs
@@ -40,17 +42,22 @@ loop-less c = search needs
 
 loop-again : tie.Need-loop-again Inv-loop μ-loop
 loop-again c =
-    let items = c .before .before .before .before .before .before .args .items .now in
-    let l = c .before .before .before .before .loop in
-    let one = c .before .count-for in (
+    let count-for : tie.After-count-for Inv-loop μ-loop = search needs in
+    let loop : tie.At-loop Inv-loop μ-loop = search needs in
+    let top : tie.Start Inv-loop μ-loop = search needs in
+    let items = top .args .items .now in
+    let l = loop .loop in
+    let one = count-for .count-for in (
       omega arith,
       λ count. ap (λ m. leb m count) (c .larger .ensures) ∙ leb-max (l .most) (one .result) count ∙ all-below-step (λ k. itemFits count (getD items k 0)) (l .i) (l .inv .1 count) (one .ensures count),
     )
 
 returns : tie.Need-returns Inv-loop μ-loop
 returns c =
-    let items = c .before .before .before .args .items .now in
-    let l = c .before .loop in
+    let loop : tie.At-loop Inv-loop μ-loop = search needs in
+    let top : tie.Start Inv-loop μ-loop = search needs in
+    let items = top .args .items .now in
+    let l = loop .loop in
     λ count. l .inv .1 count ∙ ap (λ k. all (λ j. itemFits count (getD items j 0)) (upTo k)) (omega arith)
 
 pub count-for-all-spec : {M : Type 1} → statement M

@@ -22,7 +22,8 @@ abbrev μ-loop : tie.MeasureT-loop
 
 loop-holds : tie.Need-loop-holds Inv-loop μ-loop
 loop-holds c =
-    let a = c .before .before .before .before .before .before .args in
+    let top : tie.Start Inv-loop μ-loop = search needs in
+    let a = top .args in
     (search needs, sym (all-below-none (λ k. linkedAt (a .keys .now) (a .levels .now) (a .items .now) (a .next-keys .now) (a .next-levels .now) (a .next-items .now) k)))
 
 mul-fault : tie.Need-mul-fault Inv-loop μ-loop
@@ -55,12 +56,18 @@ mul-fault-4 c = search needs
 shared-slice-read-fault-6 : tie.Need-shared-slice-read-fault-6 Inv-loop μ-loop
 shared-slice-read-fault-6 c = search needs
 
+-- an earlier place, found from a later one
+abbrev loop-to-top : tie.At-loop Inv-loop μ-loop → tie.Start Inv-loop μ-loop
+loop-to-top c = search needs
+
 fault-requires : tie.Need-fault-requires Inv-loop μ-loop
 fault-requires c κs =
-    let top = c .before .before .before .before .before .before .before .before .before .before .before .before .before .before in
+    let in-loop : tie.In-loop Inv-loop μ-loop = search needs in
+    let loop : tie.At-loop Inv-loop μ-loop = search needs in
+    let top = loop-to-top loop in
     let levels = top .args .levels .now in
-    let i = c .before .before .before .before .before .before .before .loop .i in
-    leb→le (getD levels i 0) depth (all-below-at (λ k. leb (getD levels k 0) depth) (top .pre .1 .1) (c .before .before .before .before .before .before .loop-test .taken))
+    let i = loop .loop .i in
+    leb→le (getD levels i 0) depth (all-below-at (λ k. leb (getD levels k 0) depth) (top .pre .1 .1) (in-loop .loop-test .taken))
 
 add-i : tie.Need-add-i Inv-loop μ-loop
 add-i c = search needs
@@ -71,8 +78,10 @@ loop-less c = search needs
 loop-again : tie.Need-loop-again Inv-loop μ-loop
 unfolding entryAt
 loop-again c =
-    let a = c .before .before .before .before .before .before .before .before .before .before .before .before .before .before .before .args in
-    let l = c .before .before .before .before .before .before .before .before .loop in (
+    let loop : tie.At-loop Inv-loop μ-loop = search needs in
+    let top : tie.Start Inv-loop μ-loop = search needs in
+    let a = top .args in
+    let l = loop .loop in (
       omega arith,
       or-zero (l .found) (c .fault .result)
           ∙ all-below-step
@@ -82,8 +91,10 @@ loop-again c =
 
 returns : tie.Need-returns Inv-loop μ-loop
 returns c =
-    let a = c .before .before .before .before .before .before .before .before .args in
-    let l = c .before .loop in
+    let loop : tie.At-loop Inv-loop μ-loop = search needs in
+    let top : tie.Start Inv-loop μ-loop = search needs in
+    let a = top .args in
+    let l = loop .loop in
     l .inv .1
     ∙ ap (λ m. all (λ k. linkedAt (a .keys .now) (a .levels .now) (a .items .now) (a .next-keys .now) (a .next-levels .now) (a .next-items .now) k) (upTo m)) (omega arith)
 

@@ -30,16 +30,18 @@ loop-less c = search needs
 
 loop-again : tie.Need-loop-again Inv-loop μ-loop
 loop-again c =
-    let top = c .before .before .before in
+    let loop : tie.At-loop Inv-loop μ-loop = search needs in
+    let top : tie.Start Inv-loop μ-loop = search needs in
     let levels = top .args .levels .now in
-    let l = c .before .before .loop in
+    let l = loop .loop in
     (omega arith, all-below-step (λ k. leb (getD levels k 0) depth) (l .i) (l .inv .1) refl)
 
 returns : tie.Need-returns Inv-loop μ-loop
 returns c =
-    let top = c .before .before in
+    let loop : tie.At-loop Inv-loop μ-loop = search needs in
+    let top : tie.Start Inv-loop μ-loop = search needs in
     let levels = top .args .levels .now in
-    let l = c .before .loop in
+    let l = loop .loop in
     l .inv .1 ∙ ap (λ k. all (λ j. leb (getD levels j 0) depth) (upTo k)) (omega arith)
 
 pub levels-fit-spec : {M : Type 1} → statement M

@@ -8,7 +8,9 @@ use Rattle.edit_flip.proofs.shared_edges.shares_side.Tie as tie
 
 returns : tie.Need-returns
 unfolding sharesSide triangleOf cornerAt
-returns c = ap₂ _&&_ (c .before .before .before .same-point .ensures) (c .same-point2 .ensures)
+returns c =
+    let same-point : tie.After-same-point = search needs in
+    ap₂ _&&_ (same-point .same-point .ensures) (c .same-point2 .ensures)
 
 pub shares-side-spec : {M : Type 1} → statement M
 shares-side-spec =

@@ -25,11 +25,16 @@ shares-side-requires c κs = search needs
 
 returns : tie.Need-returns Inv-loop μ-loop
 returns c =
-    let a = c .before .before .before .before .before .args in
-    let l = c .before .before .before .before .loop in
-    let test = c .before .shares-side .ensures ∙ ap (λ v. sharesSide (triangleOf (a .s)) (triangleOf v)) (c .before .before .rotated .ensures) in (
+    let shares-side : tie.After-shares-side Inv-loop μ-loop = search needs in
+    let rotated : tie.After-rotated Inv-loop μ-loop = search needs in
+    let in-loop : tie.In-loop Inv-loop μ-loop = search needs in
+    let loop : tie.At-loop Inv-loop μ-loop = search needs in
+    let top : tie.Start Inv-loop μ-loop = search needs in
+    let a = top .args in
+    let l = loop .loop in
+    let test = shares-side .shares-side .ensures ∙ ap (λ v. sharesSide (triangleOf (a .s)) (triangleOf v)) (rotated .rotated .ensures) in (
       (λ h. missed-hit (λ v. sharesSide (triangleOf (a .s)) v) (a .u) (l .k) (l .inv) h (sym test ∙ c .if1 .taken)),
-      (λ h. absurd (omega (arith, c .before .before .before .loop-test .taken))),
+      (λ h. absurd (omega (arith, in-loop .loop-test .taken))),
     )
 
 add-k : tie.Need-add-k Inv-loop μ-loop
@@ -40,15 +45,22 @@ loop-less c = search needs
 
 loop-again : tie.Need-loop-again Inv-loop μ-loop
 loop-again c =
-    let a = c .before .before .before .before .before .args in
-    let l = c .before .before .before .before .loop in
-    let test = c .before .shares-side .ensures ∙ ap (λ v. sharesSide (triangleOf (a .s)) (triangleOf v)) (c .before .before .rotated .ensures) in
-    missed-next (λ v. sharesSide (triangleOf (a .s)) v) (a .u) (l .k) (l .inv) (c .before .before .before .loop-test .taken) (sym test ∙ c .if1 .left)
+    let shares-side : tie.After-shares-side Inv-loop μ-loop = search needs in
+    let rotated : tie.After-rotated Inv-loop μ-loop = search needs in
+    let in-loop : tie.In-loop Inv-loop μ-loop = search needs in
+    let loop : tie.At-loop Inv-loop μ-loop = search needs in
+    let top : tie.Start Inv-loop μ-loop = search needs in
+    let a = top .args in
+    let l = loop .loop in
+    let test = shares-side .shares-side .ensures ∙ ap (λ v. sharesSide (triangleOf (a .s)) (triangleOf v)) (rotated .rotated .ensures) in
+    missed-next (λ v. sharesSide (triangleOf (a .s)) v) (a .u) (l .k) (l .inv) (in-loop .loop-test .taken) (sym test ∙ c .if1 .left)
 
 returns-2 : tie.Need-returns-2 Inv-loop μ-loop
 returns-2 c =
-    let a = c .before .before .args in
-    let l = c .before .loop in (
+    let loop : tie.At-loop Inv-loop μ-loop = search needs in
+    let top : tie.Start Inv-loop μ-loop = search needs in
+    let a = top .args in
+    let l = loop .loop in (
       (λ h. absurd (omega arith)),
       (λ h. missed-end (λ v. sharesSide (triangleOf (a .s)) v) (a .u) (l .k) (l .inv) (c .loop-test .left)),
     )

@@ -6,14 +6,25 @@ use borrow.Author.Needs.{needs}
 use Rattle.edit_split.proofs.triangle_split.put_split.Statement.{statement}
 use Rattle.edit_split.proofs.triangle_split.put_split.Tie as tie
 
+-- an earlier place, found from a later one
+abbrev put-triangle-to-replace-row : tie.After-put-triangle → tie.After-replace-row
+put-triangle-to-replace-row c = search needs
+
+abbrev replace-row-to-top : tie.After-replace-row → tie.Start
+replace-row-to-top c = search needs
+
 returns : tie.Need-returns
 unfolding splitAt triangle triangleOf cornerAt
 returns c =
-    let a = c .before .before .before .before .before .before .before .before .before .before .before .before .before .before .before .before .before .before .before .before .args in
+    let put-triangle2 : tie.After-put-triangle2 = search needs in
+    let put-triangle : tie.After-put-triangle = search needs in
+    let replace-row = put-triangle-to-replace-row put-triangle in
+    let top = replace-row-to-top replace-row in
+    let a = top .args in
     let s = a .t4 in
-    two-appended (c .before .before .before .before .before .before .before .before .before .before .before .before .before .before .replace-row .last .1 .1 .1 .1 .0) (c .before .before .before .before .before .before .before .before .put-triangle .last .0) (c .before .before .put-triangle2 .last .0) (a .n)
+    two-appended (replace-row .replace-row .last .1 .1 .1 .1 .0) (put-triangle .put-triangle .last .0) (put-triangle2 .put-triangle2 .last .0) (a .n)
     (triangle (cornerAt s 1) (cornerAt s 2) (a .p)) (triangle (cornerAt s 2) (cornerAt s 0) (a .p)) (omega arith)
-    (c .before .before .before .before .before .before .before .before .before .before .before .before .before .before .replace-row .ensures) (c .before .before .before .before .before .before .before .before .put-triangle .ensures) (c .before .before .put-triangle2 .ensures)
+    (replace-row .replace-row .ensures) (put-triangle .put-triangle .ensures) (put-triangle2 .put-triangle2 .ensures)
 
 pub put-split-spec : {M : Type 1} → statement M
 put-split-spec =

@@ -15,7 +15,9 @@ array-copy-out-t17 c = search needs
 
 returns : tie.Need-returns
 unfolding triangle triangleOf cornerAt
-returns c = rw (c .before .before .before .if1 .taken)
+returns c =
+    let then1 : tie.Then1 = search needs in
+    rw (then1 .if1 .taken)
 
 array-copy-out-t20 : tie.Need-array-copy-out-t20
 array-copy-out-t20 c = search needs
@@ -28,7 +30,9 @@ array-copy-out-t26 c = search needs
 
 returns-2 : tie.Need-returns-2
 unfolding triangle triangleOf cornerAt
-returns-2 c = rw (c .before .before .before .if1 .left)
+returns-2 c =
+    let else1 : tie.Else1 = search needs in
+    rw (else1 .if1 .left)
 
 pub merged-spec : {M : Type 1} → statement M
 merged-spec =

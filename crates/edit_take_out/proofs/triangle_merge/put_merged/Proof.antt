@@ -5,14 +5,26 @@ use borrow.Author.Needs.{needs}
 use Rattle.edit_take_out.proofs.triangle_merge.put_merged.Statement.{statement}
 use Rattle.edit_take_out.proofs.triangle_merge.put_merged.Tie as tie
 
+-- an earlier place, found from a later one
+abbrev append-rows2-to-append-rows : tie.After-append-rows2 → tie.After-append-rows
+append-rows2-to-append-rows c = search needs
+
+abbrev append-rows-to-top : tie.After-append-rows → tie.Start
+append-rows-to-top c = search needs
+
 returns : tie.Need-returns
 returns c =
-    let a = c .before .before .before .before .before .before .before .before .before .before .before .before .before .before .before .before .before .before .args in
-    let pre = c .before .before .before .before .before .before .before .before .before .before .before .before .before .before .before .before .before .before .pre in
-    merged-rows (a .table .now) (a .out .now) (c .before .before .before .before .before .before .before .before .before .before .before .before .before .before .append-rows .last .1 .1 .1 .0) (c .before .before .before .before .before .before .before .before .before .before .append-rows2 .last .1 .1 .1 .0)
-    (c .before .before .before .before .before .before .append-rows3 .last .1 .1 .1 .0) (c .before .before .put-triangle .last .0) (a .n) (a .i) (a .j) (a .k) (triangleOf (a .merged))
-    (pre .0 .0) (pre .0 .1 .0) (pre .0 .1 .1) (omega arith) (c .before .before .before .before .before .before .before .before .before .before .before .before .before .before .append-rows .ensures) (c .before .before .before .before .before .before .before .before .before .before .append-rows2 .ensures)
-    (c .before .before .before .before .before .before .append-rows3 .ensures) (c .before .before .put-triangle .ensures)
+    let put-triangle : tie.After-put-triangle = search needs in
+    let append-rows3 : tie.After-append-rows3 = search needs in
+    let append-rows2 : tie.After-append-rows2 = search needs in
+    let append-rows = append-rows2-to-append-rows append-rows2 in
+    let top = append-rows-to-top append-rows in
+    let a = top .args in
+    let pre = top .pre in
+    merged-rows (a .table .now) (a .out .now) (append-rows .append-rows .last .1 .1 .1 .0) (append-rows2 .append-rows2 .last .1 .1 .1 .0)
+    (append-rows3 .append-rows3 .last .1 .1 .1 .0) (put-triangle .put-triangle .last .0) (a .n) (a .i) (a .j) (a .k) (triangleOf (a .merged))
+    (pre .0 .0) (pre .0 .1 .0) (pre .0 .1 .1) (omega arith) (append-rows .append-rows .ensures) (append-rows2 .append-rows2 .ensures)
+    (append-rows3 .append-rows3 .ensures) (put-triangle .put-triangle .ensures)
 
 pub put-merged-spec : {M : Type 1} → statement M
 put-merged-spec =

@@ -4,7 +4,9 @@ use Rattle.overlay_marks.proofs.bitsets.insert.Statement.{statement}
 use Rattle.overlay_marks.proofs.bitsets.insert.Tie as tie
 
 returns : tie.Need-returns
-returns c = inserted (c .before .args .words .now) (c .before .args .k) (c .before .pre)
+returns c =
+    let top : tie.Start = search needs in
+    inserted (top .args .words .now) (top .args .k) (top .pre)
 
 pub insert-spec : {M : Type 1} → statement M
 insert-spec =

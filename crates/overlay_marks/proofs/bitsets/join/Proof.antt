@@ -47,15 +47,21 @@ loop-less : tie.Need-loop-less Inv-loop μ-loop
 loop-less c = search needs
 
 loop-again : tie.Need-loop-again Inv-loop μ-loop
-loop-again c = let l = c .before .before .before .loop in (omega arith, joined-more (l .inv .1) (omega arith))
+loop-again c =
+    let loop : tie.At-loop Inv-loop μ-loop = search needs in
+    let l = loop .loop in (omega arith, joined-more (l .inv .1) (omega arith))
 
 same-length : tie.Need-same-length Inv-loop μ-loop
-same-length c = c .before .loop .inv .1 .kept
+same-length c =
+    let loop : tie.At-loop Inv-loop μ-loop = search needs in
+    loop .loop .inv .1 .kept
 
 returns : tie.Need-returns Inv-loop μ-loop
 returns c =
-    let l = c .before .loop in
-    let a = c .before .before .args in
+    let loop : tie.At-loop Inv-loop μ-loop = search needs in
+    let top : tie.Start Inv-loop μ-loop = search needs in
+    let l = loop .loop in
+    let a = top .args in
     let e : l .i ≡ a .n = omega arith in
     subst (λ x. Joined (a .words .now) (a .at) (a .set .now) x (l .words)) e (l .inv .1)
 

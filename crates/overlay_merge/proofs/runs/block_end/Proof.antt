@@ -5,13 +5,18 @@ use Rattle.overlay_merge.proofs.runs.block_end.Statement.{statement}
 use Rattle.overlay_merge.proofs.runs.block_end.Tie as tie
 
 returns : tie.Need-returns
-returns c = record {
-  p = c .before .before .before .before .cell-end .result;
-  q = c .before .before .before .cell-end2 .result;
-  first = c .before .before .before .before .cell-end .ensures;
-  second = c .before .before .before .cell-end2 .ensures;
-  end = c .later .ensures ∙ ap₂ max (c .before .before .key-from .ensures) (c .before .key-from2 .ensures);
-}
+returns c =
+    let key-from2 : tie.After-key-from2 = search needs in
+    let key-from : tie.After-key-from = search needs in
+    let cell-end2 : tie.After-cell-end2 = search needs in
+    let cell-end : tie.After-cell-end = search needs in
+    record {
+      p = cell-end .cell-end .result;
+      q = cell-end2 .cell-end2 .result;
+      first = cell-end .cell-end .ensures;
+      second = cell-end2 .cell-end2 .ensures;
+      end = c .later .ensures ∙ ap₂ max (key-from .key-from .ensures) (key-from2 .key-from2 .ensures);
+    }
 
 pub block-end-spec : {M : Type 1} → statement M
 block-end-spec =

@@ -20,7 +20,9 @@ add-r : tie.Need-add-r Inv-loop μ-loop
 add-r c = search needs
 
 loop-holds : tie.Need-loop-holds Inv-loop μ-loop
-loop-holds c = let a = c .before .args in cell-start (a .keys .now) (a .n) (a .a) (c .before .pre .0)
+loop-holds c =
+    let top : tie.Start Inv-loop μ-loop = search needs in
+    let a = top .args in cell-start (a .keys .now) (a .n) (a .a) (top .pre .0)
 
 mul-if1 : tie.Need-mul-if1 Inv-loop μ-loop
 mul-if1 c = search needs
@@ -30,8 +32,10 @@ shared-slice-read-if1 c = search needs
 
 returns : tie.Need-returns Inv-loop μ-loop
 returns c =
-    let a = c .before .before .before .before .before .args in
-    cell-met (a .keys .now) (a .n) (a .a) (c .before .before .before .loop .inv) (c .if1 .taken)
+    let loop : tie.At-loop Inv-loop μ-loop = search needs in
+    let top : tie.Start Inv-loop μ-loop = search needs in
+    let a = top .args in
+    cell-met (a .keys .now) (a .n) (a .a) (loop .loop .inv) (c .if1 .taken)
 
 add-r-2 : tie.Need-add-r-2 Inv-loop μ-loop
 add-r-2 c = search needs
@@ -41,13 +45,18 @@ loop-less c = search needs
 
 loop-again : tie.Need-loop-again Inv-loop μ-loop
 loop-again c =
-    let a = c .before .before .before .before .before .args in
-    cell-more (a .keys .now) (a .n) (a .a) (c .before .before .before .loop .inv) (c .before .before .loop-test .taken) (c .if1 .left)
+    let in-loop : tie.In-loop Inv-loop μ-loop = search needs in
+    let loop : tie.At-loop Inv-loop μ-loop = search needs in
+    let top : tie.Start Inv-loop μ-loop = search needs in
+    let a = top .args in
+    cell-more (a .keys .now) (a .n) (a .a) (loop .loop .inv) (in-loop .loop-test .taken) (c .if1 .left)
 
 returns-2 : tie.Need-returns-2 Inv-loop μ-loop
 returns-2 c =
-    let a = c .before .before .before .args in
-    cell-over (a .keys .now) (a .n) (a .a) (c .before .loop .inv) (c .loop-test .left)
+    let loop : tie.At-loop Inv-loop μ-loop = search needs in
+    let top : tie.Start Inv-loop μ-loop = search needs in
+    let a = top .args in
+    cell-over (a .keys .now) (a .n) (a .a) (loop .loop .inv) (c .loop-test .left)
 
 pub cell-end-spec : {M : Type 1} → statement M
 cell-end-spec =

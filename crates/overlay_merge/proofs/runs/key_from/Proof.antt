@@ -13,15 +13,22 @@ shared-slice-read-result : tie.Need-shared-slice-read-result
 shared-slice-read-result c = search needs
 
 cast-result : tie.Need-cast-result
-cast-result c = omega (arith, c .shared-slice-known .given (c .before .before .args .i))
+cast-result c =
+    let top : tie.Start = search needs in
+    omega (arith, c .shared-slice-known .given (top .args .i))
 
 returns : tie.Need-returns
 unfolding keyFrom
-returns c = rw (lt-ltb (c .before .before .args .i) (c .before .before .args .n) (c .before .if1 .taken))
+returns c =
+    let then1 : tie.Then1 = search needs in
+    let top : tie.Start = search needs in
+    rw (lt-ltb (top .args .i) (top .args .n) (then1 .if1 .taken))
 
 returns-2 : tie.Need-returns-2
 unfolding keyFrom span
-returns-2 c = rw (le-ltb (c .before .args .i) (c .before .args .n) (c .if1 .left))
+returns-2 c =
+    let top : tie.Start = search needs in
+    rw (le-ltb (top .args .i) (top .args .n) (c .if1 .left))
 
 pub key-from-spec : {M : Type 1} → statement M
 key-from-spec =

@@ -17,8 +17,9 @@ add-r c = search needs
 
 loop-holds : tie.Need-loop-holds Inv-loop μ-loop
 loop-holds c =
-    let a = c .before .args in
-    run-start (a .keys .now) (a .n) (a .a) (a .end) (c .before .pre .0) (c .before .pre .1)
+    let top : tie.Start Inv-loop μ-loop = search needs in
+    let a = top .args in
+    run-start (a .keys .now) (a .n) (a .a) (a .end) (top .pre .0) (top .pre .1)
 
 mul-if1 : tie.Need-mul-if1 Inv-loop μ-loop
 mul-if1 c = search needs
@@ -27,12 +28,16 @@ shared-slice-read-if1 : tie.Need-shared-slice-read-if1 Inv-loop μ-loop
 shared-slice-read-if1 c = search needs
 
 cast-if1 : tie.Need-cast-if1 Inv-loop μ-loop
-cast-if1 c = omega (arith, c .shared-slice-known2 .given (c .before .before .loop .r))
+cast-if1 c =
+    let loop : tie.At-loop Inv-loop μ-loop = search needs in
+    omega (arith, c .shared-slice-known2 .given (loop .loop .r))
 
 returns : tie.Need-returns Inv-loop μ-loop
 returns c =
-    let a = c .before .before .before .before .before .args in
-    run-met (a .keys .now) (a .n) (a .a) (a .end) (c .before .before .before .loop .inv) (λ l. omega (arith, c .if1 .taken))
+    let loop : tie.At-loop Inv-loop μ-loop = search needs in
+    let top : tie.Start Inv-loop μ-loop = search needs in
+    let a = top .args in
+    run-met (a .keys .now) (a .n) (a .a) (a .end) (loop .loop .inv) (λ l. omega (arith, c .if1 .taken))
 
 sub-change : tie.Need-sub-change Inv-loop μ-loop
 sub-change c = search needs
@@ -54,8 +59,10 @@ change-requires c κs = tt
 
 add-cells : tie.Need-add-cells Inv-loop μ-loop
 add-cells c =
-    let a = c .before .before .before .before .before .before .before .before .args in
-    let l = c .before .before .before .before .before .before .loop in
+    let loop : tie.At-loop Inv-loop μ-loop = search needs in
+    let top : tie.Start Inv-loop μ-loop = search needs in
+    let a = top .args in
+    let l = loop .loop in
     omega (arith, run-few (a .keys .now) (a .n) (a .a) (a .end) (l .inv), c .change .ensures, change-few (getD (a .keys .now) (l .r - 1) 0) (getD (a .keys .now) (l .r) 0))
 
 add-r-2 : tie.Need-add-r-2 Inv-loop μ-loop
@@ -66,13 +73,19 @@ loop-less c = search needs
 
 loop-again : tie.Need-loop-again Inv-loop μ-loop
 loop-again c =
-    let a = c .before .before .before .before .before .before .before .before .args in
-    run-more (a .keys .now) (a .n) (a .a) (a .end) (c .before .before .before .before .before .before .loop .inv) (c .before .before .before .before .before .loop-test .taken) (c .before .before .before .before .before .before .before .before .pre .1) (omega (arith, c .before .before .before .if1 .left)) (c .change .ensures)
+    let else1 : tie.Else1 Inv-loop μ-loop = search needs in
+    let in-loop : tie.In-loop Inv-loop μ-loop = search needs in
+    let loop : tie.At-loop Inv-loop μ-loop = search needs in
+    let top : tie.Start Inv-loop μ-loop = search needs in
+    let a = top .args in
+    run-more (a .keys .now) (a .n) (a .a) (a .end) (loop .loop .inv) (in-loop .loop-test .taken) (top .pre .1) (omega (arith, else1 .if1 .left)) (c .change .ensures)
 
 returns-2 : tie.Need-returns-2 Inv-loop μ-loop
 returns-2 c =
-    let a = c .before .before .before .args in
-    run-met (a .keys .now) (a .n) (a .a) (a .end) (c .before .loop .inv) (λ l. absurd (omega arith))
+    let loop : tie.At-loop Inv-loop μ-loop = search needs in
+    let top : tie.Start Inv-loop μ-loop = search needs in
+    let a = top .args in
+    run-met (a .keys .now) (a .n) (a .a) (a .end) (loop .loop .inv) (λ l. absurd (omega arith))
 
 pub run-end-spec : {M : Type 1} → statement M
 run-end-spec =

@@ -20,14 +20,20 @@ abbrev μ-loop : tie.MeasureT-loop
 
 loop-holds : tie.Need-loop-holds Inv-loop μ-loop
 loop-holds c =
-    let a = c .before .before .before .before .before .before .before .before .before .args in
+    let top : tie.Start Inv-loop μ-loop = search needs in
+    let a = top .args in
     ((omega arith, refl), rows-none (a .first .now) (a .second .now) (a .m) (a .rows .now) (a .pairs .now))
+
+-- an earlier place, found from a later one
+abbrev loop-to-top : tie.At-loop Inv-loop μ-loop → tie.Start Inv-loop μ-loop
+loop-to-top c = search needs
 
 put-row-requires : tie.Need-put-row-requires Inv-loop μ-loop
 put-row-requires c κs =
-    let top = c .before .before .before .before .before .before .before .before .before .before .before .before .before in
+    let loop : tie.At-loop Inv-loop μ-loop = search needs in
+    let top = loop-to-top loop in
     let a = top .args in
-    let l = c .before .before .before .loop in
+    let l = loop .loop in
     let w = l .inv .1 in (
       (omega arith, proper-at (a .first .now) (a .n) (l .i) (top .pre .0 .1) (omega arith)),
       (
@@ -47,21 +53,30 @@ loop-less c = search needs
 
 loop-again : tie.Need-loop-again Inv-loop μ-loop
 loop-again c =
-    let a = c .before .before .before .before .before .before .before .before .before .before .before .before .before .before .before .before .before .before .args in
-    let l = c .before .before .before .before .before .before .before .before .loop in
-    let call = c .before .before .before .before .put-row .ensures in
+    let put-row : tie.After-put-row Inv-loop μ-loop = search needs in
+    let loop : tie.At-loop Inv-loop μ-loop = search needs in
+    let top = loop-to-top loop in
+    let a = top .args in
+    let l = loop .loop in
+    let call = put-row .put-row .ensures in
     ((omega arith, call .1 ∙ l .inv .0 .1), rows-more (a .first .now) (a .second .now) (a .m) (a .rows .now) (l .i) (l .inv .1) (call .0))
 
 same-length : tie.Need-same-length Inv-loop μ-loop
-same-length c = c .before .loop .inv .0 .1
+same-length c =
+    let loop : tie.At-loop Inv-loop μ-loop = search needs in
+    loop .loop .inv .0 .1
 
 same-length-2 : tie.Need-same-length-2 Inv-loop μ-loop
-same-length-2 c = c .before .loop .inv .1 .kept
+same-length-2 c =
+    let loop : tie.At-loop Inv-loop μ-loop = search needs in
+    loop .loop .inv .1 .kept
 
 returns : tie.Need-returns Inv-loop μ-loop
 returns c =
-    let a = c .before .before .before .before .before .before .before .before .before .before .before .args in
-    let l = c .before .loop in
+    let loop : tie.At-loop Inv-loop μ-loop = search needs in
+    let top = loop-to-top loop in
+    let a = top .args in
+    let l = loop .loop in
     let e : l .i ≡ a .n = omega arith in
     subst (λ i. Wrote (markedPairs (a .first .now) i (a .second .now) (a .m) (a .rows .now)) 0 (l .c) (a .pairs .now) (l .pairs)) e (l .inv .1)
 

@@ -24,7 +24,7 @@ triangle-at-requires c κs = search needs
 
 loop-holds : tie.Need-loop-holds Inv-loop μ-loop
 loop-holds c =
-    let top = c .before .before .before .before .before in
+    let top : tie.Start Inv-loop μ-loop = search needs in
     let a = top .args in
     ((omega arith, c .triangle-at .ensures), pairs-none (a .first .now) (a .second .now) (a .i) (a .near .now) (a .at) (a .pairs .now) (top .pre .1 .1 .0))
 
@@ -35,7 +35,10 @@ shared-slice-read-j : tie.Need-shared-slice-read-j Inv-loop μ-loop
 shared-slice-read-j c = omega arith
 
 triangle-at-requires-2 : tie.Need-triangle-at-requires-2 Inv-loop μ-loop
-triangle-at-requires-2 c κs = c .before .before .before .before .before .before .before .before .pre .1 .0 (c .before .before .loop .k) (omega arith) .1
+triangle-at-requires-2 c κs =
+    let loop : tie.At-loop Inv-loop μ-loop = search needs in
+    let top : tie.Start Inv-loop μ-loop = search needs in
+    top .pre .1 .0 (loop .loop .k) (omega arith) .1
 
 interiors-meet-requires : tie.Need-interiors-meet-requires Inv-loop μ-loop
 interiors-meet-requires c κs = search needs
@@ -44,11 +47,15 @@ cast-put-pair : tie.Need-cast-put-pair Inv-loop μ-loop
 cast-put-pair c = omega arith
 
 cast-put-pair-2 : tie.Need-cast-put-pair-2 Inv-loop μ-loop
-cast-put-pair-2 c = let h = c .before .before .before .before .before .before .before .before .before .before .pre .1 .0 (c .before .before .before .before .loop .k) (omega arith) in omega arith
+cast-put-pair-2 c =
+    let loop : tie.At-loop Inv-loop μ-loop = search needs in
+    let top : tie.Start Inv-loop μ-loop = search needs in
+    let h = top .pre .1 .0 (loop .loop .k) (omega arith) in omega arith
 
 put-pair-requires : tie.Need-put-pair-requires Inv-loop μ-loop
 put-pair-requires c κs =
-    let w = c .before .before .before .before .before .loop .inv .1 in
+    let loop : tie.At-loop Inv-loop μ-loop = search needs in
+    let w = loop .loop .inv .1 in
     (wrote-within w, omega (arith, w .kept))
 
 add-k : tie.Need-add-k Inv-loop μ-loop
@@ -57,25 +64,38 @@ add-k c = search needs
 loop-less : tie.Need-loop-less Inv-loop μ-loop
 loop-less c = search needs
 
+-- an earlier place, found from a later one
+abbrev loop-to-top : tie.At-loop Inv-loop μ-loop → tie.Start Inv-loop μ-loop
+loop-to-top c = search needs
+
 loop-again : tie.Need-loop-again Inv-loop μ-loop
 unfolding triangleOf cornerAt
 loop-again c =
-    let a = c .before .before .before .before .before .before .before .before .before .before .before .before .before .before .args in
-    let l = c .before .before .before .before .before .before .before .before .loop in
-    let meet = c .before .before .before .before .interiors-meet .ensures
-    ∙ ap₂ (λ s t. interiorsMeet (triangleOf s) (triangleOf t)) (l .inv .0 .1) (c .before .before .before .before .before .triangle-at2 .ensures) in (
+    let put-pair : tie.After-put-pair Inv-loop μ-loop = search needs in
+    let interiors-meet : tie.After-interiors-meet Inv-loop μ-loop = search needs in
+    let triangle-at2 : tie.After-triangle-at2 Inv-loop μ-loop = search needs in
+    let loop : tie.At-loop Inv-loop μ-loop = search needs in
+    let top = loop-to-top loop in
+    let a = top .args in
+    let l = loop .loop in
+    let meet = interiors-meet .interiors-meet .ensures
+    ∙ ap₂ (λ s t. interiorsMeet (triangleOf s) (triangleOf t)) (l .inv .0 .1) (triangle-at2 .triangle-at2 .ensures) in (
       (omega arith, l .inv .0 .1),
       pairs-more (a .first .now) (a .second .now) (a .i) (a .near .now) (l .k) (omega arith) meet (l .inv .1)
-          (c .before .before .put-pair .ensures),
+          (put-pair .put-pair .ensures),
     )
 
 same-length : tie.Need-same-length Inv-loop μ-loop
-same-length c = c .before .loop .inv .1 .kept
+same-length c =
+    let loop : tie.At-loop Inv-loop μ-loop = search needs in
+    loop .loop .inv .1 .kept
 
 returns : tie.Need-returns Inv-loop μ-loop
 returns c =
-    let a = c .before .before .before .before .before .before .before .args in
-    let l = c .before .loop in
+    let loop : tie.At-loop Inv-loop μ-loop = search needs in
+    let top : tie.Start Inv-loop μ-loop = search needs in
+    let a = top .args in
+    let l = loop .loop in
     let e : l .k ≡ a .d = omega arith in
     subst (λ k. Wrote (nearPairs (a .first .now) (a .second .now) (a .i) (take k (a .near .now))) (a .at) (l .c) (a .pairs .now) (l .pairs)) e (l .inv .1)
 

@@ -12,18 +12,21 @@ use Rattle.overlay_pairs.proofs.pair_writes.put_pair.Tie as tie
 
 returns : tie.Need-returns
 returns c =
-    let a = c .before .args in
+    let top : tie.Start = search needs in
+    let a = top .args in
     let l = a .pairs .now in
-    subst (λ b. Wrote (pairIf b (a .i) (a .j)) (a .c) (a .c) l l) (sym (not-true (a .meet) (c .if1 .taken))) (wrote-none (a .c) l (c .before .pre .0))
+    subst (λ b. Wrote (pairIf b (a .i) (a .j)) (a .c) (a .c) l l) (sym (not-true (a .meet) (c .if1 .taken))) (wrote-none (a .c) l (top .pre .0))
 
 add-result : tie.Need-add-result
 add-result c = search needs
 
 returns-2 : tie.Need-returns-2
 returns-2 c =
-    let a = c .before .before .args in
+    let else1 : tie.Else1 = search needs in
+    let top : tie.Start = search needs in
+    let a = top .args in
     let l = a .pairs .now in
-    subst (λ b. Wrote (pairIf b (a .i) (a .j)) (a .c) (maxPairs + 1) l l) (sym (not-false (a .meet) (c .before .if1 .left)))
+    subst (λ b. Wrote (pairIf b (a .i) (a .j)) (a .c) (maxPairs + 1) l l) (sym (not-false (a .meet) (else1 .if1 .left)))
     (wrote-full (record { i = a .i; j = a .j }) (a .c) l (omega arith) (omega arith))
 
 mul-pairs : tie.Need-mul-pairs
@@ -55,9 +58,11 @@ same-length c = search needs
 
 returns-3 : tie.Need-returns-3
 returns-3 c =
-    let a = c .before .before .args in
+    let else1 : tie.Else1 = search needs in
+    let top : tie.Start = search needs in
+    let a = top .args in
     let l = a .pairs .now in
-    subst (λ b. Wrote (pairIf b (a .i) (a .j)) (a .c) (a .c + 1) l (set (set l (2 * a .c) (a .i)) (2 * a .c + 1) (a .j))) (sym (not-false (a .meet) (c .before .if1 .left)))
+    subst (λ b. Wrote (pairIf b (a .i) (a .j)) (a .c) (a .c + 1) l (set (set l (2 * a .c) (a .i)) (2 * a .c + 1) (a .j))) (sym (not-false (a .meet) (else1 .if1 .left)))
     (wrote-one (record { i = a .i; j = a .j }) (a .c) l (omega arith))
 
 pub put-pair-spec : {M : Type 1} → statement M

@@ -7,6 +7,7 @@ use Rattle.theory_lists.proofs.ListsLaws.{sets-length}
 use Rattle.quadtree_cells.specs.Stack.{part}
 use Rattle.quadtree_cells.proofs.StackLaws.{part-none}
 use Rattle.quadtree_cells.proofs.LeafLaws.{stored-item}
+use borrow.Author.Needs.{needs}
 use Rattle.quadtree_cells.proofs.leaves.put_candidates.Statement.{statement}
 use Rattle.quadtree_cells.proofs.leaves.put_candidates.Tie as tie
 
@@ -19,7 +20,8 @@ abbrev μ-loop : tie.MeasureT-loop
 
 loop-holds : tie.Need-loop-holds Inv-loop μ-loop
 loop-holds c =
-    let a = c .before .before .args in
+    let top : tie.Start Inv-loop μ-loop = search needs in
+    let a = top .args in
     ((omega arith, omega arith), rw (part-none (a .from) (a .stack .now)) refl)
 
 mul-wide : tie.Need-mul-wide Inv-loop μ-loop
@@ -39,23 +41,29 @@ sub-out c = omega arith
 
 add-out-2 : tie.Need-add-out-2 Inv-loop μ-loop
 add-out-2 c =
-    let a = c .before .before .before .before .before .before .args in
-    let v = c .before .before .before .loop .inv in
-    let e = sets-length (a .out .now) (a .at) (map (λ i. a .head + i) (part (a .from) (c .before .before .before .loop .k) (a .stack .now))) (v .1) in
+    let loop : tie.At-loop Inv-loop μ-loop = search needs in
+    let top : tie.Start Inv-loop μ-loop = search needs in
+    let a = top .args in
+    let v = loop .loop .inv in
+    let e = sets-length (a .out .now) (a .at) (map (λ i. a .head + i) (part (a .from) (loop .loop .k) (a .stack .now))) (v .1) in
     omega arith
 
 mul-out : tie.Need-mul-out Inv-loop μ-loop
 mul-out c =
-    let a = c .before .before .before .before .before .before .args in
-    let v = c .before .before .before .loop .inv in
-    let e = sets-length (a .out .now) (a .at) (map (λ i. a .head + i) (part (a .from) (c .before .before .before .loop .k) (a .stack .now))) (v .1) in
+    let loop : tie.At-loop Inv-loop μ-loop = search needs in
+    let top : tie.Start Inv-loop μ-loop = search needs in
+    let a = top .args in
+    let v = loop .loop .inv in
+    let e = sets-length (a .out .now) (a .at) (map (λ i. a .head + i) (part (a .from) (loop .loop .k) (a .stack .now))) (v .1) in
     omega arith
 
 slice-write-out : tie.Need-slice-write-out Inv-loop μ-loop
 slice-write-out c =
-    let a = c .before .before .before .before .before .before .args in
-    let v = c .before .before .before .loop .inv in
-    let e = sets-length (a .out .now) (a .at) (map (λ i. a .head + i) (part (a .from) (c .before .before .before .loop .k) (a .stack .now))) (v .1) in
+    let loop : tie.At-loop Inv-loop μ-loop = search needs in
+    let top : tie.Start Inv-loop μ-loop = search needs in
+    let a = top .args in
+    let v = loop .loop .inv in
+    let e = sets-length (a .out .now) (a .at) (map (λ i. a .head + i) (part (a .from) (loop .loop .k) (a .stack .now))) (v .1) in
     omega arith
 
 add-k : tie.Need-add-k Inv-loop μ-loop
@@ -66,23 +74,29 @@ loop-less c = omega arith
 
 loop-again : tie.Need-loop-again Inv-loop μ-loop
 loop-again c =
-    let a = c .before .before .before .before .before .before .args in
-    let v = c .before .before .before .loop .inv in (
+    let loop : tie.At-loop Inv-loop μ-loop = search needs in
+    let top : tie.Start Inv-loop μ-loop = search needs in
+    let a = top .args in
+    let v = loop .loop .inv in (
       (omega arith, omega arith),
-      stored-item (a .head) (a .out .now) (c .before .before .before .loop .out) (a .stack .now) (a .from) (c .before .before .before .loop .k) (a .at) (v .0 .0) (omega arith) (v .1) (c .wide .result) (c .wide .ensures .0),
+      stored-item (a .head) (a .out .now) (loop .loop .out) (a .stack .now) (a .from) (loop .loop .k) (a .at) (v .0 .0) (omega arith) (v .1) (c .wide .result) (c .wide .ensures .0),
     )
 
 same-length : tie.Need-same-length Inv-loop μ-loop
 same-length c =
-    let a = c .before .before .before .before .args in
-    let v = c .before .loop .inv in
-    let e = sets-length (a .out .now) (a .at) (map (λ i. a .head + i) (part (a .from) (c .before .loop .k) (a .stack .now))) (v .1) in
+    let loop : tie.At-loop Inv-loop μ-loop = search needs in
+    let top : tie.Start Inv-loop μ-loop = search needs in
+    let a = top .args in
+    let v = loop .loop .inv in
+    let e = sets-length (a .out .now) (a .at) (map (λ i. a .head + i) (part (a .from) (loop .loop .k) (a .stack .now))) (v .1) in
     e
 
 returns : tie.Need-returns Inv-loop μ-loop
 returns c =
-    let v = c .before .loop .inv in
-    let k : c .before .loop .k ≡ c .before .before .before .before .args .to = omega (arith, v .0 .1) in
+    let loop : tie.At-loop Inv-loop μ-loop = search needs in
+    let top : tie.Start Inv-loop μ-loop = search needs in
+    let v = loop .loop .inv in
+    let k : loop .loop .k ≡ top .args .to = omega (arith, v .0 .1) in
     rw k at (v .1)
 
 pub put-candidates-spec : {M : Type 1} → statement M

@@ -14,8 +14,9 @@ mul-out c = search needs
 
 slice-write-out : tie.Need-slice-write-out
 slice-write-out c =
-    let a = c .before .before .before .args in
-    let h = c .before .before .before .pre .0 .1 in
+    let top : tie.Start = search needs in
+    let a = top .args in
+    let h = top .pre .0 .1 in
     let e = cell-length (a .from) (a .to) (a .stack .now) h in
     omega arith
 
@@ -27,16 +28,18 @@ same-length c = search needs
 
 returns : tie.Need-returns
 returns c =
-    let a = c .before .before .before .args in
-    let h = c .before .before .before .pre .0 .1 in
+    let top : tie.Start = search needs in
+    let a = top .args in
+    let h = top .pre .0 .1 in
     let e = cell-length (a .from) (a .to) (a .stack .now) h in
     let m = cell-empty (a .from) (a .to) (a .stack .now) h (c .if1 .taken) in
     (rw m refl, rw m refl)
 
 put-candidates-requires : tie.Need-put-candidates-requires
 put-candidates-requires c κs =
-    let a = c .before .before .before .before .args in
-    let h = c .before .before .before .before .pre .0 .1 in
+    let top : tie.Start = search needs in
+    let a = top .args in
+    let h = top .pre .0 .1 in
     let e = cell-length (a .from) (a .to) (a .stack .now) h in
     omega arith
 
@@ -51,11 +54,13 @@ same-length-2 c = search needs
 
 returns-2 : tie.Need-returns-2
 returns-2 c =
-    let a = c .before .before .before .before .before .before .before .args in
-    let h = c .before .before .before .before .before .before .before .pre .0 .1 in
+    let put-candidates : tie.After-put-candidates = search needs in
+    let top : tie.Start = search needs in
+    let a = top .args in
+    let h = top .pre .0 .1 in
     let e = cell-length (a .from) (a .to) (a .stack .now) h in
     let o : a .from < a .to = omega arith in
-    (rw (cell-items (a .from) (a .to) (a .stack .now) h o) (c .before .before .put-candidates .ensures), omega arith)
+    (rw (cell-items (a .from) (a .to) (a .stack .now) h o) (put-candidates .put-candidates .ensures), omega arith)
 
 pub put-cell-spec : {M : Type 1} → statement M
 put-cell-spec =

@@ -16,16 +16,20 @@ add-result c = omega arith
 
 returns : tie.Need-returns
 returns c =
-    let a = c .before .before .before .before .args in
-    let e = cell-length (a .from) (a .to) (a .stack .now) (c .before .before .before .before .pre .0 .1) in
-    let m = c .before .entry-count .ensures in
+    let entry-count : tie.After-entry-count = search needs in
+    let top : tie.Start = search needs in
+    let a = top .args in
+    let e = cell-length (a .from) (a .to) (a .stack .now) (top .pre .0 .1) in
+    let m = entry-count .entry-count .ensures in
     (λ h. absurd (omega arith), λ h. refl)
 
 put-cell-requires : tie.Need-put-cell-requires
 put-cell-requires c κs =
-    let a = c .before .before .before .before .before .args in
-    let e = cell-length (a .from) (a .to) (a .stack .now) (c .before .before .before .before .before .pre .0 .1) in
-    let m = c .before .before .entry-count .ensures in
+    let entry-count : tie.After-entry-count = search needs in
+    let top : tie.Start = search needs in
+    let a = top .args in
+    let e = cell-length (a .from) (a .to) (a .stack .now) (top .pre .0 .1) in
+    let m = entry-count .entry-count .ensures in
     omega arith
 
 same-length : tie.Need-same-length
@@ -33,10 +37,13 @@ same-length c = search needs
 
 returns-2 : tie.Need-returns-2
 returns-2 c =
-    let a = c .before .before .before .before .before .before .before .before .args in
-    let e = cell-length (a .from) (a .to) (a .stack .now) (c .before .before .before .before .before .before .before .before .pre .0 .1) in
-    let m = c .before .before .before .before .before .entry-count .ensures in
-    (λ h. (c .before .before .put-cell .ensures .1, c .before .before .put-cell .ensures .0), λ h. absurd (omega arith))
+    let put-cell : tie.After-put-cell = search needs in
+    let entry-count : tie.After-entry-count = search needs in
+    let top : tie.Start = search needs in
+    let a = top .args in
+    let e = cell-length (a .from) (a .to) (a .stack .now) (top .pre .0 .1) in
+    let m = entry-count .entry-count .ensures in
+    (λ h. (put-cell .put-cell .ensures .1, put-cell .put-cell .ensures .0), λ h. absurd (omega arith))
 
 pub put-leaf-spec : {M : Type 1} → statement M
 put-leaf-spec =

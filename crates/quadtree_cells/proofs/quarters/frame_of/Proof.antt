@@ -8,9 +8,11 @@ use Rattle.quadtree_cells.proofs.quarters.frame_of.Tie as tie
 returns : tie.Need-returns
 unfolding squareBox
 returns c =
-    let s = c .before .before .before .before .before .args .s in
-    let p = c .before .before .before .before .before .pre in
-    let e = c .before .before .before .before .side .ensures .0 in (
+    let side : tie.After-side = search needs in
+    let top-2 : tie.Start = search needs in
+    let s = top-2 .args .s in
+    let p = top-2 .pre in
+    let e = side .side .ensures .0 in (
       λ i. record { left = s .x; top = s .y; right = s .x + e i; bottom = s .y + e i },
       record { wide = omega arith; tall = omega arith; right = omega (arith, p .right); bottom = omega (arith, p .bottom) },
     )

@@ -15,30 +15,38 @@ key-step-requires c κs = search needs
 
 quarter-requires : tie.Need-quarter-requires
 quarter-requires c κs =
-    let top = c .before .before in
+    let top : tie.Start = search needs in
     let s = top .pre .0 .0 in
     (top .pre .1 .1, (top .pre .1 .0, (omega (arith, s .right), omega (arith, s .bottom))))
 
 -- the steps up to the quarter
-steps-small : (c : tie.After-quarter) → c .before .before .before .args .k * c .before .key-step .result ≤ 4 * 1073741824
+steps-small : (c : tie.After-quarter) →
+    let key-step : tie.After-key-step = search needs in
+    let top : tie.Start = search needs in
+    top .args .k * key-step .key-step .result ≤ 4 * 1073741824
 steps-small c =
-    mul-le-mul {n₂ = 4} {m₂ = 1073741824} (omega (arith, c .before .before .before .pre .1 .1)) (c .before .key-step .ensures .1)
+    let key-step : tie.After-key-step = search needs in
+    let top : tie.Start = search needs in
+    mul-le-mul {n₂ = 4} {m₂ = 1073741824} (omega (arith, top .pre .1 .1)) (key-step .key-step .ensures .1)
 
 mul-t7 : tie.Need-mul-t7
 mul-t7 c = omega (arith, steps-small c)
 
 add-t8 : tie.Need-add-t8
 add-t8 c =
-    let top = c .before .before .before .before in
-    omega (arith, steps-small (c .before), top .pre .0 .1, key-small (top .args .s .square))
+    let quarter : tie.After-quarter = search needs in
+    let top : tie.Start = search needs in
+    omega (arith, steps-small quarter, top .pre .0 .1, key-small (top .args .s .square))
 
 returns : tie.Need-returns
 returns c =
-    let top = c .before .before .before .before in
+    let quarter : tie.After-quarter = search needs in
+    let key-step : tie.After-key-step = search needs in
+    let top : tie.Start = search needs in
     let a = top .args in
-    let q = c .before .quarter .ensures in (
+    let q = quarter .quarter .ensures in (
       q,
-      ap₂ _+_ (top .pre .0 .1) (ap (λ d. a .k * d) (c .before .before .key-step .ensures .0))
+      ap₂ _+_ (top .pre .0 .1) (ap (λ d. a .k * d) (key-step .key-step .ensures .0))
           ∙ sym (ap squareKey q ∙ quarter-key (a .s .square) (top .pre .0 .0) (top .pre .1 .0) (a .k) (top .pre .1 .1)),
     )
 

@@ -12,8 +12,10 @@ top-left-requires c κs = search needs
 returns : tie.Need-returns
 unfolding quarters
 returns c =
-    let s = c .before .before .args .s in
-    let e : 0 ≡ c .before .before .args .k = sym (c .before .if1 .taken) in
+    let then1 : tie.Then1 = search needs in
+    let top : tie.Start = search needs in
+    let s = top .args .s in
+    let e : 0 ≡ top .args .k = sym (then1 .if1 .taken) in
     c .top-left .ensures ∙ ap (λ k. getD (quarters s) k s) e
 
 top-right-requires : tie.Need-top-right-requires
@@ -22,8 +24,10 @@ top-right-requires c κs = search needs
 returns-2 : tie.Need-returns-2
 unfolding quarters
 returns-2 c =
-    let s = c .before .before .before .args .s in
-    let e : 1 ≡ c .before .before .before .args .k = sym (c .before .if2 .taken) in
+    let then2 : tie.Then2 = search needs in
+    let top : tie.Start = search needs in
+    let s = top .args .s in
+    let e : 1 ≡ top .args .k = sym (then2 .if2 .taken) in
     c .top-right .ensures ∙ ap (λ k. getD (quarters s) k s) e
 
 bottom-left-requires : tie.Need-bottom-left-requires
@@ -32,8 +36,10 @@ bottom-left-requires c κs = search needs
 returns-3 : tie.Need-returns-3
 unfolding quarters
 returns-3 c =
-    let s = c .before .before .before .before .args .s in
-    let e : 2 ≡ c .before .before .before .before .args .k = sym (c .before .if3 .taken) in
+    let then3 : tie.Then3 = search needs in
+    let top : tie.Start = search needs in
+    let s = top .args .s in
+    let e : 2 ≡ top .args .k = sym (then3 .if3 .taken) in
     c .bottom-left .ensures ∙ ap (λ k. getD (quarters s) k s) e
 
 bottom-right-requires : tie.Need-bottom-right-requires
@@ -42,8 +48,9 @@ bottom-right-requires c κs = search needs
 returns-4 : tie.Need-returns-4
 unfolding quarters
 returns-4 c =
-    let s = c .before .before .before .before .args .s in
-    let e : 3 ≡ c .before .before .before .before .args .k = omega arith in
+    let top : tie.Start = search needs in
+    let s = top .args .s in
+    let e : 3 ≡ top .args .k = omega arith in
     c .bottom-right .ensures ∙ ap (λ k. getD (quarters s) k s) e
 
 pub quarter-spec : {M : Type 1} → statement M

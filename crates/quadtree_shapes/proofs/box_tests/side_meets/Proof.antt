@@ -8,7 +8,10 @@ use Rattle.quadtree_shapes.proofs.box_tests.side_meets.Tie as tie
 
 returns : tie.Need-returns
 unfolding sideMeetsAt
-returns c = ap₂ _&&_ (c .before .touches .ensures) (ap (λ x. leb x (c .before .before .before .args .v)) (c .base .ensures))
+returns c =
+    let touches : tie.After-touches = search needs in
+    let top : tie.Start = search needs in
+    ap₂ _&&_ (touches .touches .ensures) (ap (λ x. leb x (top .args .v)) (c .base .ensures))
 
 pub side-meets-spec : {M : Type 1} → statement M
 side-meets-spec =

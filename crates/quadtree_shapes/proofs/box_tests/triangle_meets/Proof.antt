@@ -8,31 +8,42 @@ use borrow.Author.Needs.{needs}
 use Rattle.quadtree_shapes.proofs.box_tests.triangle_meets.Statement.{statement}
 use Rattle.quadtree_shapes.proofs.box_tests.triangle_meets.Tie as tie
 
+-- an earlier place, found from a later one
+abbrev touches-to-top : tie.After-touches → tie.Start
+touches-to-top c = search needs
+
 returns : tie.Need-returns
 unfolding triangleMeetsAt
 returns c =
-    let o = c .before .before .before .before .before .before .before .before .before .before .args .offsets .now in
-    let i = c .before .before .before .before .before .before .before .before .before .before .args .i in
+    let reach2 : tie.After-reach2 = search needs in
+    let reach : tie.After-reach = search needs in
+    let then1 : tie.Then1 = search needs in
+    let touches : tie.After-touches = search needs in
+    let top = touches-to-top touches in
+    let o = top .args .offsets .now in
+    let i = top .args .i in
     ap₂ _&&_
     (ap₂ _&&_
-    (ap₂ _&&_ (sym (c .before .before .before .before .before .before .if1 .taken) ∙ c .before .before .before .before .before .before .before .touches .ensures) (ap (leb (getD o (3 * i) 0)) (c .before .before .before .before .reach .ensures)))
-    (ap (leb (getD o (3 * i + 1) 0)) (c .before .before .reach2 .ensures)))
+    (ap₂ _&&_ (sym (then1 .if1 .taken) ∙ touches .touches .ensures) (ap (leb (getD o (3 * i) 0)) (reach .reach .ensures)))
+    (ap (leb (getD o (3 * i + 1) 0)) (reach2 .reach2 .ensures)))
     (ap (leb (getD o (3 * i + 2) 0)) (c .reach3 .ensures))
 
 returns-2 : tie.Need-returns-2
 unfolding triangleMeetsAt
 returns-2 c =
-    let s = c .before .before .before .before .args .shape .now in
-    let o = c .before .before .before .before .args .offsets .now in
-    let i = c .before .before .before .before .args .i in
-    let b = boxOf (c .before .before .before .before .args .f) in
+    let touches : tie.After-touches = search needs in
+    let top : tie.Start = search needs in
+    let s = top .args .shape .now in
+    let o = top .args .offsets .now in
+    let i = top .args .i in
+    let b = boxOf (top .args .f) in
     ap
     (λ t.
     t
     && leb (getD o (3 * i) 0) (reachAt s (28 * i) b)
     && leb (getD o (3 * i + 1) 0) (reachAt s (28 * i + 8) b)
     && leb (getD o (3 * i + 2) 0) (reachAt s (28 * i + 16) b))
-    (sym (c .if1 .left) ∙ c .before .touches .ensures)
+    (sym (c .if1 .left) ∙ touches .touches .ensures)
 
 pub triangle-meets-spec : {M : Type 1} → statement M
 triangle-meets-spec =

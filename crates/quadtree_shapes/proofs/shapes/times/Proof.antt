@@ -10,10 +10,14 @@ wide-requires : tie.Need-wide-requires
 wide-requires c κs = search needs
 
 mul-result : tie.Need-mul-result
-mul-result c = let h : c .wide .result * c .before .args .b ≤ 65535 * 65536 = mul-le-mul {n₂ = 65535} {m₂ = 65536} (omega arith) (omega arith) in omega arith
+mul-result c =
+    let top : tie.Start = search needs in
+    let h : c .wide .result * top .args .b ≤ 65535 * 65536 = mul-le-mul {n₂ = 65535} {m₂ = 65536} (omega arith) (omega arith) in omega arith
 
 returns : tie.Need-returns
-returns c = (ap (λ n. n * c .before .args .b) (c .wide .ensures .0), mul-le-mul {n₂ = 65535} {m₂ = 65536} (omega arith) (omega arith))
+returns c =
+    let top : tie.Start = search needs in
+    (ap (λ n. n * top .args .b) (c .wide .ensures .0), mul-le-mul {n₂ = 65535} {m₂ = 65536} (omega arith) (omega arith))
 
 pub times-spec : {M : Type 1} → statement M
 times-spec = tie.close (tie.spec wide-requires mul-result returns)

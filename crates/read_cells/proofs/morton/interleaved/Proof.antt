@@ -5,8 +5,10 @@ use Rattle.read_cells.proofs.morton.interleaved.Tie as tie
 
 returns : tie.Need-returns
 returns c =
-    let a = c .before .before .args in
-    (rw (c .before .spread .ensures .0, c .spread2 .ensures .0, morton-weave 8 (a .x) (a .y)), search needs)
+    let spread : tie.After-spread = search needs in
+    let top : tie.Start = search needs in
+    let a = top .args in
+    (rw (spread .spread .ensures .0, c .spread2 .ensures .0, morton-weave 8 (a .x) (a .y)), search needs)
 
 pub interleaved-spec : {M : Type 1} → statement M
 interleaved-spec =

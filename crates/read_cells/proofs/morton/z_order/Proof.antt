@@ -5,8 +5,10 @@ use Rattle.read_cells.proofs.morton.z_order.Tie as tie
 
 returns : tie.Need-returns
 returns c =
-    rw (c .before .interleaved .ensures .0, c .interleaved2 .ensures .0)
-    (zOrder-bytes (c .before .before .before .before .args .p))
+    let interleaved : tie.After-interleaved = search needs in
+    let top : tie.Start = search needs in
+    rw (interleaved .interleaved .ensures .0, c .interleaved2 .ensures .0)
+    (zOrder-bytes (top .args .p))
 
 pub z-order-spec : {M : Type 1} → statement M
 z-order-spec =

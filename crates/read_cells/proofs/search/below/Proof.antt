@@ -1,6 +1,7 @@
 use Prim.Native.Nat.{_+_, _-_, _/_}
 use native.Mathlib.Omega.{arith}
 use Rattle.read_cells.proofs.HalvesLaws.{Bracket, bracket-all, bracket-above, bracket-below, bracket-met}
+use borrow.Author.Needs.{needs}
 use Rattle.read_cells.proofs.search.below.Statement.{statement}
 use Rattle.read_cells.proofs.search.below.Tie as tie
 
@@ -27,7 +28,8 @@ shared-slice-read-if1 c = omega arith
 
 cast-if1 : tie.Need-cast-if1 Inv-loop μ-loop
 cast-if1 c =
-    let l = c .before .before .loop in
+    let loop : tie.At-loop Inv-loop μ-loop = search needs in
+    let l = loop .loop in
     omega (arith, c .shared-slice-known .given (l .low + (l .high - l .low) / 2))
 
 add-low : tie.Need-add-low Inv-loop μ-loop
@@ -38,19 +40,25 @@ loop-less c = omega arith
 
 loop-again : tie.Need-loop-again Inv-loop μ-loop
 loop-again c =
-    let l = c .before .before .before .loop in
-    bracket-above (c .before .before .before .before .pre .1) (l .inv) _ (omega arith) (omega arith) (c .if1 .taken)
+    let loop : tie.At-loop Inv-loop μ-loop = search needs in
+    let top : tie.Start Inv-loop μ-loop = search needs in
+    let l = loop .loop in
+    bracket-above (top .pre .1) (l .inv) _ (omega arith) (omega arith) (c .if1 .taken)
 
 loop-less-2 : tie.Need-loop-less-2 Inv-loop μ-loop
 loop-less-2 c = omega arith
 
 loop-again-2 : tie.Need-loop-again-2 Inv-loop μ-loop
 loop-again-2 c =
-    let l = c .before .before .before .loop in
-    bracket-below (c .before .before .before .before .pre .1) (l .inv) _ (omega arith) (omega arith) (c .if1 .left)
+    let loop : tie.At-loop Inv-loop μ-loop = search needs in
+    let top : tie.Start Inv-loop μ-loop = search needs in
+    let l = loop .loop in
+    bracket-below (top .pre .1) (l .inv) _ (omega arith) (omega arith) (c .if1 .left)
 
 returns : tie.Need-returns Inv-loop μ-loop
-returns c = bracket-met (c .before .loop .inv) (c .loop-test .left)
+returns c =
+    let loop : tie.At-loop Inv-loop μ-loop = search needs in
+    bracket-met (loop .loop .inv) (c .loop-test .left)
 
 pub below-spec : {M : Type 1} → statement M
 below-spec =

@@ -8,7 +8,7 @@ use Rattle.read_cells.proofs.search.last_block.Tie as tie
 -- the first key is at or below k
 some : (c : tie.After-below) → 0 < c .below .result
 some c =
-    let top = c .before .before in
+    let top : tie.Start = search needs in
     passed (c .below .ensures) 0 (top .pre .1 .0) (omega (arith, top .pre .1 .1))
 
 add-below : tie.Need-add-below
@@ -27,16 +27,19 @@ shared-slice-read-below : tie.Need-shared-slice-read-below
 shared-slice-read-below c = search needs
 
 cast-below : tie.Need-cast-below
-cast-below c = omega (arith, c .shared-slice-known2 .given (c .before .below .result - 1))
+cast-below c =
+    let below : tie.After-below = search needs in
+    omega (arith, c .shared-slice-known2 .given (below .below .result - 1))
 
 below-requires-2 : tie.Need-below-requires-2
 below-requires-2 c κs = search needs
 
 returns : tie.Need-returns
 returns c =
-    let to = c .before .before .below in
+    let below : tie.After-below = search needs in
+    let to = below .below in
     let n = to .ensures .within in
-    let m = some (c .before .before) in
+    let m = some below in
     record {
       some = omega (arith, not-passed (c .below2 .ensures) (to .result - 1) (omega arith) (omega arith));
       ends = to .ensures;

@@ -21,10 +21,14 @@ shared-slice-read-if1 : tie.Need-shared-slice-read-if1
 shared-slice-read-if1 c = search needs
 
 sub-given : tie.Need-sub-given
-sub-given c = omega (arith, load-long (numbers (c .before .before .before .before .before .before .before)) (c .before .before .before .before .before .before .before .pre) (c .if1 .taken))
+sub-given c =
+    let top : tie.Start = search needs in
+    omega (arith, load-long (numbers top) (top .pre) (c .if1 .taken))
 
 part-given-start : tie.Need-part-given-start
-part-given-start c = omega (arith, load-long (numbers (c .before .before .before .before .before .before .before)) (c .before .before .before .before .before .before .before .pre) (c .if1 .taken))
+part-given-start c =
+    let top : tie.Start = search needs in
+    omega (arith, load-long (numbers top) (top .pre) (c .if1 .taken))
 
 part-given-end : tie.Need-part-given-end
 part-given-end c = search needs
@@ -44,23 +48,46 @@ same-length-3 c = search needs
 same-length-4 : tie.Need-same-length-4
 same-length-4 c = search needs
 
+-- an earlier place, found from a later one
+abbrev then1-to-top : tie.Then1 → tie.Start
+then1-to-top c = search needs
+
+abbrev else1-to-top : tie.Else1 → tie.Start
+else1-to-top c = search needs
+
 returns : tie.Need-returns
-returns c = let top = c .before .before .before .before .before .before .before .before .before .before .before .before .before .before .before .before .before .before .before .before .before in c .before .before .before .before .before .before .before .before .load .ensures ∙ load-event (numbers top) (chart top) (c .before .before .before .before .before .before .before .before .before .before .before .before .before .before .if1 .taken)
+returns c =
+    let load : tie.After-load = search needs in
+    let then1 : tie.Then1 = search needs in
+    let top = then1-to-top then1 in
+    load .load .ensures ∙ load-event (numbers top) (chart top) (then1 .if1 .taken)
 
 shared-slice-read-if2 : tie.Need-shared-slice-read-if2
 shared-slice-read-if2 c = search needs
 
 shared-slice-read-index : tie.Need-shared-slice-read-index
-shared-slice-read-index c = omega (arith, split-long (numbers (c .before .before .before .before .before .before .before .before .before .before)) (c .before .before .before .before .before .before .before .before .before .before .pre) (c .before .before .before .if1 .left) (c .before .if2 .taken))
+shared-slice-read-index c =
+    let then2 : tie.Then2 = search needs in
+    let else1 : tie.Else1 = search needs in
+    let top = else1-to-top else1 in
+    omega (arith, split-long (numbers top) (top .pre) (else1 .if1 .left) (then2 .if2 .taken))
 
 index-requires : tie.Need-index-requires
 index-requires c κs = search needs
 
 shared-slice-read-t31 : tie.Need-shared-slice-read-t31
-shared-slice-read-t31 c = omega (arith, split-long (numbers (c .before .before .before .before .before .before .before .before .before .before .before .before)) (c .before .before .before .before .before .before .before .before .before .before .before .before .pre) (c .before .before .before .before .before .if1 .left) (c .before .before .before .if2 .taken))
+shared-slice-read-t31 c =
+    let then2 : tie.Then2 = search needs in
+    let else1 : tie.Else1 = search needs in
+    let top = else1-to-top else1 in
+    omega (arith, split-long (numbers top) (top .pre) (else1 .if1 .left) (then2 .if2 .taken))
 
 shared-slice-read-t34 : tie.Need-shared-slice-read-t34
-shared-slice-read-t34 c = omega (arith, split-long (numbers (c .before .before .before .before .before .before .before .before .before .before .before .before .before)) (c .before .before .before .before .before .before .before .before .before .before .before .before .before .pre) (c .before .before .before .before .before .before .if1 .left) (c .before .before .before .before .if2 .taken))
+shared-slice-read-t34 c =
+    let then2 : tie.Then2 = search needs in
+    let else1 : tie.Else1 = search needs in
+    let top = else1-to-top else1 in
+    omega (arith, split-long (numbers top) (top .pre) (else1 .if1 .left) (then2 .if2 .taken))
 
 split-requires : tie.Need-split-requires
 split-requires c κs = search needs
@@ -78,16 +105,30 @@ same-length-8 : tie.Need-same-length-8
 same-length-8 c = search needs
 
 returns-2 : tie.Need-returns-2
-returns-2 c = let top = c .before .before .before .before .before .before .before .before .before .before .before .before .before .before .before .before .before .before .before .before .before .before .before .before .before .before in c .before .before .before .before .before .before .before .before .split .ensures ∙ split-event (numbers top) (chart top) (c .before .before .before .before .before .before .before .before .before .before .before .before .before .before .before .before .before .before .before .if1 .left) (c .before .before .before .before .before .before .before .before .before .before .before .before .before .before .before .before .before .if2 .taken) (c .before .before .before .before .before .before .before .before .before .before .before .before .before .before .before .index .ensures .0)
+returns-2 c =
+    let split : tie.After-split = search needs in
+    let index : tie.After-index = search needs in
+    let then2 : tie.Then2 = search needs in
+    let else1 : tie.Else1 = search needs in
+    let top = else1-to-top else1 in
+    split .split .ensures ∙ split-event (numbers top) (chart top) (else1 .if1 .left) (then2 .if2 .taken) (index .index .ensures .0)
 
 shared-slice-read-if3 : tie.Need-shared-slice-read-if3
 shared-slice-read-if3 c = search needs
 
 shared-slice-read-t45 : tie.Need-shared-slice-read-t45
-shared-slice-read-t45 c = omega (arith, other-long (numbers (c .before .before .before .before .before .before .before .before .before .before .before .before)) (c .before .before .before .before .before .before .before .before .before .before .before .before .pre) (c .before .before .before .before .before .if1 .left) (c .before .before .before .if2 .left))
+shared-slice-read-t45 c =
+    let else2 : tie.Else2 = search needs in
+    let else1 : tie.Else1 = search needs in
+    let top = else1-to-top else1 in
+    omega (arith, other-long (numbers top) (top .pre) (else1 .if1 .left) (else2 .if2 .left))
 
 shared-slice-read-t47 : tie.Need-shared-slice-read-t47
-shared-slice-read-t47 c = omega (arith, other-long (numbers (c .before .before .before .before .before .before .before .before .before .before .before .before .before)) (c .before .before .before .before .before .before .before .before .before .before .before .before .before .pre) (c .before .before .before .before .before .before .if1 .left) (c .before .before .before .before .if2 .left))
+shared-slice-read-t47 c =
+    let else2 : tie.Else2 = search needs in
+    let else1 : tie.Else1 = search needs in
+    let top = else1-to-top else1 in
+    omega (arith, other-long (numbers top) (top .pre) (else1 .if1 .left) (else2 .if2 .left))
 
 take-out-requires : tie.Need-take-out-requires
 take-out-requires c κs = search needs
@@ -105,16 +146,30 @@ same-length-12 : tie.Need-same-length-12
 same-length-12 c = search needs
 
 returns-3 : tie.Need-returns-3
-returns-3 c = let top = c .before .before .before .before .before .before .before .before .before .before .before .before .before .before .before .before .before .before .before .before .before .before .before .before .before .before in c .before .before .before .before .before .before .before .before .take-out .ensures ∙ takeOut-event (numbers top) (chart top) (c .before .before .before .before .before .before .before .before .before .before .before .before .before .before .before .before .before .before .before .if1 .left) (c .before .before .before .before .before .before .before .before .before .before .before .before .before .before .before .before .before .if2 .left) (c .before .before .before .before .before .before .before .before .before .before .before .before .before .before .before .if3 .taken)
+returns-3 c =
+    let take-out : tie.After-take-out = search needs in
+    let then3 : tie.Then3 = search needs in
+    let else2 : tie.Else2 = search needs in
+    let else1 : tie.Else1 = search needs in
+    let top = else1-to-top else1 in
+    take-out .take-out .ensures ∙ takeOut-event (numbers top) (chart top) (else1 .if1 .left) (else2 .if2 .left) (then3 .if3 .taken)
 
 shared-slice-read-index-2 : tie.Need-shared-slice-read-index-2
-shared-slice-read-index-2 c = omega (arith, other-long (numbers (c .before .before .before .before .before .before .before .before .before .before .before .before)) (c .before .before .before .before .before .before .before .before .before .before .before .before .pre) (c .before .before .before .before .before .if1 .left) (c .before .before .before .if2 .left))
+shared-slice-read-index-2 c =
+    let else2 : tie.Else2 = search needs in
+    let else1 : tie.Else1 = search needs in
+    let top = else1-to-top else1 in
+    omega (arith, other-long (numbers top) (top .pre) (else1 .if1 .left) (else2 .if2 .left))
 
 index-requires-2 : tie.Need-index-requires-2
 index-requires-2 c κs = search needs
 
 shared-slice-read-index-3 : tie.Need-shared-slice-read-index-3
-shared-slice-read-index-3 c = omega (arith, other-long (numbers (c .before .before .before .before .before .before .before .before .before .before .before .before .before .before)) (c .before .before .before .before .before .before .before .before .before .before .before .before .before .before .pre) (c .before .before .before .before .before .before .before .if1 .left) (c .before .before .before .before .before .if2 .left))
+shared-slice-read-index-3 c =
+    let else2 : tie.Else2 = search needs in
+    let else1 : tie.Else1 = search needs in
+    let top = else1-to-top else1 in
+    omega (arith, other-long (numbers top) (top .pre) (else1 .if1 .left) (else2 .if2 .left))
 
 index-requires-3 : tie.Need-index-requires-3
 index-requires-3 c κs = search needs
@@ -135,7 +190,15 @@ same-length-16 : tie.Need-same-length-16
 same-length-16 c = search needs
 
 returns-4 : tie.Need-returns-4
-returns-4 c = let top = c .before .before .before .before .before .before .before .before .before .before .before .before .before .before .before .before .before .before .before .before .before .before .before .before .before .before .before .before in c .before .before .before .before .before .before .before .before .flip .ensures ∙ flip-event (numbers top) (chart top) (c .before .before .before .before .before .before .before .before .before .before .before .before .before .before .before .before .before .before .before .before .before .if1 .left) (c .before .before .before .before .before .before .before .before .before .before .before .before .before .before .before .before .before .before .before .if2 .left) (c .before .before .before .before .before .before .before .before .before .before .before .before .before .before .before .before .before .if3 .left) (c .before .before .before .before .before .before .before .before .before .before .before .before .before .before .before .index2 .ensures .0) (c .before .before .before .before .before .before .before .before .before .before .before .before .before .index3 .ensures .0)
+returns-4 c =
+    let flip : tie.After-flip = search needs in
+    let index3 : tie.After-index3 = search needs in
+    let index2 : tie.After-index2 = search needs in
+    let else3 : tie.Else3 = search needs in
+    let else2 : tie.Else2 = search needs in
+    let else1 : tie.Else1 = search needs in
+    let top = else1-to-top else1 in
+    flip .flip .ensures ∙ flip-event (numbers top) (chart top) (else1 .if1 .left) (else2 .if2 .left) (else3 .if3 .left) (index2 .index2 .ensures .0) (index3 .index3 .ensures .0)
 
 pub run-call-spec : {M : Type 1} → statement M
 run-call-spec =
