@@ -42,16 +42,5 @@ returns-2 c =
 
 pub put-cell-spec : {M : Type 1} → statement M
 put-cell-spec =
-    tie.close
-    (tie.spec
-    (λ c κs. search needs)
-    (λ c. search needs)
-    slice-write-out
-    (λ c. search needs)
-    (λ c. search needs)
-    returns
-    put-candidates-requires
-    (λ c. search needs)
-    (λ c. search needs)
-    (λ c. search needs)
-    returns-2)
+    tie.close (tie.spec (λ c κs. search needs) (λ c. search needs) slice-write-out (λ c. search needs) (λ c. search needs) returns
+    put-candidates-requires (λ c. search needs) (λ c. search needs) (λ c. search needs) returns-2)

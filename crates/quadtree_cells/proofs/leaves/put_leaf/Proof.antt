@@ -34,12 +34,4 @@ returns-2 c =
 
 pub put-leaf-spec : {M : Type 1} → statement M
 put-leaf-spec =
-    tie.close
-    (tie.spec
-    (λ c. search needs)
-    (λ c κs. search needs)
-    (λ c. search needs)
-    returns
-    put-cell-requires
-    (λ c. search needs)
-    returns-2)
+    tie.close (tie.spec (λ c. search needs) (λ c κs. search needs) (λ c. search needs) returns put-cell-requires (λ c. search needs) returns-2)
