@@ -8,3 +8,4 @@ pub mod EditCalls
 pub mod HistoryLaws
 pub mod HistoryExamples
 pub mod LongBufferExamples
+pub mod PaddedLaws
