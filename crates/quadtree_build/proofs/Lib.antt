@@ -2,4 +2,5 @@ pub mod WalkLaws
 pub mod SquareWalk
 pub mod WholeWalk
 pub mod KeptLaws
+pub mod PackableLaws
 pub mod PackedLaws
