@@ -1,20 +1,17 @@
 // Doubled area: the sum over a chart's table.
 
 use base_answers::Area;
-use base_answers::Judged;
+use base_answers::Verdict;
 use base_geometry::orientation;
 use spec_plane::Point;
 ghost use mathlib.Core.Path.{_≡_};
 ghost use mathlib.Core.Bool.{true};
-ghost use Prim.Native.Nat.{_*_, _≤_, _<_};
-ghost use lib.ListN.{length};
-ghost use Rattle.theory_lists.specs.Lists.{all};
+ghost use Prim.Native.Nat.{_<_};
 ghost use Rattle.spec_plane.specs.Triangle.{proper, triangleOf, doubledArea};
-ghost use Rattle.spec_charts.specs.Table.{maxTriangles, numbersPerTriangle, tableOf};
+ghost use Rattle.spec_charts.specs.Table.{Drawn, tableOf};
 ghost use Rattle.spec_charts.specs.Reading.{totalArea};
-ghost use Rattle.spec_calls.specs.Buffers.{chartOf};
 ghost use Rattle.spec_calls.specs.Calls.{areaCall};
-ghost use Rattle.spec_calls.specs.Calls.{Area as Calls·Area};
+ghost use Rattle.spec_calls.specs.Lent.{given};
 ghost use Rattle.base_answers.specs.Outcomes.{areaOf};
 
 // The doubled area of a triangle with D > 0.
@@ -28,7 +25,7 @@ fn doubled(t: [Point; 3]) -> u64
 
 // The sum over the first n triangles, each with D > 0.
 fn sum(table: &[u16], n: usize) -> u64
-    requires { ⌜ ((n ≤ maxTriangles) × (numbersPerTriangle * n ≤ length (now table))) × (all (λ t. proper t) (tableOf (now table) n) ≡ true) ⌝ }
+    requires { ⌜ Drawn (now table) n ⌝ }
     ensures { λ r. ⌜ r ≡ totalArea (tableOf (now (table .entry)) n) ⌝ }
 {
     let mut s = 0u64;
@@ -49,13 +46,10 @@ pub fn doubled_area(
     triangles: usize,
     entries: usize,
 ) -> Area
-    ensures { λ r. ⌜ _≡_ {A = Calls·Area} (areaOf r) (areaCall (chartOf (now (table .entry)) (now (keys .entry)) (now (levels .entry)) (now (items .entry)) triangles entries)) ⌝ }
+    ensures { λ r. ⌜ areaOf r ≡ areaCall (given table keys levels items triangles entries) ⌝ }
 {
     match chart_rule::judge(table, keys, levels, items, triangles, entries) {
-        Judged::Fine => Area::Sum(sum(table, triangles)),
-        Judged::ShortBuffer => Area::ShortBuffer,
-        Judged::BrokenChain => Area::BrokenChain,
-        // Never found: `judge` judges 1 and 2.
-        Judged::StaleEntries => Area::BrokenChain,
+        Verdict::Accepted => Area::Sum(sum(table, triangles)),
+        Verdict::Refused(r) => Area::Refused(r),
     }
 }

@@ -1,15 +1,13 @@
 // Any edit of a chart: it is judged, the edit makes a table in a scratch table, and that is stored with its entries.
 
 use base_answers::Changed;
-use base_answers::Judged;
+use base_answers::Verdict;
 use edit_steps::Edit;
-use edit_steps::edit_answers;
 ghost use mathlib.Core.Path.{_≡_};
-ghost use Rattle.spec_calls.specs.Buffers.{chartOf};
 ghost use Rattle.spec_calls.specs.Calls.{editCall};
-ghost use Rattle.spec_calls.specs.Calls.{Changed as Calls·Changed};
-ghost use Rattle.base_answers.specs.Outcomes.{changedOf};
-ghost use Rattle.edit_steps.specs.Edit.{tableEdit};
+ghost use Rattle.spec_calls.specs.Lent.{given};
+ghost use Rattle.base_answers.specs.Outcomes.{left};
+ghost use Rattle.edit_steps.specs.Edit.{eventOf};
 
 // Any edit of a chart. It answers how it went and the counts that the chart has now; a refusal leaves lists and counts as they were.
 pub fn edit_chart(
@@ -21,10 +19,10 @@ pub fn edit_chart(
     entries: usize,
     edit: Edit,
 ) -> Changed
-    ensures { λ r. ⌜ _≡_ {A = Calls·Changed} (changedOf r (now (table .exit)) (now (keys .exit)) (now (levels .exit)) (now (items .exit))) (editCall (tableEdit edit) (chartOf (now (table .entry)) (now (keys .entry)) (now (levels .entry)) (now (items .entry)) triangles entries)) ⌝ }
+    ensures { λ r. ⌜ left table keys levels items r ≡ editCall (eventOf edit) (given table keys levels items triangles entries) ⌝ }
 {
-    let judged = chart_judge::judge_edit(table, keys, levels, items, triangles, entries);
-    if let Judged::Fine = judged {
+    let verdict = chart_judge::judge_edit(table, keys, levels, items, triangles, entries);
+    if let Verdict::Accepted = verdict {
         let mut scratch = [0u16; base_tables::TABLE_NUMBERS];
         let made = edit_steps::edit_table(edit, table, triangles, &mut scratch);
         return edit_steps::finish(
@@ -38,5 +36,9 @@ pub fn edit_chart(
             entries,
         );
     }
-    edit_steps::refused(edit_answers::judged_change(judged), triangles, entries)
+    Changed {
+        verdict,
+        triangles,
+        entries,
+    }
 }

@@ -7,10 +7,9 @@ use base_answers::Changed;
 use edit_steps::Edit;
 use spec_plane::Point;
 ghost use mathlib.Core.Path.{_≡_};
-ghost use Rattle.spec_calls.specs.Buffers.{chartOf};
 ghost use Rattle.spec_calls.specs.Calls.{splitCall, takeOutCall, flipCall};
-ghost use Rattle.spec_calls.specs.Calls.{Changed as Calls·Changed};
-ghost use Rattle.base_answers.specs.Outcomes.{changedOf};
+ghost use Rattle.spec_calls.specs.Lent.{given};
+ghost use Rattle.base_answers.specs.Outcomes.{left};
 
 // Split: triangle i at p.
 pub fn split(
@@ -23,7 +22,7 @@ pub fn split(
     i: usize,
     p: Point,
 ) -> Changed
-    ensures { λ r. ⌜ _≡_ {A = Calls·Changed} (changedOf r (now (table .exit)) (now (keys .exit)) (now (levels .exit)) (now (items .exit))) (splitCall i p (chartOf (now (table .entry)) (now (keys .entry)) (now (levels .entry)) (now (items .entry)) triangles entries)) ⌝ }
+    ensures { λ r. ⌜ left table keys levels items r ≡ splitCall i p (given table keys levels items triangles entries) ⌝ }
 {
     chart_edit::edit_chart(
         table,
@@ -46,7 +45,7 @@ pub fn take_out(
     entries: usize,
     p: Point,
 ) -> Changed
-    ensures { λ r. ⌜ _≡_ {A = Calls·Changed} (changedOf r (now (table .exit)) (now (keys .exit)) (now (levels .exit)) (now (items .exit))) (takeOutCall p (chartOf (now (table .entry)) (now (keys .entry)) (now (levels .entry)) (now (items .entry)) triangles entries)) ⌝ }
+    ensures { λ r. ⌜ left table keys levels items r ≡ takeOutCall p (given table keys levels items triangles entries) ⌝ }
 {
     chart_edit::edit_chart(
         table,
@@ -70,7 +69,7 @@ pub fn flip(
     i: usize,
     j: usize,
 ) -> Changed
-    ensures { λ r. ⌜ _≡_ {A = Calls·Changed} (changedOf r (now (table .exit)) (now (keys .exit)) (now (levels .exit)) (now (items .exit))) (flipCall i j (chartOf (now (table .entry)) (now (keys .entry)) (now (levels .entry)) (now (items .entry)) triangles entries)) ⌝ }
+    ensures { λ r. ⌜ left table keys levels items r ≡ flipCall i j (given table keys levels items triangles entries) ⌝ }
 {
     chart_edit::edit_chart(
         table,

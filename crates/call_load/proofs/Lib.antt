@@ -1,4 +1,3 @@
 pub mod FaultyLaws
 pub mod GivenLaws
 pub mod LoadLaws
-pub mod LoadIndexed

@@ -8,7 +8,7 @@ use Rattle.spec_charts.specs.Table.{Table}
 use Rattle.spec_charts.specs.declared.Refusal.{Refusal}
 use Rattle.spec_charts.specs.declared.Refusal.the-variants.{ShortBuffer}
 use Rattle.spec_charts.specs.Refusals.{Outcome, refused, done, refuseIf, andThen}
-use Rattle.spec_charts.specs.Edits.{eventOn, proposed, loadTable, givenTable, withinLimit}
+use Rattle.spec_charts.specs.Edits.{load, eventOn, proposed, counted, loadTable, givenTable, withinLimit}
 use Rattle.laws_charts.proofs.OutcomeLaws.{refused-done}
 use Rattle.spec_calls.specs.Buffers.{Chart, tooShort}
 use Rattle.spec_calls.specs.Calls.{changedBy, ifLong, loadCall}
@@ -25,7 +25,7 @@ module _ (ns : List ℕ) (c : Chart) where
   load-refused e = ap (changedBy c) (go (tooShort c) (loadTable ns) e)
     where
       go : (b : Bool) (o : Outcome Table) {r : Refusal} → refused r ≡ refuseIf b ShortBuffer (andThen o (λ t. done true))
-          → refused r ≡ refuseIf b ShortBuffer (andThen o (λ t. withinLimit t))
+          → refused r ≡ refuseIf b ShortBuffer (andThen o (λ t. counted (load ns) t))
       go true o h = cc
       go false (refused s) h = cc
       go false (done t) h = absurd (refused-done h)
@@ -45,5 +45,5 @@ module _ (ns : List ℕ) (c : Chart) where
 
     -- then only the number of entries decides
     pub load-rest : changedBy c (withinLimit (givenTable ns)) ≡ loadCall ns c
-    unfolding loadCall ifLong refuseIf eventOn andThen proposed
+    unfolding loadCall ifLong refuseIf eventOn andThen proposed counted
     load-rest = rw (load-judged .0, load-accepted .made)

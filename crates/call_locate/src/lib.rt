@@ -1,7 +1,7 @@
 // Locate and cell listing.
 
-use base_answers::Judged;
 use base_answers::Located;
+use base_answers::Verdict;
 use base_geometry::geometry;
 use base_geometry::numbers;
 use spec_plane::Point;
@@ -11,9 +11,8 @@ ghost use lib.ListN.{length, getD};
 ghost use Rattle.theory_lists.specs.Lists.{first};
 ghost use Rattle.spec_plane.specs.Triangle.{holds};
 ghost use Rattle.spec_charts.specs.Table.{numbersPerTriangle, triangleAt};
-ghost use Rattle.spec_calls.specs.Buffers.{chartOf};
 ghost use Rattle.spec_calls.specs.Calls.{locateCall, listingCall};
-ghost use Rattle.spec_calls.specs.Calls.{Located as Calls·Located};
+ghost use Rattle.spec_calls.specs.Lent.{given};
 ghost use Rattle.read_cells.specs.Place.{OwnPart};
 ghost use Rattle.base_answers.specs.Outcomes.{locatedOf};
 ghost use Rattle.call_locate.specs.Holding.{foundOf};
@@ -46,10 +45,10 @@ pub fn cell_listing<'a, 'b, 'c, 'd>(
     entries: usize,
     p: Point,
 ) -> &'a [u16]
-    ensures { λ r. ⌜ now r ≡ listingCall (chartOf (now (table .entry)) (now (keys .entry)) (now (levels .entry)) (now (items .entry)) triangles entries) p ⌝ }
-    ensures { λ r. ⌜ OwnPart (items .entry) r (placesCall (chartOf (now (table .entry)) (now (keys .entry)) (now (levels .entry)) (now (items .entry)) triangles entries) p) ⌝ }
+    ensures { λ r. ⌜ now r ≡ listingCall (given table keys levels items triangles entries) p ⌝ }
+    ensures { λ r. ⌜ OwnPart (items .entry) r (placesCall (given table keys levels items triangles entries) p) ⌝ }
 {
-    let Judged::Fine = chart_rule::judge(table, keys, levels, items, triangles, entries) else {
+    let Verdict::Accepted = chart_rule::judge(table, keys, levels, items, triangles, entries) else {
         return &items[0..0];
     };
     read_cells::listing(keys, items, entries, p)
@@ -65,13 +64,10 @@ pub fn locate(
     entries: usize,
     p: Point,
 ) -> Located
-    ensures { λ r. ⌜ _≡_ {A = Calls·Located} (locatedOf r) (locateCall (chartOf (now (table .entry)) (now (keys .entry)) (now (levels .entry)) (now (items .entry)) triangles entries) p) ⌝ }
+    ensures { λ r. ⌜ locatedOf r ≡ locateCall (given table keys levels items triangles entries) p ⌝ }
 {
     match chart_rule::judge(table, keys, levels, items, triangles, entries) {
-        Judged::Fine => first_holding(table, read_cells::listing(keys, items, entries, p), p),
-        Judged::ShortBuffer => Located::ShortBuffer,
-        Judged::BrokenChain => Located::BrokenChain,
-        // Never found: `judge` judges 1 and 2.
-        Judged::StaleEntries => Located::BrokenChain,
+        Verdict::Accepted => first_holding(table, read_cells::listing(keys, items, entries, p), p),
+        Verdict::Refused(r) => Located::Refused(r),
     }
 }

@@ -7,11 +7,12 @@ use native.Mathlib.Omega.{arith}
 use borrow.Author.Tests.{lt-ltb, le-ltb}
 use lib.ListN.{length, drop, replicate}
 use lib.Seq.{sets}
+use Rattle.spec_charts.specs.declared.Refusal.the-variants.{TooManyPairs}
 use Rattle.spec_charts.specs.Refusals.{refuseIf}
 use Rattle.spec_charts.specs.Overlay.{Pair, pairNumbers, maxPairs, withinPairs}
 use Rattle.spec_calls.specs.Buffers.{padded, pairsLength}
 use Rattle.spec_calls.specs.Calls.{pairsRefused, overlaidBy}
-use Rattle.base_answers.specs.declared.Overlay.the-variants as overlays
+use Rattle.base_answers.specs.declared.Verdict.the-variants.{Accepted, Refused}
 use Rattle.base_answers.specs.declared.Overlaid.{Overlaid}
 use Rattle.base_answers.specs.Outcomes.{overlaidOf}
 use Rattle.base_lists.proofs.PaddedLaws.{padded-sets}
@@ -26,7 +27,7 @@ zeros n mid before h e = padded-sets n [] mid (omega arith) h ∙ ap (λ r. [] +
 module _ {ps : List Pair} {found : ℕ} {before mid : List ℕ} (w : Wrote ps 0 found before mid) (room : pairsLength ≤ length mid) (m : ℕ) (after : List ℕ) where
   -- too many pairs
   pub finish-over : maxPairs < found → after ≡ sets mid 0 (replicate (pairsLength - 0) 0)
-      → {r : Overlaid} → r ≡ record { overlay = overlays.TooManyPairs; pairs = 0; meetings = 0 } → overlaidOf r after ≡ overlaidBy before (withinPairs ps m)
+      → {r : Overlaid} → r ≡ record { verdict = Refused TooManyPairs; pairs = 0; meetings = 0 } → overlaidOf r after ≡ overlaidBy before (withinPairs ps m)
   unfolding overlaidBy withinPairs refuseIf pairsRefused
   finish-over h e f =
       ap (λ r. overlaidOf r after) f ∙
@@ -35,7 +36,7 @@ module _ {ps : List Pair} {found : ℕ} {before mid : List ℕ} (w : Wrote ps 0 
 
   -- not too many
   pub finish-done : found ≤ maxPairs → after ≡ sets mid (2 * found) (replicate (pairsLength - 2 * found) 0)
-      → overlaidOf (record { overlay = overlays.Done; pairs = found; meetings = m }) after ≡ overlaidBy before (withinPairs ps m)
+      → overlaidOf (record { verdict = Accepted; pairs = found; meetings = m }) after ≡ overlaidBy before (withinPairs ps m)
   unfolding overlaidBy withinPairs refuseIf
   finish-done h e =
       let few : length ps ≤ maxPairs = omega (arith, w .count) in

@@ -3,29 +3,29 @@
 use mathlib.Core.Path.{_≡_, refl, sym, _∙_, ap, ap₂, subst}
 use mathlib.Core.Bool.{Bool, true, false, not, _&&_, _||_}
 use mathlib.Core.List.{List, map, flatMap}
-use Prim.Native.Nat.{ℕ, _*_, _≤_, _<_}
+use Prim.Native.Nat.{ℕ, _≤_, _<_}
 use native.Mathlib.Omega.{arith}
 use borrow.Author.Tests.{ltb-false}
 use lib.Dec.{T, ltb}
 use lib.ListN.{length, take}
-use Rattle.theory_lists.specs.Lists.{all, filter, upTo}
+use Rattle.theory_lists.specs.Lists.{filter, upTo}
 use Rattle.theory_lists.proofs.Reflects.{or-neither}
 use Rattle.theory_lists.proofs.FilterLaws.{filter-agree}
 use Rattle.theory_lists.proofs.ListsLaws.{upTo-to}
 use Rattle.theory_lists.proofs.EveryLaws.{flatMap-agree}
 use Rattle.theory_orthtree.specs.Entries.{Entry, chain, meetings}
 use Rattle.spec_squares.specs.Square.{arity, depth}
-use Rattle.spec_plane.specs.Triangle.{proper}
 use Rattle.spec_plane.specs.Interior.{interiorsMeet}
-use Rattle.spec_charts.specs.Table.{maxTriangles, numbersPerTriangle, tableOf}
+use Rattle.spec_charts.specs.Table.{Drawn, maxTriangles, tableOf}
 use Rattle.spec_charts.specs.Cells.{maxEntries}
+use Rattle.spec_charts.specs.declared.Refusal.the-variants.{ShortBuffer, BrokenChain}
 use Rattle.spec_charts.specs.Refusals.{refuseIf}
 use Rattle.spec_charts.specs.Overlay.{Pair, pairListed, pairsListed, withinPairs, overlayOf}
 use Rattle.laws_charts.proofs.TableLaws.{tableOf-length, numbered-at}
-use Rattle.spec_calls.specs.Buffers.{Chart, tooShort, zipEntries, chainRule, chartTable, chartEntries, pairsLength}
+use Rattle.spec_calls.specs.Buffers.{Chart, Roomy, tooShort, zipEntries, chainRule, chartTable, chartEntries, pairsLength}
 use Rattle.spec_calls.specs.Calls.{pairsRefused, overlaidBy, overlayCall}
-use Rattle.laws_calls.proofs.BufferLaws.{ruled, rule-held, searchable}
-use Rattle.base_answers.specs.declared.Overlay.the-variants as overlays
+use Rattle.laws_calls.proofs.BufferLaws.{ruled, rule-drawn, searchable}
+use Rattle.base_answers.specs.declared.Verdict.the-variants.{Refused}
 use Rattle.base_answers.specs.declared.Overlaid.{Overlaid}
 use Rattle.base_answers.specs.Outcomes.{overlaidOf}
 use Rattle.overlay_merge.specs.Merge.{Overlapping}
@@ -41,30 +41,18 @@ both false b e = absurd (subst (λ b. T b) (sym e) tt)
 
 -- what a chart has that neither refuses
 pub record Passed (c : Chart) : Type 0 where
-  pub triangles : c .triangleCount ≤ maxTriangles
-  pub rows : numbersPerTriangle * c .triangleCount ≤ length (c .table)
-  pub oriented : all (λ t. proper t) (tableOf (c .table) (c .triangleCount)) ≡ true
+  pub drawn : Drawn (c .table) (c .triangleCount)
   pub entries : c .entryCount ≤ maxEntries
-  pub keyed : c .entryCount ≤ length (c .keys)
-  pub listed : c .entryCount ≤ length (c .items)
+  pub lists : Roomy (c .entryCount) (c .keys) (c .levels) (c .items)
+  pub chained : chain arity depth (c .triangleCount) (take (c .entryCount) (zipEntries (c .keys) (c .levels) (c .items))) ≡ true
 
 passed : (c : Chart) → tooShort c ≡ false → chainRule c ≡ true → Passed c
-unfolding chartTable
 passed c s e =
-    let held = rule-held c s e in
-    let room = searchable c s e .0 in
-    record {
-      triangles = held .few;
-      rows = held .room;
-      oriented = held .good;
-      entries = ruled c e .entries;
-      keyed = room .0;
-      listed = room .1 .1;
-    }
+    let l = searchable c s e in record { drawn = rule-drawn c s e; entries = ruled c e .entries; lists = l .0; chained = l .1 }
 
 module _ (c d : Chart) (pairs : List ℕ) where
   pub overlay-short : tooShort c || tooShort d || ltb (length pairs) pairsLength ≡ true
-      → {r : Overlaid} → r ≡ record { overlay = overlays.ShortBuffer; pairs = 0; meetings = 0 } → overlaidOf r pairs ≡ overlayCall c d pairs
+      → {r : Overlaid} → r ≡ record { verdict = Refused ShortBuffer; pairs = 0; meetings = 0 } → overlaidOf r pairs ≡ overlayCall c d pairs
   unfolding overlayCall overlaidBy refuseIf pairsRefused
   overlay-short h e = ap (λ r. overlaidOf r pairs) e ∙ rw h
 
@@ -80,7 +68,7 @@ module _ (c d : Chart) (pairs : List ℕ) where
     pairs-long = ltb-false (length pairs) pairsLength (or-neither (tooShort c || tooShort d) (ltb (length pairs) pairsLength) long .1)
 
     pub overlay-broken : chainRule c && chainRule d ≡ false
-        → {r : Overlaid} → r ≡ record { overlay = overlays.BrokenChain; pairs = 0; meetings = 0 } → overlaidOf r pairs ≡ overlayCall c d pairs
+        → {r : Overlaid} → r ≡ record { verdict = Refused BrokenChain; pairs = 0; meetings = 0 } → overlaidOf r pairs ≡ overlayCall c d pairs
     unfolding overlayCall overlaidBy refuseIf pairsRefused
     overlay-broken h e = ap (λ r. overlaidOf r pairs) e ∙ rw (long, either (chainRule c) (chainRule d) h)
       where
@@ -97,19 +85,13 @@ module _ (c d : Chart) (pairs : List ℕ) where
       pub second-passed : Passed d
       second-passed = passed d second-long (both (chainRule c) (chainRule d) rules .1)
 
-      pub first-chain : (c .entryCount ≤ length (c .levels)) × (chain arity depth (c .triangleCount) (take (c .entryCount) (zipEntries (c .keys) (c .levels) (c .items))) ≡ true)
-      first-chain = let s = searchable c first-long (both (chainRule c) (chainRule d) rules .0) in (s .0 .1 .0, s .1)
-
-      pub second-chain : (d .entryCount ≤ length (d .levels)) × (chain arity depth (d .triangleCount) (take (d .entryCount) (zipEntries (d .keys) (d .levels) (d .items))) ≡ true)
-      second-chain = let s = searchable d second-long (both (chainRule c) (chainRule d) rules .1) in (s .0 .1 .0, s .1)
-
       pub overlay-passed : overlaidBy pairs (overlayOf (chartTable c) (chartEntries c) (chartTable d) (chartEntries d)) ≡ overlayCall c d pairs
       unfolding overlayCall refuseIf
       overlay-passed = rw (long, both (chainRule c) (chainRule d) rules .0, both (chainRule c) (chainRule d) rules .1)
 
 -- ---- the marked pairs are those of the overlay
 
-module _ (first : List ℕ) (n : ℕ) (second : List ℕ) (m : ℕ) {es fs : List Entry} {rows : List ℕ} {r : ℕ} (o : Overlapping es fs rows r)
+module _ (first : List ℕ) (n : ℕ) (second : List ℕ) (m : ℕ) {es fs : List Entry} {rows : List ℕ} {r : ℕ} (o : Overlapping arity depth es fs rows r)
     (few : n ≤ maxTriangles) (few′ : m ≤ maxTriangles) where
   same-test : (i j : ℕ) → i < n → j < m
       → meetsAt first second i j && markedAt rows i j ≡ pairListed (tableOf first n) es (tableOf second m) fs i j

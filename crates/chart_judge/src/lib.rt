@@ -2,13 +2,14 @@
 
 mod entry_checks;
 
-use base_answers::Judged;
+use base_answers::Verdict;
+use spec_charts::Refusal;
 ghost use mathlib.Core.Path.{_≡_};
-ghost use mathlib.Core.Bool.{Bool, true};
-ghost use Rattle.spec_charts.specs.Refusals.{Outcome, done};
-ghost use Rattle.spec_calls.specs.Buffers.{chartOf};
+ghost use mathlib.Core.Bool.{true};
+ghost use Rattle.spec_charts.specs.Refusals.{done};
 ghost use Rattle.spec_calls.specs.Calls.{ifIndexed};
-ghost use Rattle.base_answers.specs.Outcomes.{judgedOutcome};
+ghost use Rattle.spec_calls.specs.Lent.{given};
+ghost use Rattle.base_answers.specs.Outcomes.{verdictOutcome};
 
 // Refusals 1, 2 and 3 of a chart, in their order.
 pub fn judge_edit(
@@ -18,20 +19,17 @@ pub fn judge_edit(
     items: &[u16],
     triangles: usize,
     entries: usize,
-) -> Judged
-    ensures { λ r. ⌜ _≡_ {A = Outcome Bool} (judgedOutcome r) (ifIndexed (chartOf (now (table .entry)) (now (keys .entry)) (now (levels .entry)) (now (items .entry)) triangles entries) (done true)) ⌝ }
+) -> Verdict
+    ensures { λ r. ⌜ verdictOutcome r ≡ ifIndexed (given table keys levels items triangles entries) (done true) ⌝ }
 {
     match chart_rule::judge(table, keys, levels, items, triangles, entries) {
-        Judged::Fine => {
+        Verdict::Accepted => {
             if entry_checks::entries_match(table, triangles, keys, levels, items, entries) {
-                Judged::Fine
+                Verdict::Accepted
             } else {
-                Judged::StaleEntries
+                Verdict::Refused(Refusal::StaleEntries)
             }
         }
-        Judged::ShortBuffer => Judged::ShortBuffer,
-        Judged::BrokenChain => Judged::BrokenChain,
-        // Never found: `judge` judges 1 and 2.
-        Judged::StaleEntries => Judged::StaleEntries,
+        Verdict::Refused(r) => Verdict::Refused(r),
     }
 }

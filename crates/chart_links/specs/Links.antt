@@ -1,4 +1,4 @@
--- What the loops of this crate test: the chain rule of document 01 ("Chart buffers") taken apart, list by list.
+-- The chain rule of document 01 ("Chart buffers") taken apart: an item, an entry and the next, the last entry.
 -- Assumes nothing.
 use mathlib.Core.Bool.{Bool, _&&_, _||_}
 use mathlib.Core.List.{List}

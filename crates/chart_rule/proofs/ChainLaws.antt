@@ -8,7 +8,7 @@ use lib.ListN.{length, getD, take}
 use Rattle.theory_lists.proofs.Reflects.{Reflects, reflects-iff}
 use Rattle.theory_orthtree.specs.Entries.{Entry, chain, entry}
 use Rattle.theory_orthtree.proofs.ChainPlaceLaws.{Chained, places-reflect, chained-same}
-use Rattle.spec_calls.specs.Buffers.{zipEntries}
+use Rattle.spec_calls.specs.Buffers.{Roomy, zipEntries}
 use Rattle.laws_calls.proofs.EntriesLaws.{first-count, first-at}
 use Rattle.chart_links.specs.Links.{entryAt}
 
@@ -17,13 +17,13 @@ nowhere : Entry
 nowhere = entry 0 0 0
 
 module _ (arity depth count : ℕ) (ks ls is : List ℕ) (n m : ℕ) (e : n ≡ suc m)
-    (a : n ≤ length ks) (b : n ≤ length ls) (c : n ≤ length is) where
+    (r : Roomy n ks ls is) where
   -- the chain rule on the first n entries of three lists
   pub lists-reflect : Reflects (chain arity depth count (take n (zipEntries ks ls is))) (Chained arity depth count (λ i. entryAt ks ls is i) m)
   unfolding entryAt
   lists-reflect =
       reflects-iff (chained-same arity depth count same) (chained-same arity depth count (λ i l. sym (same i l)))
-      (places-reflect arity depth count nowhere (take n (zipEntries ks ls is)) m (first-count ks ls is n a b c ∙ e))
+      (places-reflect arity depth count nowhere (take n (zipEntries ks ls is)) m (first-count ks ls is n (r .forKeys) (r .forLevels) (r .forItems) ∙ e))
     where
       same : (i : ℕ) → i < suc m → getD (take n (zipEntries ks ls is)) i nowhere ≡ entryAt ks ls is i
-      same i l = first-at ks ls is n a b c nowhere i (omega arith)
+      same i l = first-at ks ls is n (r .forKeys) (r .forLevels) (r .forItems) nowhere i (omega arith)

@@ -15,7 +15,7 @@ use Rattle.theory_lists.proofs.Reflects.{Reflects, reflects-and, reflects-iff, 
 use Rattle.theory_lists.proofs.IndexLaws.{reflects-same, all-below-reflects}
 use Rattle.theory_orthtree.specs.Entries.{Entry, isMark, span, rangeEnd, entryFits, follows, chain}
 use Rattle.spec_squares.specs.Square.{arity, depth}
-use Rattle.spec_calls.specs.Buffers.{zipEntries}
+use Rattle.spec_calls.specs.Buffers.{Roomy, zipEntries}
 use Rattle.chart_links.specs.Links.{entryAt, itemFits, aligned, linked, linkedAt, endsTree}
 use Rattle.theory_orthtree.proofs.ChainPlaceLaws.{Chained}
 use Rattle.chart_rule.proofs.ChainLaws.{lists-reflect}
@@ -112,12 +112,12 @@ module _ (count : ℕ) (ks ls is : List ℕ) (n m : ℕ) (e : n ≡ suc m) where
     end = end-parts .from (chained-fits c m (omega arith) .0 .1, c .end);
   }
 
-  module _ (a : n ≤ length ks) (b : n ≤ length ls) (c : n ≤ length is) where
+  module _ (r : Roomy n ks ls is) where
     -- the chain rule on the first n entries, as the loops find it
     chain-parts : chain arity depth count (take n (zipEntries ks ls is))
         ≡ all levelTest (upTo n) && (eqb (getD ks 0 0) 0 && all itemTest (upTo n) && all linkTest (upTo m) && endsTree (at m))
     chain-parts =
-        reflects-same (lists-reflect arity depth count ks ls is n m e a b c)
+        reflects-same (lists-reflect arity depth count ks ls is n m e r)
         (reflects-iff found-chained chained-found found-reflects)
 
     pub chain-stopped : all levelTest (upTo n) ≡ false → false ≡ chain arity depth count (take n (zipEntries ks ls is))
@@ -126,7 +126,7 @@ module _ (count : ℕ) (ks ls is : List ℕ) (n m : ℕ) (e : n ≡ suc m) where
     pub chain-joined : all levelTest (upTo n) ≡ true → {i f d : Bool}
         → i ≡ all itemTest (upTo n) → f ≡ all linkTest (upTo m) → d ≡ endsTree (at m)
         → eqb (getD ks 0 0) 0 && i && f && d ≡ chain arity depth count (take n (zipEntries ks ls is))
-    chain-joined l p q r = rw (chain-parts, l, p, q, r)
+    chain-joined l p q s = rw (chain-parts, l, p, q, s)
 
 -- there is at least one entry
 pub no-entries : (count : ℕ) (es : List Entry) {n : ℕ} → n ≡ 0 → false ≡ chain arity depth count (take n es)

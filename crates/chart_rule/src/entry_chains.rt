@@ -62,7 +62,7 @@ fn faults<'a, 'b, 'c, 'd, 'e, 'f>(
     let mut i = 0;
     while i < n {
         found = found
-            | chart_links::fault(
+            | chart_links::link_fault(
                 keys[i],
                 levels[i],
                 items[i],

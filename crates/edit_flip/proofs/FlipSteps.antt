@@ -9,74 +9,75 @@ use Prim.Native.Nat.{ℕ, _+_, _*_, _≤_, _<_}
 use native.Mathlib.Omega.{arith}
 use lib.Dec.{T, leb}
 use lib.ListN.{length, set, drop}
-use Rattle.theory_lists.specs.Lists.{first}
 use Rattle.theory_lists.proofs.Reflects.{reflects-or, reflects-leb}
 use Rattle.spec_plane.specs.declared.Point.{Point}
 use Rattle.spec_plane.specs.Triangle.{Triangle, triangleOf, corners, rotated, proper}
 use Rattle.spec_charts.specs.Table.{numbersPerTriangle, Table, triangleAt, tableOf}
 use Rattle.spec_charts.specs.declared.Refusal.the-variants.{NoSuchTriangle, NoFlip}
 use Rattle.spec_charts.specs.Refusals.{refused, done, refuseIf}
-use Rattle.spec_charts.specs.Edits.{triangle, rotations, sharesSide, flipAs, flipWith, flipAmong, flipTable}
+use Rattle.spec_charts.specs.Edits.{triangle, rotations, flipAs, flipWith, flipAmong, flipTable}
 use Rattle.laws_charts.proofs.TableLaws.{tableOf-length, numbered-at}
 use Rattle.edit_rows.proofs.RowLaws.{withRow, rows-set}
 use Rattle.edit_rows.proofs.CopyLaws.{triangle-read}
-use Rattle.edit_flip.proofs.RotationSteps.{rotation-cons, rotations-end}
+use Rattle.edit_flip.specs.Places.{BothBelow}
+use Rattle.edit_flip.specs.Sharing.{firstSharing}
+use Rattle.edit_flip.proofs.RotationSteps.{RotationsSkipped, skipped-start, skipped-here, skipped-next, skipped-all}
 
--- ---- flip
+-- ---- a search for the rotations that share a side
 
 module _ (table : Table) (i j : ℕ) (us : List Triangle) where
-  -- the first rotation shares a side
-  shared : (x u : Triangle) (l : List Triangle) → first (λ v. sharesSide x v) us ≡ some u
+  -- rotation x shares one
+  among-shared : (x u : Triangle) (l : List Triangle) → firstSharing x us ≡ some u
       → flipAmong table i j us (x ∷ l) ≡ flipAs table i j x u
   unfolding flipAmong flipWith
-  shared x u l e = rw e
+  among-shared x u l e = rw e
 
-  -- the first rotation shares none
-  unshared : (x : Triangle) (l : List Triangle) → first (λ v. sharesSide x v) us ≡ none
+  -- rotation x shares none
+  among-unshared : (x : Triangle) → firstSharing x us ≡ none → (l : List Triangle)
       → flipAmong table i j us (x ∷ l) ≡ flipAmong table i j us l
   unfolding flipAmong flipWith
-  unshared x l e = rw e
+  among-unshared x e l = rw e
 
-  -- rotations before number k share no side with the other triangle
-  pub record Tried (t : List Point) (k : ℕ) : Type 0 where
-    pub high : k ≤ 3
-    pub same : flipAmong table i j us (rotations (triangleOf t)) ≡ flipAmong table i j us (drop k (rotations (triangleOf t)))
+  -- rotations of t before number k share no side with the other triangle; the scratch table is as long as it was
+  pub record Tried (t : List Point) (k : ℕ) (o o′ : List ℕ) : Type 0 where
+    pub length-same : length o′ ≡ length o
+    pub skipped : RotationsSkipped (flipAmong table i j us) t k
 
-  module _ (t : List Point) where
-    -- none is tried yet
-    pub tried-start : Tried t 0
-    tried-start = record { high = omega arith; same = refl }
+  -- none is tried yet
+  pub tried-start : (t : List Point) (o : List ℕ) → Tried t 0 o o
+  tried-start t o = record { length-same = refl; skipped = skipped-start (flipAmong table i j us) t }
 
+  module _ (t : List Point) {k : ℕ} {o o′ : List ℕ} (m : Tried t k o o′) where
     -- rotation k shares one
-    pub tried-hit : (k : ℕ) (u : Triangle) → Tried t k → k < 3 → first (λ v. sharesSide (triangleOf (rotated t k)) v) us ≡ some u
+    pub tried-hit : (u : Triangle) → k < 3 → firstSharing (triangleOf (rotated t k)) us ≡ some u
         → flipAmong table i j us (rotations (triangleOf t)) ≡ flipAs table i j (triangleOf (rotated t k)) u
-    tried-hit k u m h e =
-        m .same ∙ ap (flipAmong table i j us) (rotation-cons t k h)
-        ∙ shared (triangleOf (rotated t k)) u (drop (k + 1) (rotations (triangleOf t))) e
+    tried-hit u h e =
+        skipped-here (flipAmong table i j us) t (m .skipped) h
+        ∙ among-shared (triangleOf (rotated t k)) u (drop (k + 1) (rotations (triangleOf t))) e
 
     -- rotation k shares none
-    pub tried-next : (k : ℕ) → Tried t k → k < 3 → first (λ v. sharesSide (triangleOf (rotated t k)) v) us ≡ none → Tried t (k + 1)
-    tried-next k m h e =
+    pub tried-next : k < 3 → firstSharing (triangleOf (rotated t k)) us ≡ none → Tried t (k + 1) o o′
+    tried-next h e =
         record {
-          high = omega arith;
-          same =
-              m .same ∙ ap (flipAmong table i j us) (rotation-cons t k h)
-              ∙ unshared (triangleOf (rotated t k)) (drop (k + 1) (rotations (triangleOf t))) e;
+          length-same = m .length-same;
+          skipped = skipped-next (flipAmong table i j us) t (m .skipped) h (among-unshared (triangleOf (rotated t k)) e);
         }
 
     -- no rotation does
-    pub tried-end : (k : ℕ) → Tried t k → 3 ≤ k → flipAmong table i j us (rotations (triangleOf t)) ≡ refused NoFlip
+    pub tried-end : 3 ≤ k → flipAmong table i j us (rotations (triangleOf t)) ≡ refused NoFlip
     unfolding flipAmong
-    tried-end k m h = m .same ∙ ap (flipAmong table i j us) (rotations-end (triangleOf t) k h (m .high))
+    tried-end h = skipped-all (flipAmong table i j us) t (m .skipped) h
+
+-- ---- flip
 
 -- both triangles are there
-pub neither-over : (n i j : ℕ) → leb n i || leb n j ≡ false → (i < n) × (j < n)
+pub neither-over : (n i j : ℕ) → leb n i || leb n j ≡ false → BothBelow i j n
 neither-over n i j e =
     let b = reflects-or (reflects-leb n i) (reflects-leb n j) in
     let none : T (leb n i || leb n j) → ⊥ = λ t. rw e at t in
     let bi : n ≤ i → ⊥ = λ h. none (b .from (inl h)) in
     let bj : n ≤ j → ⊥ = λ h. none (b .from (inr h)) in
-    (omega arith, omega arith)
+    record { belowI = omega arith; belowJ = omega arith }
 
 module _ (ns : List ℕ) (n i j : ℕ) where
   -- refusal 6
@@ -89,7 +90,7 @@ module _ (ns : List ℕ) (n i j : ℕ) where
       → flipTable i j (tableOf ns n) ≡ flipAmong (tableOf ns n) i j (rotations (triangleAt ns j)) (rotations (triangleAt ns i))
   unfolding flipTable refuseIf
   flip-within e =
-      let b = neither-over n i j e in rw (tableOf-length ns n, e, numbered-at ns n i (b .0), numbered-at ns n j (b .1))
+      let b = neither-over n i j e in rw (tableOf-length ns n, e, numbered-at ns n i (b .belowI), numbered-at ns n j (b .belowJ))
 
 -- the same, of the arrays of corners that code reads
 pub flip-begun : (ns : List ℕ) (n i j : ℕ) {s u : List Point} → s ≡ corners (triangleAt ns i) → u ≡ corners (triangleAt ns j)
@@ -114,6 +115,6 @@ unfolding flipAs refuseIf
 as-made table i j t u e = rw e
 
 -- the second row of a flip
-pub second-row : (o₁ o₂ : List ℕ) (n j : ℕ) {t : Table} (y : Triangle) → j < n → numbersPerTriangle * n ≤ length o₁ → tableOf o₁ n ≡ t
+pub second-row : (o₁ : List ℕ) {o₂ : List ℕ} (n j : ℕ) {t : Table} (y : Triangle) → j < n → numbersPerTriangle * n ≤ length o₁ → tableOf o₁ n ≡ t
     → o₂ ≡ withRow o₁ j y → tableOf o₂ n ≡ set t j y
-second-row o₁ o₂ n j y h room e₁ e₂ = ap (λ l. tableOf l n) e₂ ∙ rows-set o₁ j n y h room ∙ ap (λ l. set l j y) e₁
+second-row o₁ n j y h room e₁ e₂ = ap (λ l. tableOf l n) e₂ ∙ rows-set o₁ j n y h room ∙ ap (λ l. set l j y) e₁

@@ -5,14 +5,16 @@ mod shared_edges;
 
 use base_geometry::geometry;
 use edit_rows::Edited;
+use spec_charts::Refusal;
 use spec_plane::Point;
 ghost use mathlib.Core.Path.{_≡_};
-ghost use Prim.Native.Nat.{_*_, _≤_, _<_};
-ghost use lib.ListN.{length};
+ghost use Prim.Native.Nat.{_≤_};
 ghost use Rattle.spec_plane.specs.Triangle.{triangleOf};
-ghost use Rattle.spec_charts.specs.Table.{numbersPerTriangle, maxTriangles, tableLength, tableOf};
+ghost use Rattle.spec_charts.specs.Table.{maxTriangles, tableOf};
 ghost use Rattle.spec_charts.specs.Edits.{flipAs, flipTable};
 ghost use Rattle.edit_rows.specs.Edited.{editedOutcome, editedCount};
+ghost use Rattle.edit_rows.specs.Workspace.{Workspace};
+ghost use Rattle.edit_flip.specs.Places.{BothBelow};
 
 // Flip of triangles i and j, of which s and u are the rotations that share a side.
 fn flip_as(
@@ -22,30 +24,31 @@ fn flip_as(
     j: usize,
     s: [Point; 3],
     u: [Point; 3],
-    out: &mut [u16],
+    scratch: &mut [u16],
 ) -> Edited
-    requires { ⌜ ((i < n) × (j < n)) × ((n ≤ maxTriangles) × ((numbersPerTriangle * n ≤ length (now table)) × (tableLength ≤ length (now out)))) ⌝ }
-    ensures { λ r. ⌜ editedOutcome r (now (out .exit)) ≡ flipAs (tableOf (now (table .entry)) n) i j (triangleOf s) (triangleOf u) ⌝ }
+    requires { ⌜ BothBelow i j n ⌝ }
+    requires { ⌜ Workspace (now table) n (now scratch) ⌝ }
+    ensures { λ r. ⌜ editedOutcome r (now (scratch .exit)) ≡ flipAs (tableOf (now (table .entry)) n) i j (triangleOf s) (triangleOf u) ⌝ }
     ensures { λ r. ⌜ editedCount r ≤ maxTriangles ⌝ }
 {
     let x = [s[0], u[2], s[2]];
     let y = [u[2], s[1], s[2]];
     if !(geometry::is_proper(x) & geometry::is_proper(y)) {
-        return Edited::NoFlip;
+        return Edited::Refused(Refusal::NoFlip);
     }
-    edit_rows::replace_row(table, n, i, x, out);
-    base_tables::put_triangle(out, j, y);
+    edit_rows::replace_row(table, n, i, x, scratch);
+    base_tables::put_triangle(scratch, j, y);
     Edited::Made(n)
 }
 
 // Flip: triangles i and j.
-pub fn flip_table(table: &[u16], n: usize, i: usize, j: usize, out: &mut [u16]) -> Edited
-    requires { ⌜ (n ≤ maxTriangles) × ((numbersPerTriangle * n ≤ length (now table)) × (tableLength ≤ length (now out))) ⌝ }
-    ensures { λ r. ⌜ editedOutcome r (now (out .exit)) ≡ flipTable i j (tableOf (now (table .entry)) n) ⌝ }
+pub fn flip_table(table: &[u16], n: usize, i: usize, j: usize, scratch: &mut [u16]) -> Edited
+    requires { ⌜ Workspace (now table) n (now scratch) ⌝ }
+    ensures { λ r. ⌜ editedOutcome r (now (scratch .exit)) ≡ flipTable i j (tableOf (now (table .entry)) n) ⌝ }
     ensures { λ r. ⌜ editedCount r ≤ maxTriangles ⌝ }
 {
     if (i >= n) | (j >= n) {
-        return Edited::NoSuchTriangle;
+        return Edited::Refused(Refusal::NoSuchTriangle);
     }
     let s = base_tables::triangle_at(table, i);
     let u = base_tables::triangle_at(table, j);
@@ -54,9 +57,9 @@ pub fn flip_table(table: &[u16], n: usize, i: usize, j: usize, out: &mut [u16]) 
         let v = geometry::rotated(s, k);
         let m = shared_edges::sharing_rotation(v, u);
         if m < 3 {
-            return flip_as(table, n, i, j, v, geometry::rotated(u, m), out);
+            return flip_as(table, n, i, j, v, geometry::rotated(u, m), scratch);
         }
         k += 1;
     }
-    Edited::NoFlip
+    Edited::Refused(Refusal::NoFlip)
 }

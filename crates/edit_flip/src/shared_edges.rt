@@ -3,11 +3,9 @@
 use base_geometry::geometry;
 use spec_plane::Point;
 ghost use mathlib.Core.Path.{_≡_};
-ghost use mathlib.Core.Option.{none, some};
-ghost use Prim.Native.Nat.{_≤_, _<_};
-ghost use Rattle.theory_lists.specs.Lists.{first as Lists·first};
-ghost use Rattle.spec_plane.specs.Triangle.{triangleOf, rotated as Triangle·rotated};
-ghost use Rattle.spec_charts.specs.Edits.{rotations, sharesSide};
+ghost use Rattle.spec_plane.specs.Triangle.{triangleOf};
+ghost use Rattle.spec_charts.specs.Edits.{sharesSide};
+ghost use Rattle.edit_flip.specs.Sharing.{SharingRotation};
 
 // The side ab of s is the side ba of u.
 fn shares_side(s: [Point; 3], u: [Point; 3]) -> bool
@@ -18,8 +16,7 @@ fn shares_side(s: [Point; 3], u: [Point; 3]) -> bool
 
 // The first rotation of u that shares the side ab of s; 3 if there is none.
 pub fn sharing_rotation(s: [Point; 3], u: [Point; 3]) -> usize
-    ensures { λ r. ⌜ (r < 3 → Lists·first (λ v. sharesSide (triangleOf s) v) (rotations (triangleOf u)) ≡ some (triangleOf (Triangle·rotated u r))) ⌝ }
-    ensures { λ r. ⌜ (3 ≤ r → Lists·first (λ v. sharesSide (triangleOf s) v) (rotations (triangleOf u)) ≡ none) ⌝ }
+    ensures { λ r. ⌜ SharingRotation (triangleOf s) u r ⌝ }
 {
     let mut k = 0;
     while k < 3 {

@@ -74,7 +74,7 @@ unfolding tableOf upTo countFrom
 whole-copy ns o o′ n e = let k : n ≡ 0 + (n - 0) = omega arith in ap (tableOf o′) k ∙ e
 
 -- a whole table copied, then a triangle written into one of its rows
-pub row-replaced : (ns o o₁ o₂ : List ℕ) (n i : ℕ) (x : Triangle) → i < n → numbersPerTriangle * n ≤ length o₁
+pub row-replaced : (ns o o₁ : List ℕ) {o₂ : List ℕ} (n i : ℕ) (x : Triangle) → i < n → numbersPerTriangle * n ≤ length o₁
     → tableOf o₁ (0 + (n - 0)) ≡ tableOf o 0 ++ drop 0 (tableOf ns n) → o₂ ≡ withRow o₁ i x → tableOf o₂ n ≡ set (tableOf ns n) i x
-row-replaced ns o o₁ o₂ n i x h room e₁ e₂ =
+row-replaced ns o o₁ n i x h room e₁ e₂ =
     ap (λ l. tableOf l n) e₂ ∙ rows-set o₁ i n x h room ∙ ap (λ l. set l i x) (whole-copy ns o o₁ n e₁)

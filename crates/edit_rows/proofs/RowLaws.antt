@@ -59,16 +59,17 @@ row-same ns i t h =
       c = record { x = read (numbersPerTriangle * i + 4) 4 refl (omega arith) z; y = read (numbersPerTriangle * i + 4 + 1) 5 f (omega arith) z };
     }
 
-clear : (i j k : ℕ) → (j < i) ⊎ (i < j) → numbersPerTriangle * j ≤ k → k < numbersPerTriangle * j + numbersPerTriangle → (k < numbersPerTriangle * i) ⊎ (numbersPerTriangle * i + numbersPerTriangle ≤ k)
-clear i j k (inl h) a b = inl (omega arith)
-clear i j k (inr h) a b = inr (omega arith)
+-- the numbers of another row are none of row i's
+other-row : (i j k : ℕ) → (j < i) ⊎ (i < j) → numbersPerTriangle * j ≤ k → k < numbersPerTriangle * j + numbersPerTriangle → (k < numbersPerTriangle * i) ⊎ (numbersPerTriangle * i + numbersPerTriangle ≤ k)
+other-row i j k (inl h) a b = inl (omega arith)
+other-row i j k (inr h) a b = inr (omega arith)
 
 -- the triangle of another row
 pub row-other : (ns : List ℕ) (i j : ℕ) (t : Triangle) → (j < i) ⊎ (i < j) → triangleAt (withRow ns i t) j ≡ triangleAt ns j
 unfolding triangleAt pointAt triangleNumbers
 row-other ns i j t h =
     let read : (k : ℕ) → numbersPerTriangle * j ≤ k → k < numbersPerTriangle * j + numbersPerTriangle → getD (withRow ns i t) k 0 ≡ getD ns k 0 = λ k a b.
-    getD-sets-other (triangleNumbers t) ns (numbersPerTriangle * i) k (clear i j k h a b) in
+    getD-sets-other (triangleNumbers t) ns (numbersPerTriangle * i) k (other-row i j k h a b) in
     λ z. record {
       a = record { x = read (numbersPerTriangle * j) (omega arith) (omega arith) z; y = read (numbersPerTriangle * j + 1) (omega arith) (omega arith) z };
       b = record { x = read (numbersPerTriangle * j + 2) (omega arith) (omega arith) z; y = read (numbersPerTriangle * j + 2 + 1) (omega arith) (omega arith) z };

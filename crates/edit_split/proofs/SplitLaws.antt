@@ -40,9 +40,9 @@ module _ (ns : List ℕ) (n i : ℕ) (p : Point) where
   split-made h f b = rw (tableOf-length ns n, lt-leb n i h, numbered-at ns n i h, f, le-ltb maxTriangles (n + 2) b)
 
 -- two triangles behind the rows of a table
-pub two-appended : (o₁ o₂ o₃ : List ℕ) (n : ℕ) {t : Table} (y z : Triangle) → numbersPerTriangle * (n + 2) ≤ length o₁ → tableOf o₁ n ≡ t
+pub two-appended : (o₁ : List ℕ) {o₂ o₃ : List ℕ} (n : ℕ) {t : Table} (y z : Triangle) → numbersPerTriangle * (n + 2) ≤ length o₁ → tableOf o₁ n ≡ t
     → o₂ ≡ withRow o₁ n y → o₃ ≡ withRow o₂ (n + 1) z → tableOf o₃ (n + 2) ≡ t ++ (y ∷ z ∷ [])
-two-appended o₁ o₂ o₃ n {t} y z room e₁ e₂ e₃ =
+two-appended o₁ {o₂} {o₃} n {t} y z room e₁ e₂ e₃ =
     let l₂ : length o₂ ≡ length o₁ = ap length e₂ ∙ withRow-length o₁ n y in
     let k : n + 2 ≡ suc (n + 1) = omega arith in
     ap₂ tableOf e₃ k ∙ rows-append o₂ (n + 1) z (omega arith)

@@ -4,30 +4,31 @@ mod triangle_split;
 
 use base_geometry::geometry;
 use edit_rows::Edited;
+use spec_charts::Refusal;
 use spec_plane::Point;
 ghost use mathlib.Core.Path.{_≡_};
-ghost use Prim.Native.Nat.{_+_, _*_, _≤_};
-ghost use lib.ListN.{length};
-ghost use Rattle.spec_charts.specs.Table.{numbersPerTriangle, maxTriangles, tableLength, tableOf};
+ghost use Prim.Native.Nat.{_≤_};
+ghost use Rattle.spec_charts.specs.Table.{maxTriangles, tableOf};
 ghost use Rattle.spec_charts.specs.Edits.{splitTable};
 ghost use Rattle.edit_rows.specs.Edited.{editedOutcome, editedCount};
+ghost use Rattle.edit_rows.specs.Workspace.{Workspace};
 
 // Split: triangle i at p.
-pub fn split_table(table: &[u16], n: usize, i: usize, p: Point, out: &mut [u16]) -> Edited
-    requires { ⌜ (n ≤ maxTriangles) × ((numbersPerTriangle * n ≤ length (now table)) × (tableLength ≤ length (now out))) ⌝ }
-    ensures { λ r. ⌜ editedOutcome r (now (out .exit)) ≡ splitTable i p (tableOf (now (table .entry)) n) ⌝ }
+pub fn split_table(table: &[u16], n: usize, i: usize, p: Point, scratch: &mut [u16]) -> Edited
+    requires { ⌜ Workspace (now table) n (now scratch) ⌝ }
+    ensures { λ r. ⌜ editedOutcome r (now (scratch .exit)) ≡ splitTable i p (tableOf (now (table .entry)) n) ⌝ }
     ensures { λ r. ⌜ editedCount r ≤ maxTriangles ⌝ }
 {
     if i >= n {
-        return Edited::NoSuchTriangle;
+        return Edited::Refused(Refusal::NoSuchTriangle);
     }
     let s = base_tables::triangle_at(table, i);
     if !geometry::is_strictly_inside(s, p) {
-        return Edited::NotInside;
+        return Edited::Refused(Refusal::NotInside);
     }
     if n + 2 > base_tables::MOST_TRIANGLES {
-        return Edited::TableFull;
+        return Edited::Refused(Refusal::TableFull);
     }
-    triangle_split::put_split(table, n, i, s, p, out);
+    triangle_split::put_split(table, n, i, s, p, scratch);
     Edited::Made(n + 2)
 }

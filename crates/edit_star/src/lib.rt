@@ -3,13 +3,12 @@
 use base_geometry::geometry;
 use spec_plane::Point;
 ghost use mathlib.Core.Path.{_≡_};
-ghost use mathlib.Core.List.{[], _∷_};
-ghost use Prim.Native.Nat.{_+_, _*_, _≤_, _<_};
-ghost use lib.ListN.{length, drop};
-ghost use Rattle.theory_lists.specs.Lists.{placesFrom};
+ghost use Prim.Native.Nat.{_+_, _*_, _≤_};
+ghost use lib.ListN.{length};
 ghost use Rattle.spec_plane.specs.Triangle.{triangleOf};
 ghost use Rattle.spec_charts.specs.Table.{numbersPerTriangle, triangleAt, tableOf};
 ghost use Rattle.spec_charts.specs.Edits.{hasCorner, endingIn};
+ghost use Rattle.edit_star.specs.Star.{NextAround};
 
 // The triangle has p as a corner.
 fn has_corner(s: [Point; 3], p: Point) -> bool
@@ -21,9 +20,7 @@ fn has_corner(s: [Point; 3], p: Point) -> bool
 // The lowest number, from `first` on, of a triangle with p as a corner. If there is none, a number that no triangle has.
 pub fn next_around(table: &[u16], n: usize, p: Point, first: usize) -> usize
     requires { ⌜ numbersPerTriangle * n ≤ length (now table) ⌝ }
-    ensures { λ r. ⌜ (first ≤ r) × (r ≤ n + first) ⌝ }
-    ensures { λ r. ⌜ (r < n → placesFrom (λ t. hasCorner p t) first (drop first (tableOf (now (table .entry)) n)) ≡ r ∷ placesFrom (λ t. hasCorner p t) (r + 1) (drop (r + 1) (tableOf (now (table .entry)) n))) ⌝ }
-    ensures { λ r. ⌜ (n ≤ r → placesFrom (λ t. hasCorner p t) first (drop first (tableOf (now (table .entry)) n)) ≡ []) ⌝ }
+    ensures { λ r. ⌜ NextAround p (tableOf (now (table .entry)) n) n first r ⌝ }
 {
     let mut i = first;
     while i < n {

@@ -1,13 +1,11 @@
--- The edits of a chart: what each makes of its table.
+-- The edits of a chart, as events of its plain table.
 -- Assumes nothing.
-use Rattle.spec_charts.specs.Table.{Table}
-use Rattle.spec_charts.specs.Refusals.{Outcome}
-use Rattle.spec_charts.specs.Edits.{splitTable, takeOutTable, flipTable}
+use Rattle.spec_charts.specs.Edits.{Event, split, takeOut, flip}
 use Rattle.edit_steps.specs.declared.Edit.{Edit}
 use Rattle.edit_steps.specs.declared.Edit.the-variants.{Split, TakeOut, Flip}
 
--- the edit of plain tables
-abbrev pub tableEdit : Edit → Table → Outcome Table
-tableEdit (Split i p) table = splitTable i p table
-tableEdit (TakeOut p) table = takeOutTable p table
-tableEdit (Flip i j) table = flipTable i j table
+-- the event of an edit
+abbrev pub eventOf : Edit → Event
+eventOf (Split i p) = split i p
+eventOf (TakeOut p) = takeOut p
+eventOf (Flip i j) = flip i j

@@ -1,2 +1,1 @@
-pub mod ChangeOf
 pub mod Edit

@@ -1,27 +1,24 @@
-// The steps of an edit of a chart: what the edit makes of the plain table, and its result stored or answered as a refusal.
+// The steps of an edit of a chart: the plain table is edited, and what is made is stored or the refusal answered.
 
-pub mod edit_answers;
-
-use base_answers::Change;
 use base_answers::Changed;
+use base_answers::Verdict;
 use edit_rows::Edited;
+use spec_charts::Refusal;
 use spec_plane::Point;
 ghost use mathlib.Core.Path.{_≡_};
-ghost use mathlib.Core.Bool.{true, false};
-ghost use Prim.Native.Nat.{_*_, _≤_};
-ghost use lib.ListN.{length};
-ghost use Rattle.theory_lists.specs.Lists.{all};
-ghost use Rattle.spec_plane.specs.Triangle.{proper};
-ghost use Rattle.spec_charts.specs.Table.{numbersPerTriangle, maxTriangles, tableLength, tableOf};
+ghost use mathlib.Core.Bool.{false};
+ghost use Prim.Native.Nat.{_≤_};
+ghost use Rattle.spec_charts.specs.Table.{Drawn, maxTriangles, tableOf};
 ghost use Rattle.spec_charts.specs.Refusals.{andThen};
-ghost use Rattle.spec_charts.specs.Edits.{withinLimit};
-ghost use Rattle.spec_calls.specs.Buffers.{chartOf, tooShort};
+ghost use Rattle.spec_charts.specs.Edits.{proposed, withinLimit};
+ghost use Rattle.spec_calls.specs.Buffers.{tooShort};
+ghost use Rattle.spec_calls.specs.Lent.{held, given};
 ghost use Rattle.spec_calls.specs.Calls.{changedBy};
-ghost use Rattle.spec_calls.specs.Calls.{Changed as Calls·Changed};
 ghost use Rattle.base_answers.specs.declared.Changed.{Changed as Answers·Changed};
-ghost use Rattle.base_answers.specs.Outcomes.{changedOf};
+ghost use Rattle.base_answers.specs.Outcomes.{left};
 ghost use Rattle.edit_rows.specs.Edited.{editedOutcome, editedCount};
-ghost use Rattle.edit_steps.specs.Edit.{tableEdit};
+ghost use Rattle.edit_rows.specs.Workspace.{Workspace};
+ghost use Rattle.edit_steps.specs.Edit.{eventOf};
 
 // An edit of a chart.
 pub enum Edit {
@@ -31,11 +28,11 @@ pub enum Edit {
 }
 
 // A refusal, with the counts as they were.
-pub fn refused(change: Change, triangles: usize, entries: usize) -> Changed
-    ensures { λ r. ⌜ _≡_ {A = Answers·Changed} r (record { change = change; triangles = triangles; entries = entries }) ⌝ }
+pub fn refused(refusal: Refusal, triangles: usize, entries: usize) -> Changed
+    ensures { λ r. ⌜ _≡_ {A = Answers·Changed} r (record { verdict = Verdict.Refused refusal; triangles = triangles; entries = entries }) ⌝ }
 {
     Changed {
-        change,
+        verdict: Verdict::Refused(refusal),
         triangles,
         entries,
     }
@@ -43,8 +40,8 @@ pub fn refused(change: Change, triangles: usize, entries: usize) -> Changed
 
 // What the edit makes of a plain table.
 pub fn edit_table(edit: Edit, table: &[u16], n: usize, scratch: &mut [u16]) -> Edited
-    requires { ⌜ (n ≤ maxTriangles) × ((numbersPerTriangle * n ≤ length (now table)) × (tableLength ≤ length (now scratch))) ⌝ }
-    ensures { λ r. ⌜ editedOutcome r (now (scratch .exit)) ≡ tableEdit edit (tableOf (now (table .entry)) n) ⌝ }
+    requires { ⌜ Workspace (now table) n (now scratch) ⌝ }
+    ensures { λ r. ⌜ editedOutcome r (now (scratch .exit)) ≡ proposed (eventOf edit) (tableOf (now (table .entry)) n) ⌝ }
     ensures { λ r. ⌜ editedCount r ≤ maxTriangles ⌝ }
 {
     match edit {
@@ -65,12 +62,14 @@ pub fn finish(
     triangles: usize,
     entries: usize,
 ) -> Changed
-    requires { ⌜ ((editedCount made ≤ maxTriangles) × (tableLength ≤ length (now scratch))) × (all (λ t. proper t) (tableOf (now scratch) (editedCount made)) ≡ true) ⌝ }
-    requires { ⌜ tooShort (chartOf (now table) (now keys) (now levels) (now items) triangles entries) ≡ false ⌝ }
-    ensures { λ r. ⌜ _≡_ {A = Calls·Changed} (changedOf r (now (table .exit)) (now (keys .exit)) (now (levels .exit)) (now (items .exit))) (changedBy (chartOf (now (table .entry)) (now (keys .entry)) (now (levels .entry)) (now (items .entry)) triangles entries) (andThen (editedOutcome made (now (scratch .entry))) (λ t. withinLimit t))) ⌝ }
+    requires { ⌜ Drawn (now scratch) (editedCount made) ⌝ }
+    requires { ⌜ tooShort (held table keys levels items triangles entries) ≡ false ⌝ }
+    ensures { λ r. ⌜ left table keys levels items r ≡ changedBy (given table keys levels items triangles entries) (andThen (editedOutcome made (now (scratch .entry))) (λ t. withinLimit t)) ⌝ }
 {
-    if let Edited::Made(n) = made {
-        return chart_store::store(scratch, n, table, keys, levels, items, triangles, entries);
+    match made {
+        Edited::Made(n) => {
+            chart_store::store(scratch, n, table, keys, levels, items, triangles, entries)
+        }
+        Edited::Refused(r) => refused(r, triangles, entries),
     }
-    refused(edit_answers::edited_change(made), triangles, entries)
 }

@@ -1,4 +1,5 @@
 -- Three triangles around a point merged: the tests, and the table that the rows make.
+-- The idea: without rows j and k the table is three runs of rows, of which the first has the merged triangle.
 -- Assumes nothing.
 use mathlib.Core.Path.{_≡_, refl, sym, _∙_, ap, ap₂}
 use mathlib.Core.Bool.{Bool, true, false, false≢true, cond, _||_}
@@ -18,6 +19,7 @@ use Rattle.spec_charts.specs.Edits.{triangle, closesRound, mergeAround, mergeTh
 use Rattle.laws_charts.proofs.TableLaws.{tableOf-length, tableOf-suc}
 use Rattle.edit_rows.proofs.RowLaws.{withRow, rows-set}
 use Rattle.edit_rows.proofs.CopyLaws.{whole-copy}
+use Rattle.edit_take_out.specs.Places.{Ascending}
 
 -- ---- the third corner
 
@@ -73,10 +75,13 @@ take-rows ns k (suc n) h = go (decLe k n) (λ l. take-rows ns k n l)
         ∙ ap (tableOf ns) (sym e)
 
 -- the merged table in three parts
-merged-parts : (ns : List ℕ) (n i j k : ℕ) (t : Triangle) → i < j → j < k → k < n
+merged-parts : (ns : List ℕ) (n i j k : ℕ) (t : Triangle) → Ascending i j k n
     → mergeAround (tableOf ns n) i j k t ≡ set (tableOf ns j) i t ++ (drop (suc j) (tableOf ns k) ++ drop (suc k) (tableOf ns n))
 unfolding mergeAround without
-merged-parts ns n i j k t ij jk kn =
+merged-parts ns n i j k t o =
+    let ij = o .ij in
+    let jk = o .jk in
+    let below = o .below in
     let whole = tableOf ns n in
     let inner = tableOf ns k in
     let x = set inner i t in
@@ -90,12 +95,15 @@ merged-parts ns n i j k t ij jk kn =
     (drop-append-le (suc j) x rest (omega (arith, size)) ∙ ap (λ l. l ++ rest) (drop-set-lt (suc j) inner i t (omega arith)))
 
 -- the rows of a take-out
-pub merged-rows : (ns o o₁ o₂ o₃ o₄ : List ℕ) (n i j k : ℕ) (t : Triangle) → i < j → j < k → k < n → numbersPerTriangle * n ≤ length o₃
+pub merged-rows : (ns o o₁ o₂ o₃ : List ℕ) {o₄ : List ℕ} (n i j k : ℕ) (t : Triangle) → Ascending i j k n → numbersPerTriangle * n ≤ length o₃
     → tableOf o₁ (0 + (j - 0)) ≡ tableOf o 0 ++ drop 0 (tableOf ns j)
     → tableOf o₂ (j + (k - (j + 1))) ≡ tableOf o₁ j ++ drop (j + 1) (tableOf ns k)
     → tableOf o₃ (k - 1 + (n - (k + 1))) ≡ tableOf o₂ (k - 1) ++ drop (k + 1) (tableOf ns n)
     → o₄ ≡ withRow o₃ i t → tableOf o₄ (n - 2) ≡ mergeAround (tableOf ns n) i j k t
-merged-rows ns o o₁ o₂ o₃ o₄ n i j k t ij jk kn room e₁ e₂ e₃ e₄ =
+merged-rows ns o o₁ o₂ o₃ n i j k t places room e₁ e₂ e₃ e₄ =
+    let ij = places .ij in
+    let jk = places .jk in
+    let below = places .below in
     let a = tableOf ns j in
     let b = drop (suc j) (tableOf ns k) in
     let c = drop (suc k) (tableOf ns n) in
@@ -107,4 +115,4 @@ merged-rows ns o o₁ o₂ o₃ o₄ n i j k t ij jk kn room e₁ e₂ e₃ e₄
     let all : tableOf o₃ (n - 2) ≡ a ++ (b ++ c) =
     ap (tableOf o₃) r ∙ e₃ ∙ ap₂ _++_ two (ap (λ m. drop m (tableOf ns n)) (add-one k)) ∙ append-assoc a b c in
     ap (λ l. tableOf l (n - 2)) e₄ ∙ rows-set o₃ i (n - 2) t (omega arith) (omega arith) ∙ ap (λ l. set l i t) all
-    ∙ set-append-left a (b ++ c) i t inA ∙ sym (merged-parts ns n i j k t ij jk kn)
+    ∙ set-append-left a (b ++ c) i t inA ∙ sym (merged-parts ns n i j k t places)

@@ -3,11 +3,12 @@
 use spec_plane::Point;
 ghost use mathlib.Core.Path.{_≡_};
 ghost use mathlib.Core.Bool.{cond};
-ghost use Prim.Native.Nat.{_-_, _*_, _≤_, _<_};
-ghost use lib.ListN.{length};
+ghost use Prim.Native.Nat.{_-_};
 ghost use Rattle.spec_plane.specs.Triangle.{triangleOf};
-ghost use Rattle.spec_charts.specs.Table.{numbersPerTriangle, maxTriangles, tableLength, tableOf};
+ghost use Rattle.spec_charts.specs.Table.{tableOf};
 ghost use Rattle.spec_charts.specs.Edits.{triangle, closesRound, mergeAround};
+ghost use Rattle.edit_rows.specs.Workspace.{Workspace};
+ghost use Rattle.edit_take_out.specs.Places.{Ascending};
 
 // With s = (a,b,p): u is (b,c,p) and v is (c,a,p).
 pub fn closes_round(s: [Point; 3], u: [Point; 3], v: [Point; 3]) -> bool
@@ -36,13 +37,14 @@ pub fn put_merged(
     j: usize,
     k: usize,
     merged: [Point; 3],
-    out: &mut [u16],
+    scratch: &mut [u16],
 )
-    requires { ⌜ ((i < j) × ((j < k) × (k < n))) × ((n ≤ maxTriangles) × ((numbersPerTriangle * n ≤ length (now table)) × (tableLength ≤ length (now out)))) ⌝ }
-    ensures { λ _. ⌜ tableOf (now (out .exit)) (n - 2) ≡ mergeAround (tableOf (now (table .entry)) n) i j k (triangleOf merged) ⌝ }
+    requires { ⌜ Ascending i j k n ⌝ }
+    requires { ⌜ Workspace (now table) n (now scratch) ⌝ }
+    ensures { λ _. ⌜ tableOf (now (scratch .exit)) (n - 2) ≡ mergeAround (tableOf (now (table .entry)) n) i j k (triangleOf merged) ⌝ }
 {
-    edit_rows::append_rows(table, 0, j, out, 0);
-    edit_rows::append_rows(table, j + 1, k, out, j);
-    edit_rows::append_rows(table, k + 1, n, out, k - 1);
-    base_tables::put_triangle(out, i, merged);
+    edit_rows::append_rows(table, 0, j, scratch, 0);
+    edit_rows::append_rows(table, j + 1, k, scratch, j);
+    edit_rows::append_rows(table, k + 1, n, scratch, k - 1);
+    base_tables::put_triangle(scratch, i, merged);
 }

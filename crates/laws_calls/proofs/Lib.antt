@@ -5,6 +5,7 @@ pub mod JudgeLaws
 pub mod ReaderLaws
 pub mod OverwriteLaws
 pub mod EditCalls
+pub mod AcceptedLaws
 pub mod HistoryLaws
 pub mod HistoryExamples
 pub mod LongBufferExamples

@@ -6,7 +6,7 @@ use Prim.Native.Nat.{ℕ, _+_}
 use native.Mathlib.Nat.{add-zero}
 use native.Mathlib.Numerals.{add-one}
 use Rattle.theory_lists.specs.Lists.{sumOf, upTo, countFrom}
-use Rattle.theory_lists.proofs.EditedLists.{sumOf-append}
+use Rattle.theory_lists.proofs.SumLaws.{sum-append}
 use Rattle.spec_plane.specs.Triangle.{doubledArea}
 use Rattle.spec_charts.specs.Table.{triangleAt, tableOf}
 use Rattle.spec_charts.specs.Reading.{totalArea}
@@ -22,5 +22,5 @@ pub totalArea-more : (ns : List ℕ) (i : ℕ) → totalArea (tableOf ns (i + 1)
 unfolding totalArea sumOf
 totalArea-more ns i =
     rw (add-one i, tableOf-suc ns i)
-    (sumOf-append (λ t. doubledArea t) (tableOf ns i) (triangleAt ns i ∷ [])
+    (sum-append (λ t. doubledArea t) (tableOf ns i) (triangleAt ns i ∷ [])
     ∙ ap (λ n. totalArea (tableOf ns i) + n) (add-zero (doubledArea (triangleAt ns i))))

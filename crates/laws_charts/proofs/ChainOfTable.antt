@@ -2,27 +2,24 @@
 -- The idea: the cells are the leaves of the tree of squares, so the laws on those hold of them.
 -- Assumes nothing.
 use mathlib.Core.Path.{_≡_, refl, _∙_}
-use mathlib.Core.Bool.{Bool, true, false}
-use mathlib.Core.List.{List, [], _∷_, _++_, flatMap, List·Memᴰ·eq-of-singleton}
+use mathlib.Core.List.{List, [], _∷_, List·Memᴰ·eq-of-singleton}
 use mathlib.Core.Logic.{_⊎_, inl, inr}
-use Prim.Native.Nat.{ℕ, zero, suc, _-_, _^_, _≤_, _<_, max}
+use Prim.Native.Nat.{ℕ, _^_, _≤_, _<_, max}
 use native.Mathlib.Omega.{arith}
 use lib.Dec.{T}
-use lib.ListN.{length, length-map, length-append}
+use lib.ListN.{length, length-map}
 use Rattle.theory_lists.proofs.ListsLaws.{Every}
 use Rattle.theory_lists.proofs.EveryLaws.{every-map, every-flatMap}
-use Rattle.theory_lists.proofs.FlatMapLaws.{flatMap-append}
 use Rattle.theory_lists.proofs.Order.{Rising, rising-none, rising-more, rising-members, places-rising}
-use Rattle.theory_orthtree.specs.Leaves.{leavesBelow}
 use Rattle.theory_orthtree.specs.Entries.{Entry, emptyMark, chain}
 use Rattle.theory_orthtree.proofs.ChainTilingLaws.{Listing, marked, listed}
 use Rattle.spec_plane.specs.Box.{triangleMeets}
 use Rattle.spec_squares.specs.declared.Square.{Square}
-use Rattle.spec_squares.specs.Square.{arity, depth, topLeft, topRight, bottomLeft, bottomRight, quarters, squareKey, squareBox, Aligned}
+use Rattle.spec_squares.specs.Square.{arity, depth, squareKey, squareBox, Aligned}
 use Rattle.spec_squares.proofs.ZOrderLaws.{zOrder-bound}
 use Rattle.spec_squares.proofs.SquareLeavesLaws.{leaves-aligned, squares-chain}
 use Rattle.spec_charts.specs.Table.{Table, maxTriangles}
-use Rattle.spec_charts.specs.Cells.{stopped, cellsIn, cells, trianglesMeeting, orMark, entryOf, cellEntries, entriesIn, entriesOf}
+use Rattle.spec_charts.specs.Cells.{stopped, cellsIn, cells, trianglesMeeting, orMark, entryOf, cellEntries, entriesOf}
 
 orMark-count : (is : List ℕ) → length (orMark is) ≡ max 1 (length is)
 unfolding orMark
@@ -33,45 +30,6 @@ orMark-count (i ∷ is) = omega arith
 pub cellEntries-count : (table : Table) (s : Square) → length (cellEntries table s) ≡ max 1 (length (trianglesMeeting table s))
 unfolding cellEntries
 cellEntries-count table s = length-map (orMark (trianglesMeeting table s)) (entryOf s) ∙ orMark-count (trianglesMeeting table s)
-
--- one where none meets it
-pub cellEntries-none : (table : Table) (s : Square) → length (trianglesMeeting table s) ≡ 0 → length (cellEntries table s) ≡ 1
-cellEntries-none table s h = omega (arith, cellEntries-count table s)
-
--- and as many as triangles where some meets it
-pub cellEntries-some : (table : Table) (s : Square) → 0 < length (trianglesMeeting table s)
-    → length (cellEntries table s) ≡ length (trianglesMeeting table s)
-cellEntries-some table s h = omega (arith, cellEntries-count table s)
-
-module _ (table : Table) where
-  abbrev entries : List Square → List Entry
-  entries ss = flatMap (λ q. cellEntries table q) ss
-
-  positive-one : (s : Square) → 0 < length (entries (s ∷ []))
-  unfolding flatMap
-  positive-one s = omega (arith, length-append (cellEntries table s) [], cellEntries-count table s)
-
-  positive-more : (ss ts : List Square) → 0 < length (entries ss) → 0 < length (entries (ss ++ ts))
-  positive-more ss ts h =
-      rw (flatMap-append (λ q. cellEntries table q) ss ts) (omega (arith, length-append (entries ss) (entries ts)))
-
-  positive-choice : (s : Square) (b : Bool) (ss : List Square) → 0 < length (entries ss)
-      → 0 < length (entries (elim b [ true ↦ s ∷ [] | false ↦ ss ]))
-  positive-choice s true ss h = positive-one s
-  positive-choice s false ss h = h
-
-  positive-induct : (h : ℕ) (s : Square) → 0 < length (entries (leavesBelow (λ q. quarters q) (λ q. stopped table q) h s))
-  unfolding leavesBelow flatMap quarters
-  positive-induct zero s = positive-one s
-  positive-induct (suc h) s =
-      let below : Square → List Square = λ q. leavesBelow (λ q. quarters q) (λ q. stopped table q) h q in
-      let rest = flatMap below (topRight s ∷ bottomLeft s ∷ bottomRight s ∷ []) in
-      positive-choice s (stopped table s) (flatMap below (quarters s)) (positive-more (below (topLeft s)) rest (positive-induct h (topLeft s)))
-
--- a square has entries
-pub entriesIn-positive : (table : Table) (s : Square) → 0 < length (entriesIn table s)
-unfolding entriesIn cellsIn
-entriesIn-positive table s = positive-induct table (depth - s .level) s
 
 listing-of : {n : ℕ} {is : List ℕ} → Rising 0 n is → Listing n (orMark is)
 unfolding orMark

@@ -4,14 +4,14 @@
 -- Assumes nothing.
 use mathlib.Core.Path.{_≡_, refl, sym, ap, subst}
 use mathlib.Core.List.{List, [], _∷_, List·Memᴰ}
-use Prim.Native.Nat.{ℕ, _+_, _<_}
+use Prim.Native.Nat.{ℕ, _+_}
 use native.Mathlib.Omega.{arith}
 use lib.Dec.{T}
-use lib.ListN.{length, set, length-set}
-use lib.Seq.{getD-set-other}
+use lib.ListN.{set}
 use Rattle.theory_lists.specs.Lists.{sumOf}
 use Rattle.theory_lists.proofs.ListsLaws.{Every}
-use Rattle.theory_lists.proofs.EditedLists.{sumOf-append, sumOf-set}
+use Rattle.theory_lists.proofs.SumLaws.{sum-append}
+use Rattle.theory_lists.proofs.EditedLists.{sumOf-set, sumOf-two}
 use Rattle.spec_plane.specs.declared.Point.{Point}
 use Rattle.spec_plane.specs.Triangle.{Triangle, proper, doubledArea}
 use Rattle.spec_charts.specs.Table.{Table, IsTable, numbered, noTriangle}
@@ -41,7 +41,7 @@ split-area t p table next e =
     rw (s .is)
     (omega (
       arith,
-      sumOf-append area (set table t x) (y ∷ z ∷ []),
+      sum-append area (set table t x) (y ∷ z ∷ []),
       sumOf-set area table t x noTriangle (s .below),
       area-around (u .a) (u .b) (u .c) p (d .0) (d .1 .0) (d .1 .1),
     ))
@@ -56,19 +56,6 @@ takeOut-area p table next good e =
     rw (s .is)
     (omega
     (arith, merge-sum table (s .i) (s .j) (s .k) m (s .ij) (s .jk) (s .below) (λ t. doubledArea t), taken-sum s good .area))
-
--- the sum over a table, two places of which get other triangles
-two-sum : (f : Triangle → ℕ) (table : Table) (i j : ℕ) (x y : Triangle) → (j ≡ i → ⊥) → i < length table → j < length table
-    → sumOf f (set (set table i x) j y) + (f (numbered table i) + f (numbered table j)) ≡ sumOf f table + (f x + f y)
-unfolding numbered
-two-sum f table i j x y n a b =
-    let l = length-set table i x in
-    omega (
-      arith,
-      sumOf-set f table i x noTriangle a,
-      sumOf-set f (set table i x) j y noTriangle (omega arith),
-      ap f (getD-set-other table i j x noTriangle n),
-    )
 
 module _ {i j : ℕ} {table next : Table} (s : Flipped i j table next) (good : Every (λ t. T (proper t)) table) where
   -- a flip that is accepted is of two triangles
@@ -96,13 +83,13 @@ module _ {i j : ℕ} {table next : Table} (s : Flipped i j table next) (good : E
 -- a flip keeps the sum of the doubled areas
 pub flip-area : (i j : ℕ) (table next : Table) → Every (λ t. T (proper t)) table → flipTable i j table ≡ done next
     → totalArea next ≡ totalArea table
-unfolding totalArea
+unfolding totalArea numbered
 flip-area i j table next good e =
     let s = flip-done i j table next e in
     let x = triangle (s .t .a) (s .u .c) (s .t .c) in
     let y = triangle (s .u .c) (s .t .b) (s .t .c) in
     rw (s .is)
-    (omega (arith, two-sum (λ t. doubledArea t) table i j x y (flip-differ s good) (s .belowI) (s .belowJ), flip-both s good))
+    (omega (arith, sumOf-two (λ t. doubledArea t) table i j x y noTriangle (flip-differ s good) (s .belowI) (s .belowJ), flip-both s good))
 
 -- so does each event that is no load, in the table that it proposes
 pub edit-area : (e : Event) (table next : Table) → ((ns : List ℕ) → e ≡ load ns → ⊥) → IsTable table → proposed e table ≡ done next

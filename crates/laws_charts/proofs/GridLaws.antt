@@ -1,5 +1,5 @@
--- What a table of document 01 is, triangle by triangle: D > 0 and corners on the grid; and that a point strictly inside such
--- a triangle is on the grid.
+-- What a table of document 01 is, triangle by triangle: D > 0 and corners on the grid; and that a point that such a triangle
+-- holds is on the grid.
 -- The idea: a triangle meets the box that is that point alone, so their bounding boxes are not apart.
 -- Assumes nothing.
 use mathlib.Core.Bool.{Bool, true, false, not, _||_}
@@ -102,7 +102,7 @@ not-or true y h = absurd h
 not-or false y h = (tt, h)
 
 -- a point strictly inside is held
-inside-holds : (t : Triangle) (p : Point) → T (strictlyInside t p) → T (holds t p)
+pub inside-holds : (t : Triangle) (p : Point) → T (strictlyInside t p) → T (holds t p)
 unfolding strictlyInside holds
 inside-holds t p h =
     let g = reflects-and₃ (above (t .a) (t .b)) (above (t .b) (t .c)) (above (t .c) (t .a)) .to h in
@@ -114,11 +114,11 @@ inside-holds t p h =
     least : (q r : Point) → Reflects (leZ (pos 0) (orient q r p)) (orientLow q r p ≤ orientHigh q r p)
     least q r = reflects-le (orient-nonneg q r p)
 
--- the point is no farther right or down than the triangle
-inside-box : (t : Triangle) (p : Point) → T (proper t) → T (holds t p)
+-- a point that is held is no farther right or down than the triangle
+held-box : (t : Triangle) (p : Point) → T (proper t) → T (holds t p)
     → (p .x ≤ max (t .a .x) (max (t .b .x) (t .c .x))) × (p .y ≤ max (t .a .y) (max (t .b .y) (t .c .y)))
 unfolding triangleMeets apart triangleBox
-inside-box t p d h =
+held-box t p d h =
     let b : Box = record { left = p .x; top = p .y; right = p .x; bottom = p .y } in
     let m = holds-meets t b p d h (omega arith) (omega arith) (omega arith) (omega arith) in
     let box = triangleBox t in
@@ -131,10 +131,14 @@ inside-box t p d h =
     (nltb→le (box .right) (p .x) (v .0), nltb→le (box .bottom) (p .y) (u .1))
 
 -- so it is on the grid where the corners are
-pub inside-grid : (t : Triangle) (p : Point) → IsTriangle t → T (strictlyInside t p) → OnGrid p
-inside-grid t p h i =
-    let b = inside-box t p (h .oriented) (inside-holds t p i) in
+pub held-grid : (t : Triangle) (p : Point) → IsTriangle t → T (holds t p) → OnGrid p
+held-grid t p h i =
+    let b = held-box t p (h .oriented) i in
     let ga = h .a in
     let gb = h .b in
     let gc = h .c in
     record { x = omega arith; y = omega arith }
+
+-- and so is a point strictly inside
+pub inside-grid : (t : Triangle) (p : Point) → IsTriangle t → T (strictlyInside t p) → OnGrid p
+inside-grid t p h i = held-grid t p h (inside-holds t p i)

@@ -4,17 +4,17 @@
 use mathlib.Core.Path.{_≡_, refl, _∙_, subst}
 use mathlib.Core.Bool.{Bool, true, false, not, _||_}
 use mathlib.Core.List.{List, [], _∷_}
-use Prim.Native.Nat.{ℕ, _*_, _/_, _%_, _<_}
+use Prim.Native.Nat.{ℕ, _*_, _/_, _%_, _≤_, _<_}
 use native.Mathlib.Omega.{arith}
 use lib.Dec.{T, ltb, eqb, eqb→eq, lt→ltb}
 use lib.ListN.{length}
 use lib.Seq.{take-length}
 use Rattle.theory_lists.proofs.Reflects.{reflects-test}
-use Rattle.theory_lists.proofs.ListsLaws.{all-reflects}
+use Rattle.theory_lists.proofs.ListsLaws.{Every, all-reflects}
 use Rattle.theory_lists.proofs.EveryLaws.{every-imp}
 use Rattle.theory_lists.proofs.EditedLists.{places-none}
 use Rattle.spec_plane.specs.Triangle.{proper}
-use Rattle.spec_charts.specs.Table.{Table, IsTable, tableLength, tableOf, tableNumbers, sixteenBit, numbersPerTriangle}
+use Rattle.spec_charts.specs.Table.{Table, IsTable, maxTriangles, tableLength, tableOf, tableNumbers, sixteenBit, numbersPerTriangle}
 use Rattle.spec_charts.specs.declared.Refusal.the-variants.{BadLength}
 use Rattle.spec_charts.specs.Refusals.{done}
 use Rattle.spec_charts.specs.Edits.{faulty, refuseFaulty, givenTable, loadTable}
@@ -34,10 +34,15 @@ or-none : (x y : Bool) → (T (not x || y) → ⊥) → T x × (T y → ⊥)
 or-none true y n = (tt, n)
 or-none false y n = absurd (n tt)
 
--- an accepted load of 16-bit numbers leaves a table
-pub load-table : (ns : List ℕ) (next : Table) → T (sixteenBit ns) → loadTable ns ≡ done next → IsTable next
+-- what an accepted load leaves
+pub record LoadDone (ns : List ℕ) (next : Table) : Type 0 where
+  pub few : length next ≤ maxTriangles
+  pub oriented : Every (λ t. T (proper t)) next
+  pub numbers : tableNumbers next ≡ ns
+
+pub load-done : (ns : List ℕ) (next : Table) → loadTable ns ≡ done next → LoadDone ns next
 unfolding loadTable givenTable faulty
-load-table ns next h e =
+load-done ns next e =
     let n = length ns / numbersPerTriangle in
     let f = refuseIf-done (not (eqb (length ns % numbersPerTriangle) 0) || ltb tableLength (length ns)) BadLength e in
     let g = or-none (eqb (length ns % numbersPerTriangle) 0) (ltb tableLength (length ns)) (f .0) in
@@ -46,9 +51,18 @@ load-table ns next h e =
     let r = faulty-done _ _ _ (f .1) in
     let s = places-none (λ t. not (proper t)) 0 (tableOf ns n) (r .0) in
     let whole : numbersPerTriangle * n ≡ length ns = omega arith in
-    let numbers : tableNumbers (tableOf ns n) ≡ ns = tableNumbers-take ns n (omega arith) ∙ rw (whole, take-length ns) in
-    subst IsTable (r .1) (record {
+    subst (LoadDone ns) (r .1) (record {
       few = omega (arith, tableOf-length ns n);
-      oriented = all-reflects (λ t. proper t) (λ t. reflects-test (proper t)) (tableOf ns n) .from (every-imp (λ t. proper-not (proper t)) s);
-      words = rw numbers h;
+      oriented = every-imp (λ t. proper-not (proper t)) s;
+      numbers = tableNumbers-take ns n (omega arith) ∙ rw (whole, take-length ns);
     })
+
+-- an accepted load of 16-bit numbers leaves a table
+pub load-table : (ns : List ℕ) (next : Table) → T (sixteenBit ns) → loadTable ns ≡ done next → IsTable next
+load-table ns next h e =
+    let l = load-done ns next e in
+    record {
+      few = l .few;
+      oriented = all-reflects (λ t. proper t) (λ t. reflects-test (proper t)) next .from (l .oriented);
+      words = rw (l .numbers) h;
+    }

@@ -30,7 +30,7 @@ use Rattle.spec_squares.proofs.ZOrderLaws.{InSquare}
 use Rattle.spec_squares.proofs.SquareLeavesLaws.{leaf-of-point, cell-of-point}
 use Rattle.spec_charts.specs.Table.{Table, maxTriangles, numbered}
 use Rattle.spec_charts.specs.Cells.{stopped, cellsIn, cells, trianglesMeeting, orMark, entryOf, cellEntries, entriesOf}
-use Rattle.spec_charts.specs.Reading.{cellOf, listing, located}
+use Rattle.spec_charts.specs.Reading.{cellOf, listing}
 use Rattle.laws_charts.proofs.TableLaws.{numbered-proper}
 use Rattle.laws_charts.proofs.EntriesOfTable.{meeting-filter}
 use Rattle.laws_charts.proofs.ChainOfTable.{meeting-rising}
@@ -79,8 +79,3 @@ module _ (table : Table) (few : length table ≤ maxTriangles) (p : Point) (g : 
         ap (first f) (listing-cell (c .member) (c .has) ∙ sym (meeting-filter table s))
         ∙ first-narrow f (λ i. triangleMeets (numbered table i) (squareBox s)) (upTo (length table))
         (λ i m h. square-meets i s (numbered-proper table good i (upTo-to m)) (c .has) (only i h))
-
-    -- on an indexed chart a point is located in the lowest numbered triangle of the whole table that holds it
-    pub locate-listing : located table (entriesOf table) p ≡ first (λ i. holds (numbered table i) p) (upTo (length table))
-    unfolding located
-    locate-listing = first-of-table (λ i. holds (numbered table i) p) (λ i h. h)

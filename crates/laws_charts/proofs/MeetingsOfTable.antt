@@ -1,11 +1,11 @@
 -- The meetings of the entries of two tables are the pairs of their cells whose key ranges overlap.
 -- The idea: the cells of a table tile the keys, so neighbouring cells differ and each has one first entry.
 -- Assumes nothing.
-use mathlib.Core.Path.{_≡_, _∙_, ap}
-use mathlib.Core.List.{List, [], _∷_, map, map-map}
+use mathlib.Core.Path.{_≡_}
+use mathlib.Core.List.{List, [], _∷_, map}
 use Prim.Native.Nat.{ℕ, _+_, _^_, _≤_, _<_}
 use native.Mathlib.Omega.{arith}
-use lib.ListN.{length, getD, length-map}
+use lib.ListN.{length, getD}
 use Rattle.theory_lists.proofs.Reflects.{Reflects, reflects-iff}
 use Rattle.theory_orthtree.specs.Entries.{Entry, cellHeads, span, rangeEnd, overlaps, meetings}
 use Rattle.theory_orthtree.proofs.RangeLaws.{Within}
@@ -40,20 +40,6 @@ unfolding entriesOf cellEntries entryOf
 cell-heads table =
     heads-of-tiling arity depth (omega arith) (λ s. squareKey s) (λ s. s .level) (λ s. orMark (trianglesMeeting table s)) (cells-tile table)
     (λ s m. some-item (trianglesMeeting table s))
-
--- with the cells' keys
-pub cell-heads-keys : (table : Table) → map (λ e. e .key) (cellHeads (entriesOf table)) ≡ map (λ s. squareKey s) (cells table)
-unfolding entryOf
-cell-heads-keys table = ap (map (λ e. e .key)) (cell-heads table) ∙ map-map (λ e. e .key) (λ s. firstEntry table s) (cells table)
-
--- their levels
-pub cell-heads-levels : (table : Table) → map (λ e. e .level) (cellHeads (entriesOf table)) ≡ map (λ s. s .level) (cells table)
-unfolding entryOf
-cell-heads-levels table = ap (map (λ e. e .level)) (cell-heads table) ∙ map-map (λ e. e .level) (λ s. firstEntry table s) (cells table)
-
--- and their number
-pub cell-heads-count : (table : Table) → length (cellHeads (entriesOf table)) ≡ length (cells table)
-cell-heads-count table = ap length (cell-heads table) ∙ length-map (cells table) (λ s. firstEntry table s)
 
 -- "whose key ranges overlap, that is, have a key in common"
 pub record RangesOverlap (q r : Square) : Type 0 where

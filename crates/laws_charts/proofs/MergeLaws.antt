@@ -1,15 +1,14 @@
 -- The triangle that a take-out makes of three: its D is the sum of theirs, so it is above zero without a test.
 -- Assumes nothing.
-use mathlib.Core.Path.{_≡_, refl, sym, _∙_, ap, subst}
+use mathlib.Core.Path.{_≡_, refl, sym, _∙_, subst}
 use mathlib.Core.Logic.{inl, inr}
 use Prim.Native.Nat.{ℕ, _+_, _<_}
 use native.Mathlib.Omega.{arith}
 use lib.Dec.{T}
-use lib.ListN.{length, getD, set, length-set}
-use lib.Seq.{getD-set-other}
-use Rattle.theory_lists.specs.Lists.{without, sumOf}
+use lib.ListN.{length}
+use Rattle.theory_lists.specs.Lists.{sumOf}
 use Rattle.theory_lists.proofs.ListsLaws.{Every}
-use Rattle.theory_lists.proofs.EditedLists.{sumOf-set, sumOf-without, length-without, getD-without, every-set, every-without}
+use Rattle.theory_lists.proofs.EditedLists.{length-merged, every-merged, sumOf-merged}
 use Rattle.spec_plane.specs.declared.Point.{Point}
 use Rattle.spec_plane.specs.Triangle.{Triangle, proper, doubledArea}
 use Rattle.spec_charts.specs.Table.{Table, numbered, noTriangle}
@@ -42,12 +41,12 @@ merged t u v c p h et eu ev pt pu pv =
     }
 
 -- the rotation that ends in a corner of a triangle with D > 0
-record Ending (p : Point) (t : Triangle) : Type 0 where
-  last : endingIn p t .c ≡ p
-  oriented : T (proper (endingIn p t))
-  area : doubledArea (endingIn p t) ≡ doubledArea t
+pub record Ending (p : Point) (t : Triangle) : Type 0 where
+  pub last : endingIn p t .c ≡ p
+  pub oriented : T (proper (endingIn p t))
+  pub area : doubledArea (endingIn p t) ≡ doubledArea t
 
-ending : (p : Point) (t : Triangle) → T (hasCorner p t) → T (proper t) → Ending p t
+pub ending : (p : Point) (t : Triangle) → T (hasCorner p t) → T (proper t) → Ending p t
 ending p t h d =
     let r = endingIn-rotation p t h in
     record { last = r .1; oriented = rotations-proper t d (endingIn p t) (r .0); area = rotations-area t (endingIn p t) (r .0) }
@@ -78,33 +77,15 @@ module _ (table : Table) (i j k : ℕ) (t : Triangle) (ij : i < j) (jk : j < k) 
   -- two triangles fewer
   pub merge-length : length (mergeAround table i j k t) + 2 ≡ length table
   unfolding mergeAround
-  merge-length =
-      let l = set table i t in
-      let n = length-set table i t in
-      let m = length-without l k (omega arith) in
-      omega (arith, length-without (without k l) j (omega arith))
+  merge-length = length-merged table i j k t ij jk below
 
   -- each triangle is one of before, or the one made
   pub merge-every : {P : Triangle → Type 0} → Every P table → P t → Every P (mergeAround table i j k t)
   unfolding mergeAround
-  merge-every h p = every-without (without k (set table i t)) j (every-without (set table i t) k (every-set table i h p))
+  merge-every h p = every-merged table i j k t ij jk below h p
 
   -- the sum over the table loses the three, and gains the one made
   pub merge-sum : (f : Triangle → ℕ)
       → sumOf f (mergeAround table i j k t) + (f (numbered table i) + f (numbered table j) + f (numbered table k)) ≡ sumOf f table + f t
   unfolding mergeAround numbered
-  merge-sum f =
-      let d = noTriangle in
-      let l = set table i t in
-      let n = length-set table i t in
-      let m = length-without l k (omega arith) in
-      let atK : getD l k d ≡ getD table k d = getD-set-other table i k t d (λ e. absurd (omega arith)) in
-      let atJ : getD (without k l) j d ≡ getD table j d = getD-without l k j d jk ∙ getD-set-other table i j t d (λ e. absurd (omega arith)) in
-      omega (
-        arith,
-        sumOf-set f table i t d (omega arith),
-        sumOf-without f l k d (omega arith),
-        sumOf-without f (without k l) j d (omega arith),
-        ap f atK,
-        ap f atJ,
-      )
+  merge-sum f = sumOf-merged table i j k t ij jk below f noTriangle

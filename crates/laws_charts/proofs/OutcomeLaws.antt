@@ -1,12 +1,13 @@
 -- What an outcome that is done has passed: each row of the table of numbers only refuses.
 -- Assumes nothing.
-use mathlib.Core.Path.{_≡_}
+use mathlib.Core.Path.{_≡_, refl}
 use mathlib.Core.Bool.{Bool, true, false, not}
-use Prim.Native.Nat.{ℕ}
+use Prim.Native.Nat.{ℕ, _<_}
 use native.Mathlib.Omega.{arith}
 use lib.Dec.{T}
 use Rattle.spec_charts.specs.declared.Refusal.{Refusal}
-use Rattle.spec_charts.specs.Refusals.{Outcome, refused, done, refuseIf}
+use Rattle.spec_charts.specs.declared.Refusal.the-variants.{ShortBuffer, BrokenChain, StaleEntries, BadLength, FaultyTriangle, NoSuchTriangle, NotInside, NotThreeAround, NoFlip, TableFull, TooManyEntries, TooManyPairs}
+use Rattle.spec_charts.specs.Refusals.{rowOf, outcomeNumber, Outcome, refused, done, refuseIf}
 
 module _ {A : Type 0} where
   -- a refusal is not done
@@ -22,6 +23,26 @@ module _ {A : Type 0} where
   unfolding refuseIf
   refuseIf-done true r e = absurd (refused-done e)
   refuseIf-done false r e = ((λ t. t), e)
+
+-- no row has the number 0
+row-positive : (r : Refusal) → 0 < rowOf r .number
+row-positive ShortBuffer = omega arith
+row-positive BrokenChain = omega arith
+row-positive StaleEntries = omega arith
+row-positive BadLength = omega arith
+row-positive (FaultyTriangle i) = omega arith
+row-positive NoSuchTriangle = omega arith
+row-positive NotInside = omega arith
+row-positive NotThreeAround = omega arith
+row-positive NoFlip = omega arith
+row-positive TableFull = omega arith
+row-positive TooManyEntries = omega arith
+row-positive TooManyPairs = omega arith
+
+-- so what gives 0 is done
+pub zero-done : {A : Type 0} (o : Outcome A) → outcomeNumber o ≡ 0 → (a : A) × (o ≡ done a)
+zero-done (refused r) z = let p = row-positive r in absurd (omega arith)
+zero-done (done a) z = (a, refl)
 
 -- a test that is not failed is passed
 pub passed : (b : Bool) → (T (not b) → ⊥) → T b

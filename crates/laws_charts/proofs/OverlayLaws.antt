@@ -17,7 +17,7 @@ use Rattle.theory_lists.proofs.MemberLaws.{filter-to, filter-from, flatMap-to, 
 use Rattle.theory_lists.proofs.Order.{Ordered, ordered-imp, ordered-map, ordered-filter}
 use Rattle.theory_lists.proofs.OrderLaws.{ordered-flatMap, upTo-ordered, ordered-once, ordered-unique}
 use Rattle.theory_orthtree.specs.Entries.{Entry}
-use Rattle.theory_orthtree.proofs.TogetherLaws.{ListedTogether, listedTogether-reflects, together-swap}
+use Rattle.theory_orthtree.proofs.TogetherLaws.{ListedTogether, listedTogether-reflects}
 use Rattle.spec_plane.specs.Triangle.{proper}
 use Rattle.spec_plane.specs.Interior.{CommonInterior, interiorsMeet}
 use Rattle.laws_separation.proofs.Separation.{interiors-meet-iff}
@@ -33,15 +33,6 @@ pub record Shared (s : Table) (es : List Entry) (t : Table) (fs : List Entry) (i
   pub second : j < length t
   pub listed : ListedTogether arity depth es fs i j
   pub common : CommonInterior (numbered s i) (numbered t j)
-
--- it does not depend on which chart is the first
-pub shared-swap : {s t : Table} {es fs : List Entry} {i j : ℕ} → Shared s es t fs i j → Shared t fs s es j i
-shared-swap h = record {
-  first = h .second;
-  second = h .first;
-  listed = together-swap (h .listed);
-  common = record { point = h .common .point; above = h .common .above; first = h .common .second; second = h .common .first };
-}
 
 -- of two pairs not both are the earlier one
 earlier-asym : (p q : Pair) → Earlier p q → Earlier q p → ⊥

@@ -22,16 +22,16 @@ unfolding triangle
 named t x y z i = record { a = x i; b = y i; c = z i }
 
 -- D(p,q,r) is n
-abbrev Doubled : Point → Point → Point → ℕ → Type 0
+abbrev pub Doubled : Point → Point → Point → ℕ → Type 0
 Doubled p q r n = orientHigh p q r ≡ orientLow p q r + n
 
 -- D > 0 as an order of two sums
-order : (p q r : Point) → Reflects (proper (triangle p q r)) (orientLow p q r < orientHigh p q r)
+pub order : (p q r : Point) → Reflects (proper (triangle p q r)) (orientLow p q r < orientHigh p q r)
 unfolding triangle proper
 order p q r = reflects-le (orient-positive p q r)
 
 -- where D > 0 it is the doubled area
-doubled : (p q r : Point) → T (proper (triangle p q r)) → Doubled p q r (doubledArea (triangle p q r))
+pub doubled : (p q r : Point) → T (proper (triangle p q r)) → Doubled p q r (doubledArea (triangle p q r))
 unfolding triangle doubledArea
 doubled p q r h = omega (arith, order p q r .to h, diff-natAbs (orient-difference p q r))
 
@@ -39,7 +39,8 @@ doubled p q r h = omega (arith, order p q r .to h, diff-natAbs (orient-differenc
 pub area-positive : (p q r : Point) → T (proper (triangle p q r)) → 0 < doubledArea (triangle p q r)
 area-positive p q r h = omega (arith, order p q r .to h, doubled p q r h)
 
-doubled-area : (p q r : Point) (n : ℕ) → Doubled p q r n → doubledArea (triangle p q r) ≡ n
+-- and what D(p,q,r) is, is the doubled area
+pub doubled-area : (p q r : Point) (n : ℕ) → Doubled p q r n → doubledArea (triangle p q r) ≡ n
 unfolding triangle doubledArea
 doubled-area p q r n e = omega (arith, diff-natAbs (orient-difference p q r))
 
@@ -60,7 +61,8 @@ proper-rotate p q r = ap (ltZ (pos 0)) (sym (orient-rotate p q r))
 
 -- ---- three triangles around a point
 
-around : (ax ay bx by cx cy px py k l m : ℕ)
+-- D(a,b,p), D(b,c,p) and D(c,a,p) add up to D(a,b,c), in coordinates
+pub around : (ax ay bx by cx cy px py k l m : ℕ)
     → bx * py + by * ax + ay * px ≡ bx * ay + ax * py + by * px + k
     → cx * py + cy * bx + by * px ≡ cx * by + bx * py + cy * px + l
     → ax * py + ay * cx + cy * px ≡ ax * cy + cx * py + ay * px + m

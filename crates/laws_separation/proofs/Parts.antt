@@ -1,4 +1,4 @@
--- What meets a part of a box meets the whole box, for every triangle, flat ones too, and for every side. The part reaches
+-- A triangle that meets a part of a box meets the whole box, flat triangles too. The part reaches
 -- no further than the whole, so a box apart from the whole is apart from the part; and the corner of the part at which
 -- D(p,q,·) is largest lies in the whole, so D is at least as large at the whole's.
 -- Assumes nothing.
@@ -7,13 +7,12 @@ use Prim.Native.Nat.{_≤_}
 use native.Mathlib.Omega.{arith}
 use lib.Dec.{T}
 use Rattle.spec_plane.specs.declared.Point.{Point}
-use Rattle.spec_plane.specs.Triangle.{Triangle, Side}
-use Rattle.spec_plane.specs.Box.{Box, sideMeets, triangleMeets}
+use Rattle.spec_plane.specs.Triangle.{Triangle}
+use Rattle.spec_plane.specs.Box.{Box, triangleMeets}
 use Rattle.laws_separation.proofs.Cone.{Form, halfClosed, _•_}
 use Rattle.laws_separation.proofs.Sides.{side, at, SomeCorner}
 use Rattle.laws_separation.proofs.Boxes.{rectangle, fromLeft, toRight, fromTop, toBottom, largest, at-largest, corners-in, corners-largest}
 use Rattle.laws_separation.proofs.Touch.{Reaches, touch-reflects}
-use Rattle.laws_separation.proofs.FlatSides.{flat, sideMeets-flat}
 
 -- r is a part of q, and has points
 pub record BoxWithin (r q : Box) : Type 0 where
@@ -54,7 +53,3 @@ triangleMeets-part t {r} {q} w m =
       (((((left, right), top), bottom), reaches-part _ _ w (h .0 .0 .1)), reaches-part _ _ w (h .0 .1)),
       reaches-part _ _ w (h .1),
     )
-
--- A side that meets a part of a box meets the box.
-pub sideMeets-part : (d : Side) {r q : Box} → BoxWithin r q → T (sideMeets d r) → T (sideMeets d q)
-sideMeets-part d {r} {q} w m = rw sideMeets-flat at (triangleMeets-part (flat d) w (rw (← sideMeets-flat d r) at m))

@@ -10,7 +10,7 @@ use native.Mathlib.Omega.{arith}
 use lib.Dec.{T}
 use Rattle.spec_plane.specs.Triangle.{Triangle, proper}
 use Rattle.spec_plane.specs.Interior.{CommonInterior, noSideSeparates, interiorsMeet}
-use Rattle.theory_lists.proofs.Reflects.{Reflects, reflects-dec, reflects-and, reflects-and₃}
+use Rattle.theory_lists.proofs.Reflects.{Reflects, reflects-and, reflects-and₃}
 use Rattle.laws_separation.proofs.Cone.{Cone, Inhabited, inhabited-more, _∩_, half}
 use Rattle.laws_separation.proofs.Helly.{families-meet}
 use Rattle.laws_separation.proofs.Sides.{side, fraction, inside, inside-reflects, Proper, proper-reflects, SomeCorner, someCorner-reflects}
@@ -73,10 +73,6 @@ separation s t ds dt =
           common s t (meets s t (proper-reflects s .to ds) (proper-reflects t .to dt) (h .0) (h .1));
       from = λ c. r .from (shows s t dt c, shows t s ds (commonInterior-sym c));
     }
-
--- whether two triangles with D > 0 have a common inner point can be decided
-pub commonInterior? : (s t : Triangle) → T (proper s) → T (proper t) → Dec (CommonInterior s t)
-commonInterior? s t ds dt = reflects-dec (separation s t ds dt)
 
 -- Two triangles with D > 0 have a point, which may be fractional, strictly inside both, exactly where the test
 -- `interiorsMeet` passes: for every side of each of the two some corner of the other has D > 0.

@@ -17,7 +17,7 @@ use Rattle.base_boxes.specs.Boxes.{separate, boxesOverlap}
 use Rattle.theory_lists.proofs.CompactLaws.{compact-none, compact-more, compact-skip}
 use Rattle.overlay_marks.specs.Bits.{wordBit, hasBit}
 use Rattle.overlay_marks.specs.PairMarks.{rowWords}
-use Rattle.overlay_candidates.specs.RowCandidates.{markedAt, isNear, NearInRow}
+use Rattle.overlay_candidates.specs.RowCandidates.{markedAt, isNear, NearInRow, Collected}
 use Rattle.overlay_candidates.proofs.WordLaws.{Lowest, trailing-lowest, bits-before, bit-there, bit-within, bits-after, bits-none}
 
 -- j is below m, or not
@@ -96,3 +96,18 @@ module _ (rows : List ℕ) (i j q w : ℕ) (fits : getD rows (rowWords * i + q) 
     mark-past =
         bits-after (getD rows (rowWords * i + q) 0) (j - 64 * q) w t left l
         ∙ ap (λ x. getD rows (rowWords * i + q) 0 / 2 ^ x) (omega arith)
+
+-- ---- what the loops have done
+
+module _ (b : Box) (box : ℕ → Box) (rows : List ℕ) (m i : ℕ) (start near : List ℕ) where
+  -- the words before word q of row i are looked at
+  pub record WordsDone (q c : ℕ) : Type 0 where
+    pub within : q ≤ rowWords
+    pub collected : Collected b box rows m i start near (64 * q) c
+
+  -- of word q of row i the marks before place j are looked at, and w has those that are left
+  pub record MarksDone (q w j c : ℕ) : Type 0 where
+    pub low : 64 * q ≤ j
+    pub high : j ≤ 64 * (q + 1)
+    pub left : w ≡ getD rows (rowWords * i + q) 0 / 2 ^ (j - 64 * q)
+    pub collected : Collected b box rows m i start near j c

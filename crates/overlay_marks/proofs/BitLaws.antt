@@ -4,7 +4,7 @@
 use mathlib.Core.Path.{_≡_, refl, sym, _∙_, ap, ap₂}
 use mathlib.Core.Bool.{Bool, true, false, _&&_, _||_}
 use mathlib.Core.List.{List}
-use Prim.Native.Nat.{ℕ, zero, suc, _+_, _*_, _-_, _/_, _%_, _^_, _<_, max}
+use Prim.Native.Nat.{ℕ, zero, suc, _+_, _*_, _-_, _/_, _%_, _^_, _≤_, _<_, max}
 use native.Mathlib.Nat.{zero-div, mul-add-mod-self-right, mod-eq-of-lt, div-eq-of-lt, pow-suc}
 use native.Mathlib.Omega.{arith}
 use native.Mathlib.Decide.{decLe, decLt, ℕ-discrete}
@@ -118,6 +118,11 @@ module _ (ws : List ℕ) (k : ℕ) (h : k / 64 < length ws) where
 
   pub inserted : Inserted ws k (set ws (k / 64) marked)
   inserted = record { bits = inserted-bits; kept = length-set ws (k / 64) marked }
+
+-- the first i of n words are joined
+pub record WordsJoined (before : List ℕ) (at : ℕ) (set : List ℕ) (n i : ℕ) (after : List ℕ) : Type 0 where
+  pub within : i ≤ n
+  pub joined : Joined before at set i after
 
 -- nothing joined yet
 pub joined-none : (ws : List ℕ) (at : ℕ) (s : List ℕ) → Joined ws at s 0 ws

@@ -3,14 +3,14 @@
 use mathlib.Core.Path.{_≡_, refl, sym, _∙_, ap, ap₂}
 use mathlib.Core.Bool.{Bool, true, false, _&&_, _||_}
 use mathlib.Core.List.{List, [], _∷_, _++_}
-use Prim.Native.Nat.{ℕ, suc, _+_, _*_, _-_, _≤_, _<_}
+use Prim.Native.Nat.{ℕ, _+_, _*_, _-_, _≤_, _<_}
 use native.Mathlib.Decide.{decLt, ℕ-discrete}
 use native.Mathlib.Omega.{arith}
 use borrow.Author.Tests.{eq-eqb, ne-eqb, lt-ltb, le-ltb, le-leb, lt-leb}
 use lib.Dec.{leb, ltb, eqb}
-use lib.ListN.{length, getD, take, drop, replicate, length-drop}
-use lib.Seq.{take-suc, getD-drop}
+use lib.ListN.{length, getD, take, drop, replicate}
 use Rattle.theory_lists.specs.Lists.{any}
+use Rattle.theory_lists.proofs.PartLaws.{part-snoc}
 use Rattle.spec_charts.specs.Table.{maxTriangles}
 use Rattle.overlay_marks.specs.Bits.{hasBit, Inserted, Joined}
 use Rattle.overlay_marks.proofs.BitLaws.{or-false, zeros-empty}
@@ -35,14 +35,6 @@ any-one f (x ∷ xs) y = step (f x) (any-one f xs y)
     step true e = refl
     step false e = e
 
--- a part with one more element
-part-more : (is : List ℕ) (a r : ℕ) → a ≤ r → r < length is → take (r + 1 - a) (drop a is) ≡ take (r - a) (drop a is) ++ (getD is r 0 ∷ [])
-part-more is a r h l =
-    let n : r + 1 - a ≡ suc (r - a) = omega arith in
-    let m : a + (r - a) ≡ r = omega arith in
-    ap (λ k. take k (drop a is)) n ∙ take-suc (drop a is) (r - a) 0 (omega (arith, length-drop a is))
-    ∙ ap (λ x. take (r - a) (drop a is) ++ (x ∷ [])) (getD-drop a is (r - a) 0 ∙ ap (λ k. getD is k 0) m)
-
 -- no item is at any place
 pub some-none : (is : List ℕ) (a i : ℕ) → someAt is a a i ≡ false
 unfolding someAt any
@@ -54,7 +46,7 @@ some-none is a i =
 pub some-more : (is : List ℕ) (a r i : ℕ) → a ≤ r → r < length is → someAt is a (r + 1) i ≡ someAt is a r i || eqb (placeOf (getD is r 0)) i
 unfolding someAt
 some-more is a r i h l =
-    ap (λ xs. any (λ t. eqb (placeOf t) i) xs) (part-more is a r h l)
+    ap (λ xs. any (λ t. eqb (placeOf t) i) xs) (part-snoc a r is h l)
     ∙ any-one (λ t. eqb (placeOf t) i) (take (r - a) (drop a is)) (getD is r 0)
 
 eqb-sym : (a b : ℕ) → eqb a b ≡ eqb b a
@@ -62,6 +54,12 @@ eqb-sym a b = elim (ℕ-discrete a b) [
   | yes e ↦ eq-eqb a b e ∙ sym (eq-eqb b a (sym e))
   | no n ↦ ne-eqb a b n ∙ sym (ne-eqb b a (λ e. n (sym e)))
 ]
+
+-- the items from place a up to place i are inserted
+pub record Inserting (before is : List ℕ) (a r i : ℕ) (after : List ℕ) : Type 0 where
+  pub low : a ≤ i
+  pub high : i ≤ r
+  pub inserted : ItemsInserted before is a i after
 
 -- no item inserted yet
 pub insert-start : (set is : List ℕ) (a : ℕ) → ItemsInserted set is a a set
@@ -103,6 +101,12 @@ both false true false true = refl
 both false true true false = refl
 both false true false false = refl
 both false false e y = refl
+
+-- the set is joined into the rows of the items from place a up to place i
+pub record Joining (before is : List ℕ) (a r i : ℕ) (set after : List ℕ) : Type 0 where
+  pub low : a ≤ i
+  pub high : i ≤ r
+  pub joined : SetJoined before is a i set after
 
 -- no row joined yet
 pub join-start : (rows is : List ℕ) (a : ℕ) (set : List ℕ) → SetJoined rows is a a set rows

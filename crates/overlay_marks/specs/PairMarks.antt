@@ -3,7 +3,7 @@
 use mathlib.Core.Path.{_≡_}
 use mathlib.Core.Bool.{Bool, _&&_, _||_}
 use mathlib.Core.List.{List}
-use Prim.Native.Nat.{ℕ, _+_, _*_, _-_, _<_, min}
+use Prim.Native.Nat.{ℕ, _+_, _*_, _-_, _≤_, _<_, min}
 use lib.Dec.{eqb}
 use lib.ListN.{length, take, drop}
 use Rattle.theory_lists.specs.Lists.{any}
@@ -21,6 +21,11 @@ rowsLength = rowWords * (maxTriangles + 1)
 -- an item's row, and its bit in a row: its own number, or for the mark the one after all triangles
 abbrev pub placeOf : ℕ → ℕ
 placeOf t = min t maxTriangles
+
+-- the items have a part from place a up to place r
+pub record HasPart (is : List ℕ) (a r : ℕ) : Type 0 where
+  pub ordered : a ≤ r
+  pub within : r ≤ length is
 
 -- some item from place a up to place r has this row, or bit
 unfoldable pub someAt : List ℕ → ℕ → ℕ → ℕ → Bool

@@ -4,9 +4,9 @@ pub mod bitsets;
 
 use base_geometry::numbers;
 ghost use mathlib.Core.Path.{_≡_};
-ghost use Prim.Native.Nat.{_+_, _*_, _≤_, _<_};
+ghost use Prim.Native.Nat.{_+_, _≤_};
 ghost use lib.ListN.{length};
-ghost use Rattle.overlay_marks.specs.PairMarks.{rowWords, rowsLength, placeOf, ItemsInserted, SetJoined, PartsMarked};
+ghost use Rattle.overlay_marks.specs.PairMarks.{rowWords, rowsLength, placeOf, HasPart, ItemsInserted, SetJoined, PartsMarked};
 
 // The words of a row, which has a bit for each triangle of the second chart.
 pub const ROW_WORDS: usize = base_tables::MOST_TRIANGLES / bitsets::WORD;
@@ -24,25 +24,25 @@ fn place(item: u16) -> usize
     numbers::index(numbers::smaller(item, MARK_PLACE))
 }
 
-// Inserts the items from place a up to place r into the set.
-fn insert_all(set: &mut [u64], items: &[u16], a: usize, r: usize)
-    requires { ⌜ ((a ≤ r) × (r ≤ length (now items))) × (rowWords + 1 ≤ length (now set)) ⌝ }
-    ensures { λ o. ⌜ ItemsInserted (now (set .entry)) (now (items .entry)) a r (now (set .exit)) ⌝ }
+// Inserts the items from one place up to another into the set.
+fn insert_all(set: &mut [u64], items: &[u16], from: usize, to: usize)
+    requires { ⌜ HasPart (now items) from to × (rowWords + 1 ≤ length (now set)) ⌝ }
+    ensures { λ o. ⌜ ItemsInserted (now (set .entry)) (now (items .entry)) from to (now (set .exit)) ⌝ }
 {
-    let mut i = a;
-    while i < r {
+    let mut i = from;
+    while i < to {
         bitsets::insert(set, place(items[i]));
         i += 1;
     }
 }
 
-// Joins the set into the rows of the items from place a up to place r.
-fn join_all(rows: &mut [u64], items: &[u16], a: usize, r: usize, set: &[u64])
-    requires { ⌜ ((a ≤ r) × (r ≤ length (now items))) × ((rowsLength ≤ length (now rows)) × (rowWords ≤ length (now set))) ⌝ }
-    ensures { λ o. ⌜ SetJoined (now (rows .entry)) (now (items .entry)) a r (now (set .entry)) (now (rows .exit)) ⌝ }
+// Joins the set into the rows of the items from one place up to another.
+fn join_all(rows: &mut [u64], items: &[u16], from: usize, to: usize, set: &[u64])
+    requires { ⌜ HasPart (now items) from to × ((rowsLength ≤ length (now rows)) × (rowWords ≤ length (now set))) ⌝ }
+    ensures { λ o. ⌜ SetJoined (now (rows .entry)) (now (items .entry)) from to (now (set .entry)) (now (rows .exit)) ⌝ }
 {
-    let mut i = a;
-    while i < r {
+    let mut i = from;
+    while i < to {
         bitsets::join(rows, ROW_WORDS * place(items[i]), set, ROW_WORDS);
         i += 1;
     }
@@ -51,18 +51,18 @@ fn join_all(rows: &mut [u64], items: &[u16], a: usize, r: usize, set: &[u64])
 // Marks each item of the first part with each item of the second.
 pub fn mark_parts(
     first_items: &[u16],
-    a: usize,
-    p: usize,
+    first_from: usize,
+    first_to: usize,
     second_items: &[u16],
-    b: usize,
-    q: usize,
+    second_from: usize,
+    second_to: usize,
     rows: &mut [u64],
 )
-    requires { ⌜ ((a ≤ p) × (p ≤ length (now «first_items»))) × ((b ≤ q) × (q ≤ length (now «second_items»))) ⌝ }
+    requires { ⌜ HasPart (now «first_items») «first_from» «first_to» × HasPart (now «second_items») «second_from» «second_to» ⌝ }
     requires { ⌜ rowsLength ≤ length (now rows) ⌝ }
-    ensures { λ o. ⌜ PartsMarked (now (rows .entry)) (now («first_items» .entry)) a p (now («second_items» .entry)) b q (now (rows .exit)) ⌝ }
+    ensures { λ o. ⌜ PartsMarked (now (rows .entry)) (now («first_items» .entry)) «first_from» «first_to» (now («second_items» .entry)) «second_from» «second_to» (now (rows .exit)) ⌝ }
 {
     let mut set = [0u64; ROW_WORDS + 1];
-    insert_all(&mut set, second_items, b, q);
-    join_all(rows, first_items, a, p, &set);
+    insert_all(&mut set, second_items, second_from, second_to);
+    join_all(rows, first_items, first_from, first_to, &set);
 }

@@ -15,38 +15,38 @@ use Rattle.theory_lists.specs.Lists.{any}
 use Rattle.theory_lists.proofs.PartLaws.{part-map}
 use Rattle.theory_orthtree.specs.Entries.{Entry}
 use Rattle.theory_orthtree.proofs.EntriesLaws.{noEntry}
-use Rattle.theory_orthtree.proofs.KeyBlocksLaws.{KeysOf}
-use Rattle.spec_calls.specs.Buffers.{zipEntries}
+use Rattle.theory_orthtree.proofs.KeyCellsLaws.{KeysOf}
 use Rattle.laws_calls.proofs.EntriesLaws.{first-count, first-at}
 use Rattle.overlay_marks.specs.PairMarks.{placeOf, someAt}
+use Rattle.overlay_merge.specs.Merge.{KeyedItems, withLevels, EntriesFit}
 use Rattle.spec_charts.specs.Table.{maxTriangles}
 
--- the first n keys and items are those of the entries
-pub record EntriesOf (ks is : List ℕ) (n : ℕ) (es : List Entry) : Type 0 where
-  pub keys : KeysOf ks n es
-  pub items : (a r : ℕ) → a ≤ r → r ≤ n → take (r - a) (drop a is) ≡ map (λ e. e .item) (take (r - a) (drop a es))
+-- the keys and items are those of the entries
+pub record EntriesOf (s : KeyedItems) (es : List Entry) : Type 0 where
+  pub keys : KeysOf (s .keys) (s .count) es
+  pub items : (a r : ℕ) → a ≤ r → r ≤ s .count → take (r - a) (drop a (s .items)) ≡ map (λ e. e .item) (take (r - a) (drop a es))
 
--- three lists, whatever levels they have
-pub entries-of : (ks us is : List ℕ) (n : ℕ) → n ≤ length ks → n ≤ length us → n ≤ length is → EntriesOf ks is n (take n (zipEntries ks us is))
-entries-of ks us is n h l g = record {
+-- of the entries with any levels
+pub entries-of : (s : KeyedItems) → EntriesFit s → (us : List ℕ) → s .count ≤ length us → EntriesOf s (withLevels s us)
+entries-of s f us l = record {
   keys = record { count = sym count; keys = first-keys };
-  items = λ a r p q. part-map (λ e. e .item) es is noEntry a r p (omega (arith, count)) (omega arith) (λ i s. ap (λ e. e .item) (at i (omega arith)));
+  items = λ a r p q. part-map (λ e. e .item) es (s .items) noEntry a r p (omega (arith, count)) (omega (arith, f .forItems)) (λ i h. ap (λ e. e .item) (at i (omega arith)));
 }
   where
     es : List Entry
-    es = take n (zipEntries ks us is)
+    es = withLevels s us
 
-    count : length es ≡ n
-    count = first-count ks us is n h l g
+    count : length es ≡ s .count
+    count = first-count (s .keys) us (s .items) (s .count) (f .forKeys) l (f .forItems)
 
-    at : (i : ℕ) → i < n → getD es i noEntry ≡ record { key = getD ks i 0; level = getD us i 0; item = getD is i 0 }
-    at i s = first-at ks us is n h l g noEntry i s
+    at : (i : ℕ) → i < s .count → getD es i noEntry ≡ record { key = getD (s .keys) i 0; level = getD us i 0; item = getD (s .items) i 0 }
+    at i h = first-at (s .keys) us (s .items) (s .count) (f .forKeys) l (f .forItems) noEntry i h
 
-    first-keys : take n ks ≡ map (λ e. e .key) es
+    first-keys : take (s .count) (s .keys) ≡ map (λ e. e .key) es
     first-keys =
-        let p = part-map (λ e. e .key) es ks noEntry 0 n (omega arith) (omega (arith, count)) (omega arith) (λ i s. ap (λ e. e .key) (at i s)) in
-        let whole : take n es ≡ es = take-all n es (omega (arith, count)) in
-        rw (sub-zero n, whole) at p
+        let p = part-map (λ e. e .key) es (s .keys) noEntry 0 (s .count) (omega arith) (omega (arith, count)) (f .forKeys) (λ i h. ap (λ e. e .key) (at i h)) in
+        let whole : take (s .count) es ≡ es = take-all (s .count) es (omega (arith, count)) in
+        rw (sub-zero (s .count), whole) at p
 
 -- of an item below maxTriangles, its own number is its row and its bit
 own-place : (t i : ℕ) → i < maxTriangles → eqb (placeOf t) i ≡ eqb t i
@@ -62,8 +62,8 @@ some-item i h (g ∷ gs) =
     ap₂ (λ (b c : Bool). elim b [ true ↦ true | false ↦ c ]) (own-place (g .item) i h) (some-item i h gs)
 
 -- some entry of a part lists the item
-pub some-listed : {ks is : List ℕ} {n : ℕ} {es : List Entry} → EntriesOf ks is n es → (a r : ℕ) → a ≤ r → r ≤ n → (i : ℕ) → i < maxTriangles
-    → someAt is a r i ≡ any (λ g. eqb (g .item) i) (take (r - a) (drop a es))
+pub some-listed : {s : KeyedItems} {es : List Entry} → EntriesOf s es → (a r : ℕ) → a ≤ r → r ≤ s .count → (i : ℕ) → i < maxTriangles
+    → someAt (s .items) a r i ≡ any (λ g. eqb (g .item) i) (take (r - a) (drop a es))
 unfolding someAt
-some-listed {es = es} x a r h l i s =
-    ap (λ xs. any (λ t. eqb (placeOf t) i) xs) (x .items a r h l) ∙ some-item i s (take (r - a) (drop a es))
+some-listed {es = es} x a r h l i low =
+    ap (λ xs. any (λ t. eqb (placeOf t) i) xs) (x .items a r h l) ∙ some-item i low (take (r - a) (drop a es))

@@ -8,8 +8,8 @@ use native.Mathlib.Decide.{ℕ-discrete}
 use native.Mathlib.Omega.{arith}
 use lib.Dec.{eqb}
 use lib.ListN.{length, getD, take, drop, length-take}
-use Rattle.theory_orthtree.specs.KeyBlocks.{CellEnd, changesAfter, keyBlocks}
-use Rattle.theory_orthtree.proofs.KeyBlocksLaws.{changes-same, changes-other, blocks-one, blocks-grow}
+use Rattle.theory_orthtree.specs.KeyCells.{CellEnd, changesAfter, keyCells}
+use Rattle.theory_orthtree.proofs.KeyCellsLaws.{changes-same, changes-other, keyCells-one, keyCells-grow}
 use Rattle.overlay_merge.specs.Runs.{RunOf}
 
 -- the keys from a up to r are those of one cell
@@ -60,10 +60,10 @@ changes-few k (l ∷ ls) =
     ]
 
 -- there are no more blocks than keys
-pub blocks-few : (ks : List ℕ) → keyBlocks ks ≤ length ks
-unfolding keyBlocks
-blocks-few [] = omega arith
-blocks-few (k ∷ ks) = let h = changes-few k ks in omega arith
+pub keyCells-few : (ks : List ℕ) → keyCells ks ≤ length ks
+unfolding keyCells
+keyCells-few [] = omega arith
+keyCells-few (k ∷ ks) = let h = changes-few k ks in omega arith
 
 -- a key changes once or not
 pub change-few : (k l : ℕ) → cond (eqb k l) 0 1 ≤ 1
@@ -78,7 +78,7 @@ pub record RunPassed (ks : List ℕ) (n a end r cells : ℕ) : Type 0 where
   pub after : a < r
   pub within : r ≤ n
   pub below : (i : ℕ) → a + 1 ≤ i → i < r → getD ks i 0 < end
-  pub count : cells ≡ keyBlocks (take (r - a) (drop a ks))
+  pub count : cells ≡ keyCells (take (r - a) (drop a ks))
 
 module _ (ks : List ℕ) (n a end : ℕ) where
   pub run-start : a < n → n ≤ length ks → RunPassed ks n a end (a + 1) 1
@@ -86,13 +86,13 @@ module _ (ks : List ℕ) (n a end : ℕ) where
     after = omega arith;
     within = omega arith;
     below = λ i l g. absurd (omega arith);
-    count = sym (blocks-one ks a (omega arith)) ∙ ap (λ k. keyBlocks (take (k - a) (drop a ks))) (omega arith);
+    count = sym (keyCells-one ks a (omega arith)) ∙ ap (λ k. keyCells (take (k - a) (drop a ks))) (omega arith);
   }
 
   module _ {r cells : ℕ} (p : RunPassed ks n a end r cells) where
     -- its cells are no more than its keys
     pub run-few : cells ≤ r - a
-    run-few = omega (arith, p .count, blocks-few (take (r - a) (drop a ks)), length-take (r - a) (drop a ks))
+    run-few = omega (arith, p .count, keyCells-few (take (r - a) (drop a ks)), length-take (r - a) (drop a ks))
 
     -- one more key
     pub run-more : r < n → n ≤ length ks → getD ks r 0 < end → {c : ℕ} → c ≡ cond (eqb (getD ks (r - 1) 0) (getD ks r 0)) 0 1
@@ -110,13 +110,13 @@ module _ (ks : List ℕ) (n a end : ℕ) where
         back : suc (r - 1) ≡ r
         back = omega (arith, p .after)
 
-        grown : keyBlocks (take (r + 1 - a) (drop a ks)) ≡ keyBlocks (take (r - a) (drop a ks)) + cond (eqb (getD ks (r - 1) 0) (getD ks r 0)) 0 1
+        grown : keyCells (take (r + 1 - a) (drop a ks)) ≡ keyCells (take (r - a) (drop a ks)) + cond (eqb (getD ks (r - 1) 0) (getD ks r 0)) 0 1
         grown =
-            ap (λ k. keyBlocks (take (k - a) (drop a ks))) (omega (arith, p .after))
-            ∙ blocks-grow ks a (r - 1) (omega (arith, p .after)) (omega arith)
-            ∙ ap (λ k. keyBlocks (take (k - a) (drop a ks)) + cond (eqb (getD ks (r - 1) 0) (getD ks k 0)) 0 1) back
+            ap (λ k. keyCells (take (k - a) (drop a ks))) (omega (arith, p .after))
+            ∙ keyCells-grow ks a (r - 1) (omega (arith, p .after)) (omega arith)
+            ∙ ap (λ k. keyCells (take (k - a) (drop a ks)) + cond (eqb (getD ks (r - 1) 0) (getD ks k 0)) 0 1) back
 
-        counted : cells + c ≡ keyBlocks (take (r + 1 - a) (drop a ks))
+        counted : cells + c ≡ keyCells (take (r + 1 - a) (drop a ks))
         counted = omega (arith, p .count, e, grown)
 
     -- the end is reached, or there is no key any more

@@ -2,21 +2,24 @@
 -- Assumes nothing.
 use mathlib.Core.Path.{_≡_}
 use mathlib.Core.List.{List}
-use Prim.Native.Nat.{ℕ, _+_, _-_, max}
-use lib.ListN.{take, drop}
-use Rattle.theory_orthtree.specs.Entries.{span}
-use Rattle.spec_squares.specs.Square.{arity, depth}
-use Rattle.theory_orthtree.specs.KeyBlocks.{CellEnd, RunEnd, keyBlocks, keyFrom}
+use Prim.Native.Nat.{ℕ, _+_, _-_, _≤_, _<_, max}
+use lib.ListN.{length, take, drop}
+use Rattle.theory_orthtree.specs.KeyCells.{CellEnd, RunEnd, keyCells, keyFrom}
 
--- the key at which the larger of the cells at places a and b ends
-pub record BlockEnd (ks : List ℕ) (n a : ℕ) (ls : List ℕ) (m b e : ℕ) : Type 0 where
+-- there are n keys, and place a is one of theirs
+pub record KeyAt (ks : List ℕ) (n a : ℕ) : Type 0 where
+  pub below : a < n
+  pub room : n ≤ length ks
+
+-- the key at which the larger of the cells at places a and b ends, where the tree's keys end at treeEnd
+pub record BlockEnd (treeEnd : ℕ) (ks : List ℕ) (n a : ℕ) (ls : List ℕ) (m b e : ℕ) : Type 0 where
   pub p : ℕ
   pub q : ℕ
   pub first : CellEnd ks n a p
   pub second : CellEnd ls m b q
-  pub end : e ≡ max (keyFrom ks n (span arity depth 0) p) (keyFrom ls m (span arity depth 0) q)
+  pub end : e ≡ max (keyFrom ks n treeEnd p) (keyFrom ls m treeEnd q)
 
 -- the run from place a on up to the key e, and its cells: the entry at a belongs to it, so its length is not 0
 pub record RunOf (ks : List ℕ) (n a e r cells : ℕ) : Type 0 where
   pub ends : RunEnd ks n (a + 1) e r
-  pub count : cells ≡ keyBlocks (take (r - a) (drop a ks))
+  pub count : cells ≡ keyCells (take (r - a) (drop a ks))

@@ -1,17 +1,14 @@
 // Which items of two charts are listed in cells that overlap, and how many pairs of cells overlap: both lists of entries are
 // walked by their keys alone, block by block. A block starts where a cell of each chart starts and ends where the larger
 // of the two ends, so one of its two runs is a single cell, and every cell of the one overlaps every cell of the other.
+// Of the tree only the end of its keys is needed, where its last cells end.
 
 mod runs;
 
-ghost use mathlib.Core.Path.{_≡_};
-ghost use mathlib.Core.Bool.{false};
-ghost use Prim.Native.Nat.{ℕ, _+_, _*_, _≤_, _<_};
+ghost use Prim.Native.Nat.{_≤_, _<_};
 ghost use lib.ListN.{length};
-ghost use Rattle.spec_charts.specs.Cells.{maxEntries};
-ghost use Rattle.overlay_marks.specs.Bits.{hasBit};
 ghost use Rattle.overlay_marks.specs.PairMarks.{rowsLength};
-ghost use Rattle.overlay_merge.specs.Merge.{BlockMarked, Merged};
+ghost use Rattle.overlay_merge.specs.Merge.{keyed, lent, EntriesFit, EmptyRows, BlockMarked, Merged};
 
 // A block: the places after its two runs, and how many pairs of cells it has.
 pub struct Marked {
@@ -20,27 +17,44 @@ pub struct Marked {
     pub pairs: usize,
 }
 
-// Marks the block that starts at places a and b.
+// Marks the block that starts at two places.
 fn mark_block(
     first_keys: &[u32],
     first_items: &[u16],
-    n: usize,
-    a: usize,
+    first_entries: usize,
+    first_at: usize,
     second_keys: &[u32],
     second_items: &[u16],
-    m: usize,
-    b: usize,
+    second_entries: usize,
+    second_at: usize,
     rows: &mut [u64],
+    tree_end: u64,
 ) -> Marked
-    requires { ⌜ (a < n) × ((n ≤ length (now «first_keys»)) × (n ≤ length (now «first_items»))) ⌝ }
-    requires { ⌜ (b < m) × ((m ≤ length (now «second_keys»)) × (m ≤ length (now «second_items»))) ⌝ }
-    requires { ⌜ ((n ≤ maxEntries) × (m ≤ maxEntries)) × (rowsLength ≤ length (now rows)) ⌝ }
-    ensures { λ r. ⌜ BlockMarked (now («first_keys» .entry)) (now («first_items» .entry)) n a (r .first) (now («second_keys» .entry)) (now («second_items» .entry)) m b (r .second) (r .pairs) (now (rows .entry)) (now (rows .exit)) ⌝ }
+    requires { ⌜ EntriesFit (keyed «first_keys» «first_items» «first_entries») × («first_at» < «first_entries») ⌝ }
+    requires { ⌜ EntriesFit (keyed «second_keys» «second_items» «second_entries») × («second_at» < «second_entries») ⌝ }
+    requires { ⌜ rowsLength ≤ length (now rows) ⌝ }
+    ensures { λ r. ⌜ BlockMarked «tree_end» (lent «first_keys» «first_items» «first_entries») «first_at» (lent «second_keys» «second_items» «second_entries») «second_at» r (now (rows .entry)) (now (rows .exit)) ⌝ }
 {
-    let end = runs::block_end(first_keys, n, a, second_keys, m, b);
-    let s = runs::run_end(first_keys, n, a, end);
-    let t = runs::run_end(second_keys, m, b, end);
-    overlay_marks::mark_parts(first_items, a, s.end, second_items, b, t.end, rows);
+    let end = runs::block_end(
+        first_keys,
+        first_entries,
+        first_at,
+        second_keys,
+        second_entries,
+        second_at,
+        tree_end,
+    );
+    let s = runs::run_end(first_keys, first_entries, first_at, end);
+    let t = runs::run_end(second_keys, second_entries, second_at, end);
+    overlay_marks::mark_parts(
+        first_items,
+        first_at,
+        s.end,
+        second_items,
+        second_at,
+        t.end,
+        rows,
+    );
     Marked {
         first: s.end,
         second: t.end,
@@ -48,39 +62,42 @@ fn mark_block(
     }
 }
 
-// Marks in the rows each pair of items that are listed in overlapping cells, and counts the pairs of cells that overlap.
+// Marks in the rows each pair of items that are listed in overlapping cells, and counts the pairs of cells that overlap, where the keys
+// of the tree end at `tree_end`.
 pub fn mark_pairs(
     first_keys: &[u32],
     first_items: &[u16],
-    n: usize,
+    first_entries: usize,
     second_keys: &[u32],
     second_items: &[u16],
-    m: usize,
+    second_entries: usize,
     rows: &mut [u64],
+    tree_end: u64,
 ) -> usize
-    requires { ⌜ (n ≤ maxEntries) × ((n ≤ length (now «first_keys»)) × (n ≤ length (now «first_items»))) ⌝ }
-    requires { ⌜ (m ≤ maxEntries) × ((m ≤ length (now «second_keys»)) × (m ≤ length (now «second_items»))) ⌝ }
-    requires { ⌜ (rowsLength ≤ length (now rows)) × ((k : ℕ) → k < 64 * rowsLength → hasBit (now rows) k ≡ false) ⌝ }
-    ensures { λ r. ⌜ Merged (now («first_keys» .entry)) (now («first_items» .entry)) n (now («second_keys» .entry)) (now («second_items» .entry)) m (now (rows .exit)) r ⌝ }
+    requires { ⌜ EntriesFit (keyed «first_keys» «first_items» «first_entries») ⌝ }
+    requires { ⌜ EntriesFit (keyed «second_keys» «second_items» «second_entries») ⌝ }
+    requires { ⌜ EmptyRows (now rows) ⌝ }
+    ensures { λ r. ⌜ Merged «tree_end» (lent «first_keys» «first_items» «first_entries») (lent «second_keys» «second_items» «second_entries») (now (rows .exit)) r ⌝ }
 {
     let mut meetings = 0;
-    let mut a = 0;
-    let mut b = 0;
-    while (a < n) & (b < m) {
+    let mut first_at = 0;
+    let mut second_at = 0;
+    while (first_at < first_entries) & (second_at < second_entries) {
         let next = mark_block(
             first_keys,
             first_items,
-            n,
-            a,
+            first_entries,
+            first_at,
             second_keys,
             second_items,
-            m,
-            b,
+            second_entries,
+            second_at,
             rows,
+            tree_end,
         );
         meetings += next.pairs;
-        a = next.first;
-        b = next.second;
+        first_at = next.first;
+        second_at = next.second;
     }
     meetings
 }

@@ -1,24 +1,22 @@
-// Runs of entries by their keys: a cell is a block of equal keys, and ends where the next key begins. Where a cell of one list starts
-// with a cell of another, the larger of the two ends the block.
+// Runs of entries by their keys: a cell is equal keys beside each other, and ends where the next key begins. Where a cell of one list
+// starts with a cell of another, the larger of the two ends the block.
 
 ghost use mathlib.Core.Path.{_≡_};
 ghost use mathlib.Core.Bool.{cond};
-ghost use Prim.Native.Nat.{_+_, _≤_, _<_, max};
+ghost use Prim.Native.Nat.{_≤_, max};
 ghost use lib.Dec.{eqb};
 ghost use lib.ListN.{length};
-ghost use Rattle.theory_orthtree.specs.Entries.{span};
-ghost use Rattle.spec_squares.specs.Square.{arity, depth};
-ghost use Rattle.theory_orthtree.specs.KeyBlocks.{CellEnd, keyFrom};
-ghost use Rattle.overlay_merge.specs.Runs.{BlockEnd, RunOf};
+ghost use Rattle.theory_orthtree.specs.KeyCells.{CellEnd, keyFrom};
+ghost use Rattle.overlay_merge.specs.Runs.{KeyAt, BlockEnd, RunOf};
 
-// Where the entries end that have the key of place a.
-fn cell_end(keys: &[u32], n: usize, a: usize) -> usize
-    requires { ⌜ (a < n) × (n ≤ length (now keys)) ⌝ }
-    ensures { λ r. ⌜ CellEnd (now (keys .entry)) n a r ⌝ }
+// Where the entries end that have the key of place `at`.
+fn cell_end(keys: &[u32], entries: usize, at: usize) -> usize
+    requires { ⌜ KeyAt (now keys) entries at ⌝ }
+    ensures { λ r. ⌜ CellEnd (now (keys .entry)) entries at r ⌝ }
 {
-    let key = keys[a];
-    let mut r = a + 1;
-    while r < n {
+    let key = keys[at];
+    let mut r = at + 1;
+    while r < entries {
         if keys[r] != key {
             return r;
         }
@@ -27,41 +25,49 @@ fn cell_end(keys: &[u32], n: usize, a: usize) -> usize
     r
 }
 
-// The key at place i of the first n, or the end of all keys.
-fn key_from(keys: &[u32], n: usize, i: usize) -> u64
-    requires { ⌜ n ≤ length (now keys) ⌝ }
-    ensures { λ r. ⌜ r ≡ keyFrom (now (keys .entry)) n (span arity depth 0) i ⌝ }
+// The key at place i of so many entries, or the end of the tree's keys.
+fn key_from(keys: &[u32], entries: usize, i: usize, tree_end: u64) -> u64
+    requires { ⌜ entries ≤ length (now keys) ⌝ }
+    ensures { λ r. ⌜ r ≡ keyFrom (now (keys .entry)) entries «tree_end» i ⌝ }
 {
-    if i < n { keys[i] as u64 } else { 4294967296 }
+    if i < entries {
+        keys[i] as u64
+    } else {
+        tree_end
+    }
 }
 
-// The larger of two keys.
-fn later(a: u64, b: u64) -> u64
+// The larger of two ends.
+fn larger_end(a: u64, b: u64) -> u64
     ensures { λ r. ⌜ r ≡ max a b ⌝ }
 {
     if a < b { b } else { a }
 }
 
-// Where the larger of the cells at places a and b ends.
+// Where the larger of the cells at two places ends.
 pub fn block_end(
     first_keys: &[u32],
-    n: usize,
-    a: usize,
+    first_entries: usize,
+    first_at: usize,
     second_keys: &[u32],
-    m: usize,
-    b: usize,
+    second_entries: usize,
+    second_at: usize,
+    tree_end: u64,
 ) -> u64
-    requires { ⌜ (a < n) × (n ≤ length (now «first_keys»)) ⌝ }
-    requires { ⌜ (b < m) × (m ≤ length (now «second_keys»)) ⌝ }
-    ensures { λ r. ⌜ BlockEnd (now («first_keys» .entry)) n a (now («second_keys» .entry)) m b r ⌝ }
+    requires { ⌜ KeyAt (now «first_keys») «first_entries» «first_at» ⌝ }
+    requires { ⌜ KeyAt (now «second_keys») «second_entries» «second_at» ⌝ }
+    ensures { λ r. ⌜ BlockEnd «tree_end» (now («first_keys» .entry)) «first_entries» «first_at» (now («second_keys» .entry)) «second_entries» «second_at» r ⌝ }
 {
-    let p = cell_end(first_keys, n, a);
-    let q = cell_end(second_keys, m, b);
-    later(key_from(first_keys, n, p), key_from(second_keys, m, q))
+    let p = cell_end(first_keys, first_entries, first_at);
+    let q = cell_end(second_keys, second_entries, second_at);
+    larger_end(
+        key_from(first_keys, first_entries, p, tree_end),
+        key_from(second_keys, second_entries, q, tree_end),
+    )
 }
 
 // 1 where a new cell starts.
-fn change(before: u32, key: u32) -> usize
+fn cell_step(before: u32, key: u32) -> usize
     ensures { λ r. ⌜ r ≡ cond (eqb before key) 0 1 ⌝ }
 {
     if before == key { 0 } else { 1 }
@@ -73,18 +79,18 @@ pub struct Run {
     pub cells: usize,
 }
 
-// The run from place a on up to the key `end`.
-pub fn run_end(keys: &[u32], n: usize, a: usize, end: u64) -> Run
-    requires { ⌜ (a < n) × (n ≤ length (now keys)) ⌝ }
-    ensures { λ r. ⌜ RunOf (now (keys .entry)) n a end (r .end) (r .cells) ⌝ }
+// The run from place `at` on up to the key `end`.
+pub fn run_end(keys: &[u32], entries: usize, at: usize, end: u64) -> Run
+    requires { ⌜ KeyAt (now keys) entries at ⌝ }
+    ensures { λ r. ⌜ RunOf (now (keys .entry)) entries at end (r .end) (r .cells) ⌝ }
 {
     let mut cells = 1;
-    let mut r = a + 1;
-    while r < n {
+    let mut r = at + 1;
+    while r < entries {
         if end <= keys[r] as u64 {
             return Run { end: r, cells };
         }
-        cells += change(keys[r - 1], keys[r]);
+        cells += cell_step(keys[r - 1], keys[r]);
         r += 1;
     }
     Run { end: r, cells }

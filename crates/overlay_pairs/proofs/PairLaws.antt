@@ -19,13 +19,14 @@ use Rattle.theory_lists.proofs.FlatMapLaws.{flatMap-append}
 use Rattle.theory_lists.proofs.MemberLaws.{filter-to}
 use Rattle.theory_lists.proofs.IndexLaws.{upTo-suc}
 use Rattle.theory_lists.proofs.CompactLaws.{filter-skip}
-use Rattle.spec_plane.specs.Triangle.{proper}
+use Rattle.spec_plane.specs.declared.Point.{Point}
+use Rattle.spec_plane.specs.Triangle.{proper, corners}
 use Rattle.spec_plane.specs.Box.{Box, triangleBox}
 use Rattle.spec_charts.specs.Table.{maxTriangles, triangleAt}
 use Rattle.spec_charts.specs.Overlay.{maxPairs}
 use Rattle.base_boxes.specs.Boxes.{separate, boxAt, boxesOverlap, BoxedTable}
 use Rattle.base_boxes.proofs.BoxesLaws.{boxes-disjoint}
-use Rattle.overlay_pairs.specs.Pairs.{meetsAt, pairIf, nearPairs, rowPairs, markedPairs, Wrote, EachTriangle}
+use Rattle.overlay_pairs.specs.Pairs.{meetsAt, pairIf, nearPairs, rowPairs, markedPairs, Wrote, TriangleIn, NearTriangles}
 use Rattle.overlay_candidates.specs.RowCandidates.{markedAt, isNear, NearInRow}
 use Rattle.overlay_pairs.proofs.WroteLaws.{wrote-none, wrote-join}
 
@@ -79,7 +80,7 @@ last-fails false b = refl
 module _ (first rows : List ℕ) (i : ℕ) {second ls ts rs bs near : List ℕ} {m d : ℕ} {b : Box} (o : proper (triangleAt first i) ≡ true) (e : b ≡ triangleBox (triangleAt first i))
     (q : BoxedTable second ls ts rs bs m) (few : m ≤ maxTriangles) (n : NearInRow b (boxAt ls ts rs bs) rows m i near maxTriangles d) (room : d ≤ length near) where
   -- each candidate is a triangle of the second table
-  pub near-each : EachTriangle second near d
+  near-each : (k : ℕ) → k < d → TriangleIn second (getD near k 0)
   near-each k h =
       let x = getD near k 0 in
       let box = boxAt ls ts rs bs in
@@ -87,7 +88,10 @@ module _ (first rows : List ℕ) (i : ℕ) {second ls ts rs bs near : List ℕ} 
       let member = rw (getD-take d near k 0 h) at (getD-member (take d near) k 0 (rw (length-take-le d near room) h)) in
       let passes = filter-to f (upTo maxTriangles) (subst (λ l. List·Memᴰ x l) (n .listed) member) .1 in
       let below : x < m = reflects-and (reflects-test (markedAt rows i x && boxesOverlap b box x)) (reflects-ltb x m) .to passes .1 in
-      (omega arith, omega (arith, q .rows))
+      record { few = omega arith; room = omega (arith, q .rows) }
+
+  pub near-triangles : NearTriangles second near d
+  near-triangles = record { room = room; each = near-each }
 
   -- among triangles that have a common interior point with it, the candidates are the marked ones
   same-test : (j : ℕ) → j < m → meetsAt first second i j && isNear b (boxAt ls ts rs bs) rows m i j ≡ meetsAt first second i j && markedAt rows i j
@@ -137,3 +141,17 @@ one-row first second m rows i =
 pub rows-more : (first second : List ℕ) (m : ℕ) (rows : List ℕ) (i : ℕ) {c r : ℕ} {l l′ l″ : List ℕ} → Wrote (markedPairs first i second m rows) 0 c l l′
     → Wrote (rowPairs first second m rows i) c r l′ l″ → Wrote (markedPairs first (i + 1) second m rows) 0 r l l″
 rows-more first second m rows i {r = r} {l = l} {l″ = l″} u v = subst (λ ps. Wrote ps 0 r l l″) (sym (one-row first second m rows i)) (wrote-join u v)
+
+-- ---- what the loops have done
+
+-- the pairs of triangle i, whose corners are s, with the first k of d candidates are written
+pub record NearDone (first second : List ℕ) (i : ℕ) (near : List ℕ) (d : ℕ) (s : List Point) (found k c : ℕ) (before after : List ℕ) : Type 0 where
+  pub within : k ≤ d
+  pub corners : s ≡ corners (triangleAt first i)
+  pub wrote : Wrote (nearPairs first second i (take k near)) found c before after
+
+-- the pairs of the first i of n triangles are written
+pub record RowsDone (first : List ℕ) (n : ℕ) (second : List ℕ) (m : ℕ) (rows : List ℕ) (i c : ℕ) (start near before after : List ℕ) : Type 0 where
+  pub within : i ≤ n
+  pub kept : length near ≡ length start
+  pub wrote : Wrote (markedPairs first i second m rows) 0 c before after

@@ -11,7 +11,9 @@ use Rattle.spec_plane.specs.Interior.{interiorsMeet}
 use Rattle.spec_charts.specs.Table.{maxTriangles, numbersPerTriangle, triangleAt}
 use Rattle.spec_charts.specs.Overlay.{Pair, pairNumbers, maxPairs}
 use Rattle.spec_calls.specs.Buffers.{pairsLength}
-use Rattle.overlay_candidates.specs.RowCandidates.{markedAt}
+use Rattle.spec_calls.specs.Lent.{Lent}
+use Rattle.base_boxes.specs.Boxes.{BoxedTable}
+use Rattle.overlay_candidates.specs.RowCandidates.{markedAt, RowPlaces}
 
 -- triangle i of the first table has a common interior point with triangle j of the second
 abbrev pub meetsAt : List ℕ → List ℕ → ℕ → ℕ → Bool
@@ -42,6 +44,28 @@ pub record Wrote (ps : List Pair) (at next : ℕ) (before after : List ℕ) : Ty
   pub beyond : drop pairsLength after ≡ drop pairsLength before
   pub kept : length after ≡ length before
 
+-- triangle i is one of a table's: its number may be, and its corners are there
+pub record TriangleIn (table : List ℕ) (i : ℕ) : Type 0 where
+  pub few : i < maxTriangles
+  pub room : numbersPerTriangle * (i + 1) ≤ length table
+
 -- the first d numbers of a list are those of triangles of a table
-abbrev pub EachTriangle : List ℕ → List ℕ → ℕ → Type 0
-EachTriangle table near d = (k : ℕ) → k < d → (getD near k 0 < maxTriangles) × (numbersPerTriangle * (getD near k 0 + 1) ≤ length table)
+pub record NearTriangles (table near : List ℕ) (d : ℕ) : Type 0 where
+  pub room : d ≤ length near
+  pub each : (k : ℕ) → k < d → TriangleIn table (getD near k 0)
+
+-- a list has room for all pairs, and those found so far are at most one more than may be
+pub record PairsRoom (found : ℕ) (pairs : List ℕ) : Type 0 where
+  pub few : found ≤ maxPairs + 1
+  pub room : pairsLength ≤ length pairs
+
+-- the first m triangles of the second table with their boxes, and where candidates are found and listed
+pub record SecondTable (second lefts tops rights bottoms rows near : List ℕ) (m : ℕ) : Type 0 where
+  pub few : m ≤ maxTriangles
+  pub boxed : BoxedTable second lefts tops rights bottoms m
+  pub places : RowPlaces lefts tops rights bottoms rows near
+
+-- the marked pairs of triangle i are written, and the list of candidates is as long as it was
+pub record RowWrote (first second : List ℕ) (m : ℕ) (rows : List ℕ) (i found next : ℕ) (near pairs : Lent) : Type 0 where
+  pub wrote : Wrote (rowPairs first second m rows i) found next (pairs .entry .now) (pairs .exit .now)
+  pub kept : length (near .exit .now) ≡ length (near .entry .now)

@@ -1,4 +1,4 @@
--- Examples of Place.antt: the places of a cell's entries, and a part that lies at its own place.
+-- Examples of Place.antt: the places of a cell's entries, a part that lies at its own place, and the items of a cell by its places.
 -- Assumes nothing.
 use mathlib.Core.Path.{_≡_, refl}
 use mathlib.Core.List.{List, [], _∷_, map}
@@ -9,7 +9,7 @@ use Rattle.theory_lists.specs.Lists.{placesFrom, countFrom}
 use Rattle.theory_orthtree.specs.Morton.{lowestBits, mortonKey}
 use Rattle.theory_orthtree.specs.Entries.{Entry, emptyMark, isMark, span, rangeEnd, covers}
 use Rattle.spec_squares.specs.Square.{zOrder}
-use Rattle.read_cells.specs.Place.{listedPlaces, OwnPart}
+use Rattle.read_cells.specs.Place.{listedPlaces, OwnPart, cellItems, cellPlaces}
 
 abbrev e : ℕ → ℕ → Entry
 e k i = record { key = k; level = 1; item = i }
@@ -27,4 +27,13 @@ places-example = refl
 own-part-example : (n : GName)
     → OwnPart (record { ptr = (1, 100); name = n; now = 5 ∷ 6 ∷ 7 ∷ 8 ∷ [] }) (record { ptr = (1, 104); name = n; now = 7 ∷ 8 ∷ [] }) (2 ∷ 3 ∷ [])
 unfolding countFrom
-own-part-example n = record { from = 2; block = refl; byte = refl; within = omega arith; numbers = refl }
+own-part-example n = record { from = 2; memory = refl; byte = refl; within = omega arith; numbers = refl }
+
+-- the items at places 1 and 2 of four, and none where the first of them is the mark
+items-example : cellItems (5 ∷ 6 ∷ 7 ∷ 8 ∷ []) 1 3 ∷ cellItems (5 ∷ 65535 ∷ 8 ∷ []) 1 2 ∷ [] ≡ (6 ∷ 7 ∷ []) ∷ [] ∷ []
+unfolding cellItems emptyMark
+items-example = refl
+
+cell-places-example : cellPlaces (5 ∷ 6 ∷ 7 ∷ 8 ∷ []) 1 3 ∷ cellPlaces (5 ∷ 65535 ∷ 8 ∷ []) 1 2 ∷ [] ≡ (1 ∷ 2 ∷ []) ∷ [] ∷ []
+unfolding cellPlaces emptyMark countFrom
+cell-places-example = refl

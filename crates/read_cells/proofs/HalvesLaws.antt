@@ -6,7 +6,7 @@ use Prim.Native.Nat.{ℕ, _+_, _≤_, _<_}
 use native.Mathlib.Decide.{decLe}
 use native.Mathlib.Omega.{arith}
 use lib.ListN.{getD}
-use Rattle.read_cells.specs.Passes.{Rises, Passes}
+use Rattle.read_cells.specs.Keys.{Rises, Passes}
 
 -- the place from which on the first n keys are not below b lies from low to high
 pub record Bracket (keys : List ℕ) (n b low high : ℕ) : Type 0 where

@@ -1,7 +1,7 @@
 pub mod Cases
 pub mod SpreadLaws
 pub mod HalvesLaws
-pub mod BlockLaws
+pub mod CellLaws
 pub mod ListingLaws
 pub mod PointLaws
 pub mod PlaceLaws

@@ -14,11 +14,11 @@ use Rattle.read_cells.specs.Place.{OwnPart}
 pub own-part : {list part : RefT (List ℕ)} {places : List ℕ} (f t : ℕ) → f ≤ t → t ≤ length (list .now)
     → part .ptr .0 ≡ list .ptr .0 → part .ptr .1 ≡ f * 2 + list .ptr .1 → part .now ≡ take (t - f) (drop f (list .now))
     → places ≡ countFrom f (t - f) → OwnPart list part places
-own-part {list} {part} f t h w block byte same places =
+own-part {list} {part} f t h w memory byte same places =
     let count : length (part .now) ≡ t - f = ap length same ∙ part-length f t (list .now) w in
     record {
       from = f;
-      block = block;
+      memory = memory;
       byte = omega arith;
       within = omega arith;
       numbers = places ∙ ap (λ n. countFrom f n) (sym count);

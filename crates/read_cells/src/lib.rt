@@ -1,33 +1,24 @@
-// The items of the cell whose key range has a point's key, in lists that satisfy the chain rule: a block of equal keys.
+// The items of the cell over a point, by keys alone: the last cell at or below the point's key.
 
 mod morton;
 mod search;
 
+use base_entries::MARK;
 use spec_plane::Point;
-ghost use mathlib.Core.Path.{_≡_};
-ghost use mathlib.Core.Bool.{true};
-ghost use mathlib.Core.List.{List};
-ghost use Prim.Native.Nat.{ℕ, _≤_, _<_};
-ghost use lib.ListN.{length, getD, take};
-ghost use Rattle.theory_orthtree.specs.Entries.{chain};
-ghost use Rattle.spec_squares.specs.Square.{arity, depth};
-ghost use Rattle.spec_charts.specs.Reading.{listing as Reading·listing};
-ghost use Rattle.spec_calls.specs.Buffers.{zipEntries};
-ghost use Rattle.read_cells.specs.Passes.{Rises};
-ghost use Rattle.read_cells.specs.Place.{listedPlaces, OwnPart};
+ghost use Rattle.spec_squares.specs.Square.{zOrder};
+ghost use Rattle.read_cells.specs.Keys.{Listable};
+ghost use Rattle.read_cells.specs.Place.{CellListed};
 
-// The items of the cell whose key range has Z(p), as a part of the caller's own list; an empty part for the mark. The levels, with
-// which keys and items are a chain, are not needed: a cell ends where the next key begins.
-pub fn listing<'a, 'b>(keys: &'b [u32], items: &'a [u16], n: usize, p: Point) -> &'a [u16]
-    requires { ⌜ (n ≤ length (now keys)) × (n ≤ length (now items)) ⌝ }
-    requires { ⌜ (0 < n) × ((getD (now keys) 0 0 ≡ 0) × Rises (now keys) n) ⌝ }
-    ensures { λ r. ⌜ ((count : ℕ) (levels : List ℕ) → n ≤ length levels → chain arity depth count (take n (zipEntries (now (keys .entry)) levels (now (items .entry)))) ≡ true → now r ≡ Reading·listing (take n (zipEntries (now (keys .entry)) levels (now (items .entry)))) p) ⌝ }
-    ensures { λ r. ⌜ ((count : ℕ) (levels : List ℕ) → n ≤ length levels → chain arity depth count (take n (zipEntries (now (keys .entry)) levels (now (items .entry)))) ≡ true → OwnPart (items .entry) r (listedPlaces (take n (zipEntries (now (keys .entry)) levels (now (items .entry)))) p)) ⌝ }
+// The items of the last cell at or below Z(p), as a part of the caller's own list; an empty part for the mark. Levels are not needed, as a
+// cell ends where the next key begins: in a chain it is the cell whose key range has Z(p).
+pub fn listing<'a, 'b>(keys: &'b [u32], items: &'a [u16], entries: usize, p: Point) -> &'a [u16]
+    requires { ⌜ Listable (now keys) (now items) entries ⌝ }
+    ensures { λ r. ⌜ CellListed (now (keys .entry)) entries (zOrder p) (items .entry) r ⌝ }
 {
-    let cell = search::last_block(keys, n, morton::z_order(p));
+    let cell = search::last_cell(keys, entries, morton::z_order(p));
     let from = cell.from;
     let to = cell.to;
-    if items[from] == 65535 {
+    if items[from] == MARK {
         return &items[0..0];
     }
     &items[from..to]

@@ -1,12 +1,12 @@
-// Search by halves in keys that never fall, such as those of a chain of cells, where a cell is a block of equal keys.
+// Search by halves in keys that never fall, such as those of a chain of cells, where a cell is equal keys beside each other.
 
 ghost use Prim.Native.Nat.{_≤_, _<_};
-ghost use lib.ListN.{length, getD};
-ghost use Rattle.read_cells.specs.Passes.{Rises, Passes, LastBlock};
+ghost use lib.ListN.{getD};
+ghost use Rattle.read_cells.specs.Keys.{Searchable, Passes, LastCell};
 
 // How many of the first n keys are below the bound b.
 fn below(keys: &[u32], n: usize, b: u64) -> usize
-    requires { ⌜ (n ≤ length (now keys)) × Rises (now keys) n ⌝ }
+    requires { ⌜ Searchable (now keys) n ⌝ }
     ensures { λ r. ⌜ Passes (now (keys .entry)) n b r ⌝ }
 {
     let mut low = 0;
@@ -22,19 +22,19 @@ fn below(keys: &[u32], n: usize, b: u64) -> usize
     low
 }
 
-// The places of a block of equal keys: from the first up to the second.
-pub struct Block {
+// The places of a cell's entries: from the first up to the second.
+pub struct Cell {
     pub from: usize,
     pub to: usize,
 }
 
-// The last block of equal keys at or below k, of the first n keys.
-pub fn last_block(keys: &[u32], n: usize, k: u32) -> Block
-    requires { ⌜ (n ≤ length (now keys)) × Rises (now keys) n ⌝ }
+// The last cell at or below the key k, of the first n keys.
+pub fn last_cell(keys: &[u32], n: usize, k: u32) -> Cell
+    requires { ⌜ Searchable (now keys) n ⌝ }
     requires { ⌜ (0 < n) × (getD (now keys) 0 0 ≤ k) ⌝ }
-    ensures { λ r. ⌜ LastBlock (now (keys .entry)) n k (r .from) (r .to) ⌝ }
+    ensures { λ r. ⌜ LastCell (now (keys .entry)) n k (r .from) (r .to) ⌝ }
 {
     let to = below(keys, n, k as u64 + 1);
     let from = below(keys, n, keys[to - 1] as u64);
-    Block { from, to }
+    Cell { from, to }
 }

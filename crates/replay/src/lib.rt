@@ -3,8 +3,8 @@
 use base_answers::Overlaid;
 use replay_lists::Counts;
 ghost use mathlib.Core.Path.{_≡_};
-ghost use Rattle.spec_calls.specs.Buffers.{chartOf};
-ghost use Rattle.base_answers.specs.Outcomes.{overlaidOf};
+ghost use Rattle.spec_calls.specs.Lent.{given, leftChart};
+ghost use Rattle.base_answers.specs.Outcomes.{leftPairs};
 ghost use Rattle.replay.specs.Replay.{Replayed};
 
 // The counts of both charts, and the overlay's answer.
@@ -31,21 +31,37 @@ pub fn replay(
     keys0: &mut [u32],
     levels0: &mut [u8],
     items0: &mut [u16],
-    n0: usize,
-    m0: usize,
+    triangles0: usize,
+    entries0: usize,
     calls1: &[u16],
     table1: &mut [u16],
     keys1: &mut [u32],
     levels1: &mut [u8],
     items1: &mut [u16],
-    n1: usize,
-    m1: usize,
+    triangles1: usize,
+    entries1: usize,
     pairs: &mut [u16],
 ) -> ReplayAnswer
-    ensures { λ r. ⌜ Replayed (chartOf (now (table0 .entry)) (now (keys0 .entry)) (now (levels0 .entry)) (now (items0 .entry)) n0 m0) (chartOf (now (table1 .entry)) (now (keys1 .entry)) (now (levels1 .entry)) (now (items1 .entry)) n1 m1) (now (pairs .entry)) (now (calls0 .entry)) (now (calls1 .entry)) (chartOf (now (table0 .exit)) (now (keys0 .exit)) (now (levels0 .exit)) (now (items0 .exit)) (r .first .triangles) (r .first .entries)) (chartOf (now (table1 .exit)) (now (keys1 .exit)) (now (levels1 .exit)) (now (items1 .exit)) (r .second .triangles) (r .second .entries)) (overlaidOf (r .overlaid) (now (pairs .exit))) ⌝ }
+    ensures { λ r. ⌜ Replayed (given table0 keys0 levels0 items0 triangles0 entries0) (given table1 keys1 levels1 items1 triangles1 entries1) (now (pairs .entry)) (now (calls0 .entry)) (now (calls1 .entry)) (leftChart table0 keys0 levels0 items0 (r .first .triangles) (r .first .entries)) (leftChart table1 keys1 levels1 items1 (r .second .triangles) (r .second .entries)) (leftPairs pairs (r .overlaid)) ⌝ }
 {
-    let first = replay_lists::run_history(calls0, table0, keys0, levels0, items0, n0, m0);
-    let second = replay_lists::run_history(calls1, table1, keys1, levels1, items1, n1, m1);
+    let first = replay_lists::run_history(
+        calls0,
+        table0,
+        keys0,
+        levels0,
+        items0,
+        triangles0,
+        entries0,
+    );
+    let second = replay_lists::run_history(
+        calls1,
+        table1,
+        keys1,
+        levels1,
+        items1,
+        triangles1,
+        entries1,
+    );
     let overlaid = call_overlay::overlay(
         table0,
         keys0,

@@ -4,10 +4,9 @@ use base_answers::Changed;
 use base_geometry::numbers;
 use spec_plane::Point;
 ghost use mathlib.Core.Path.{_≡_};
-ghost use Rattle.spec_calls.specs.Buffers.{chartOf};
-ghost use Rattle.spec_calls.specs.Calls.{Changed as Calls·Changed};
 ghost use Rattle.spec_calls.specs.History.{eventCall};
-ghost use Rattle.base_answers.specs.Outcomes.{changedOf};
+ghost use Rattle.spec_calls.specs.Lent.{given};
+ghost use Rattle.base_answers.specs.Outcomes.{left};
 ghost use Rattle.replay_calls.specs.Encoding.{IsCall, callEvent};
 
 // Makes a call on a chart. The numbers are those of one whole call.
@@ -21,11 +20,11 @@ pub fn run_call(
     entries: usize,
 ) -> Changed
     requires { ⌜ IsCall (now call) ⌝ }
-    ensures { λ r. ⌜ _≡_ {A = Calls·Changed} (changedOf r (now (table .exit)) (now (keys .exit)) (now (levels .exit)) (now (items .exit))) (eventCall (callEvent (now (call .entry))) (chartOf (now (table .entry)) (now (keys .entry)) (now (levels .entry)) (now (items .entry)) triangles entries)) ⌝ }
+    ensures { λ r. ⌜ left table keys levels items r ≡ eventCall (callEvent (now (call .entry))) (given table keys levels items triangles entries) ⌝ }
 {
     if call[0] == replay_calls::LOAD {
-        let given = &call[2..call.len()];
-        return call_load::load(given, table, keys, levels, items, triangles, entries);
+        let words = &call[2..call.len()];
+        return call_load::load(words, table, keys, levels, items, triangles, entries);
     }
     if call[0] == replay_calls::SPLIT {
         let t = numbers::index(call[1]);

@@ -5,8 +5,8 @@ mod call_steps;
 ghost use mathlib.Core.Path.{_≡_};
 ghost use mathlib.Core.List.{[], _∷_};
 ghost use Rattle.spec_charts.specs.Edits.{load as Edits·load};
-ghost use Rattle.spec_calls.specs.Buffers.{Chart, chartOf};
 ghost use Rattle.spec_calls.specs.History.{chartAfter};
+ghost use Rattle.spec_calls.specs.Lent.{given, leftChart};
 ghost use Rattle.replay_calls.specs.Encoding.{decode};
 
 // The counts of a chart.
@@ -25,7 +25,7 @@ fn run_calls(
     triangles: usize,
     entries: usize,
 ) -> Counts
-    ensures { λ r. ⌜ _≡_ {A = Chart} (chartOf (now (table .exit)) (now (keys .exit)) (now (levels .exit)) (now (items .exit)) (r .triangles) (r .entries)) (chartAfter (decode (now (calls .entry))) (chartOf (now (table .entry)) (now (keys .entry)) (now (levels .entry)) (now (items .entry)) triangles entries)) ⌝ }
+    ensures { λ r. ⌜ leftChart table keys levels items (r .triangles) (r .entries) ≡ chartAfter (decode (now (calls .entry))) (given table keys levels items triangles entries) ⌝ }
 {
     let mut n = triangles;
     let mut m = entries;
@@ -55,7 +55,7 @@ pub fn run_history(
     triangles: usize,
     entries: usize,
 ) -> Counts
-    ensures { λ r. ⌜ _≡_ {A = Chart} (chartOf (now (table .exit)) (now (keys .exit)) (now (levels .exit)) (now (items .exit)) (r .triangles) (r .entries)) (chartAfter (Edits·load [] ∷ decode (now (calls .entry))) (chartOf (now (table .entry)) (now (keys .entry)) (now (levels .entry)) (now (items .entry)) triangles entries)) ⌝ }
+    ensures { λ r. ⌜ leftChart table keys levels items (r .triangles) (r .entries) ≡ chartAfter (Edits·load [] ∷ decode (now (calls .entry))) (given table keys levels items triangles entries) ⌝ }
 {
     let none = &calls[0..0];
     let begun = call_load::load(none, table, keys, levels, items, triangles, entries);

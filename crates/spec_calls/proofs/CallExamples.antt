@@ -9,7 +9,8 @@ use Prim.Native.Nat.{ℕ}
 use lib.ListN.{take, replicate}
 use Rattle.spec_plane.specs.declared.Point.{Point}
 use Rattle.spec_plane.specs.Triangle.{Triangle}
-use Rattle.spec_charts.specs.Table.{Table}
+use Rattle.spec_charts.specs.Table.{Table, tableLength}
+use Rattle.spec_charts.specs.Cells.{maxEntries}
 use Rattle.spec_charts.specs.declared.Refusal.the-variants.{ShortBuffer, BrokenChain, StaleEntries, TooManyPairs}
 use Rattle.spec_charts.specs.Refusals.{rowOf, refused, done}
 use Rattle.spec_charts.specs.Edits.{Event, load, split, takeOut, flip, eventOn}
@@ -26,7 +27,7 @@ use Rattle.spec_calls.proofs.Evaluate.{evaluate}
 -- these lists and zeros, in buffers that are longer than asked
 abbrev filled : List ℕ → List ℕ → List ℕ → List ℕ → ℕ → ℕ → Chart
 filled t ks ls is n e =
-    chartOf (t ++ replicate 3072 0) (ks ++ replicate 16384 0) (ls ++ replicate 16384 0) (is ++ replicate 16384 0) n e
+    chartOf (t ++ replicate tableLength 0) (ks ++ replicate maxEntries 0) (ls ++ replicate maxEntries 0) (is ++ replicate maxEntries 0) n e
 
 abbrev U : Triangle
 U = tri (at 0 0) (at 65535 0) (at 0 65535)

@@ -17,11 +17,11 @@ const LONGEST: usize = 4096;
 
 fn print_answer(r: ReplayAnswer) {
     let overlaid = r.overlaid;
-    let overlay = overlaid.overlay;
+    let verdict = overlaid.verdict;
     let first = r.first;
     let second = r.second;
     test_prints::say(b"replay");
-    test_prints::print(base_answers::overlay_number(overlay) as u64);
+    test_prints::print(base_answers::verdict_number(verdict) as u64);
     test_prints::print(overlaid.pairs as u64);
     test_prints::print(overlaid.meetings as u64);
     test_prints::print(first.triangles as u64);

@@ -79,10 +79,10 @@ pub fn lent_levels(list: &[u8], chart: usize, n: usize) -> &[u8] {
 // The asked lengths, and no triangle and no entry.
 pub fn asked() -> Lent {
     Lent {
-        table: 3072,
-        keys: 16384,
-        levels: 16384,
-        items: 16384,
+        table: base_tables::TABLE_NUMBERS,
+        keys: base_tables::MOST_ENTRIES,
+        levels: base_tables::MOST_ENTRIES,
+        items: base_tables::MOST_ENTRIES,
         triangles: 0,
         entries: 0,
     }

@@ -34,10 +34,10 @@ fn print_name(what: u8) {
 }
 
 pub fn print_changed(what: u8, r: Changed) {
-    let change = r.change;
+    let verdict = r.verdict;
     print_name(what);
-    print(base_answers::change_number(change) as u64);
-    print(base_answers::change_value(change) as u64);
+    print(base_answers::verdict_number(verdict) as u64);
+    print(base_answers::verdict_value(verdict) as u64);
     print(r.triangles as u64);
     print(r.entries as u64);
 }
@@ -65,9 +65,9 @@ pub fn print_area(r: Area) {
 }
 
 pub fn print_overlaid(r: Overlaid) {
-    let overlay = r.overlay;
+    let verdict = r.verdict;
     say(b"overlay");
-    print(base_answers::overlay_number(overlay) as u64);
+    print(base_answers::verdict_number(verdict) as u64);
     print(r.pairs as u64);
     print(r.meetings as u64);
 }

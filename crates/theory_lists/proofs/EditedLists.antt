@@ -3,13 +3,14 @@
 -- Assumes nothing.
 use mathlib.Core.Path.{_≡_, refl, sym, _∙_, ap, subst}
 use mathlib.Core.Bool.{Bool, true, false}
-use mathlib.Core.List.{List, [], _∷_, _++_, flatMap, cons≢nil, List·Memᴰ, List·Memᴰ·head, List·Memᴰ·tail, Memᴰ·append-left, Memᴰ·append-right}
+use mathlib.Core.List.{List, [], _∷_, flatMap, cons≢nil, List·Memᴰ, List·Memᴰ·head, List·Memᴰ·tail, Memᴰ·append-left, Memᴰ·append-right}
 use mathlib.Core.Option.{Option, none, some}
 use Prim.Native.Nat.{ℕ, zero, suc, _+_, _<_}
 use native.Mathlib.Nat.{add-zero, zero-add, add-suc, suc-add}
 use native.Mathlib.Omega.{arith}
 use lib.Dec.{T}
-use lib.ListN.{length, getD, set}
+use lib.ListN.{length, getD, set, length-set}
+use lib.Seq.{getD-set-other}
 use Rattle.theory_lists.specs.Lists.{first, placesFrom, without, sumOf}
 use Rattle.theory_lists.proofs.ListsLaws.{Every, every-cons, every-uncons}
 use Rattle.theory_lists.proofs.EveryLaws.{every-nil}
@@ -18,12 +19,6 @@ module _ {A : Type 0} where
   -- ---- sums
 
   module _ (f : A → ℕ) where
-    -- the sum over two lists joined
-    pub sumOf-append : (s t : List A) → sumOf f (s ++ t) ≡ sumOf f s + sumOf f t
-    unfolding sumOf
-    sumOf-append [] t = omega arith
-    sumOf-append (x ∷ s) t = omega (arith, sumOf-append s t)
-
     -- the sum after an element is replaced
     pub sumOf-set : (l : List A) (i : ℕ) (a d : A) → i < length l → sumOf f (set l i a) + f (getD l i d) ≡ sumOf f l + f a
     unfolding sumOf
@@ -37,6 +32,13 @@ module _ {A : Type 0} where
     sumOf-without [] i d h = absurd (omega arith)
     sumOf-without (x ∷ l) zero d h = omega arith
     sumOf-without (x ∷ l) (suc i) d h = omega (arith, sumOf-without l i d (omega arith))
+
+    -- the sum after two elements are replaced
+    pub sumOf-two : (l : List A) (i j : ℕ) (a b d : A) → (j ≡ i → ⊥) → i < length l → j < length l
+        → sumOf f (set (set l i a) j b) + (f (getD l i d) + f (getD l j d)) ≡ sumOf f l + (f a + f b)
+    sumOf-two l i j a b d other h g =
+        let n = length-set l i a in
+        omega (arith, sumOf-set l i a d h, sumOf-set (set l i a) j b d (omega arith), ap f (getD-set-other l i j a d other))
 
   -- ---- an element taken out
 
@@ -72,7 +74,50 @@ module _ {A : Type 0} where
     every-without (x ∷ l) zero h = every-uncons h .1
     every-without (x ∷ l) (suc i) h = let g = every-uncons h in every-cons (g .0, every-without l i (g .1))
 
+  -- ---- one of three elements replaced, the two later ones taken out
+
+  module _ (l : List A) (i j k : ℕ) (a : A) (ij : i < j) (jk : j < k) (below : k < length l) where
+    -- two elements fewer
+    pub length-merged : length (without j (without k (set l i a))) + 2 ≡ length l
+    length-merged =
+        let n = length-set l i a in
+        let m = length-without (set l i a) k (omega arith) in
+        omega (arith, length-without (without k (set l i a)) j (omega arith))
+
+    -- each element is one of before, or the new one
+    pub every-merged : {P : A → Type 0} → Every P l → P a → Every P (without j (without k (set l i a)))
+    every-merged h p = every-without (without k (set l i a)) j (every-without (set l i a) k (every-set l i h p))
+
+    -- the sum loses the three, and gains the new one
+    pub sumOf-merged : (f : A → ℕ) (d : A)
+        → sumOf f (without j (without k (set l i a))) + (f (getD l i d) + f (getD l j d) + f (getD l k d)) ≡ sumOf f l + f a
+    sumOf-merged f d =
+        let m = set l i a in
+        let n = length-set l i a in
+        let s = length-without m k (omega arith) in
+        let atK : getD m k d ≡ getD l k d = getD-set-other l i k a d (λ e. absurd (omega arith)) in
+        let atJ : getD (without k m) j d ≡ getD l j d = getD-without m k j d jk ∙ getD-set-other l i j a d (λ e. absurd (omega arith)) in
+        omega (
+          arith,
+          sumOf-set f l i a d (omega arith),
+          sumOf-without f m k d (omega arith),
+          sumOf-without f (without k m) j d (omega arith),
+          ap f atK,
+          ap f atJ,
+        )
+
   -- ---- searches
+
+  module _ (f : A → Bool) (k : ℕ) (x : A) (l : List A) where
+    -- the places that pass a test, where the first element passes it
+    pub placesFrom-pass : f x ≡ true → placesFrom f k (x ∷ l) ≡ k ∷ placesFrom f (suc k) l
+    unfolding placesFrom
+    placesFrom-pass e = rw (placesFrom, e)
+
+    -- and where it does not
+    pub placesFrom-fail : f x ≡ false → placesFrom f k (x ∷ l) ≡ placesFrom f (suc k) l
+    unfolding placesFrom
+    placesFrom-fail e = rw (placesFrom, e)
 
   module _ (f : A → Bool) (d : A) (P : ℕ → Type 0) where
     places-induct : (k : ℕ) (l : List A) → ((i : ℕ) → i < length l → T (f (getD l i d)) → P (k + i)) → Every P (placesFrom f k l)

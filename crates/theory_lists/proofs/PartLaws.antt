@@ -1,7 +1,7 @@
 -- A part of a list, by places: `part f t l` is what stands from place f up to place t.
 -- Assumes nothing.
 use mathlib.Core.Path.{_≡_, refl, sym, _∙_, ap, ap₂}
-use mathlib.Core.Bool.{Bool, true, false}
+use mathlib.Core.Bool.{Bool}
 use mathlib.Core.List.{List, [], _∷_, _++_, map}
 use Prim.Native.Nat.{ℕ, zero, suc, _+_, _-_, _≤_, _<_}
 use native.Mathlib.Nat.{sub-self}
@@ -12,6 +12,7 @@ use Rattle.theory_lists.specs.Lists.{placesFrom, countFrom, part}
 use Rattle.theory_lists.proofs.Reflects.{Reflects, reflects-iff, test-true, test-false}
 use Rattle.theory_lists.proofs.ListsLaws.{Every, every-cons}
 use Rattle.theory_lists.proofs.EveryLaws.{every-nil}
+use Rattle.theory_lists.proofs.EditedLists.{placesFrom-pass, placesFrom-fail}
 
 -- what holds at each place of a list holds of every element
 every-places : {A : Type 0} (P : A → Type 0) (l : List A) (d : A) → ((i : ℕ) → i < length l → P (getD l i d)) → Every P l
@@ -79,29 +80,21 @@ place-next : {b : Bool} (a n c m : ℕ) {i : ℕ} → c ≡ a - 1 → c + m ≡ 
 place-next a n c m e g r = reflects-iff (λ h. (omega arith, omega arith)) (λ h. (omega arith, omega arith)) r
 
 module _ {A : Type 0} (f : A → Bool) (d : A) where
-  places-pass : (k : ℕ) (x : A) (xs : List A) → f x ≡ true → placesFrom f k (x ∷ xs) ≡ k ∷ placesFrom f (suc k) xs
-  unfolding placesFrom
-  places-pass k x xs e = rw (placesFrom, e)
-
-  places-fail : (k : ℕ) (x : A) (xs : List A) → f x ≡ false → placesFrom f k (x ∷ xs) ≡ placesFrom f (suc k) xs
-  unfolding placesFrom
-  places-fail k x xs e = rw (placesFrom, e)
-
   places-induct : (k : ℕ) (l : List A) (a n : ℕ) → a + n ≤ length l
       → ((i : ℕ) → i < length l → Reflects (f (getD l i d)) ((a ≤ i) × (i < a + n))) → placesFrom f k l ≡ countFrom (k + a) n
   unfolding placesFrom countFrom
   places-induct k [] a zero h r = refl
   places-induct k [] a (suc n) h r = absurd (omega arith)
   places-induct k (x ∷ xs) zero zero h r =
-      places-fail k x xs (test-false (λ t. absurd (let g = r 0 (omega arith) .to t in omega arith)))
+      placesFrom-fail f k x xs (test-false (λ t. absurd (let g = r 0 (omega arith) .to t in omega arith)))
       ∙ places-induct (suc k) xs zero zero (omega arith) (λ i l. place-next 0 0 0 0 (omega arith) (omega arith) (r (suc i) (omega arith)))
   places-induct k (x ∷ xs) zero (suc n) h r =
-      places-pass k x xs (test-true (r 0 (omega arith) .from (omega arith, omega arith)))
+      placesFrom-pass f k x xs (test-true (r 0 (omega arith) .from (omega arith, omega arith)))
       ∙ ap₂ (λ j l. j ∷ l) (omega arith) (
       places-induct (suc k) xs zero n (omega arith) (λ i l. place-next 0 (suc n) 0 n (omega arith) (omega arith) (r (suc i) (omega arith)))
       ∙ ap (λ j. countFrom j n) (omega arith))
   places-induct k (x ∷ xs) (suc a) n h r =
-      places-fail k x xs (test-false (λ t. absurd (let g = r 0 (omega arith) .to t in omega arith)))
+      placesFrom-fail f k x xs (test-false (λ t. absurd (let g = r 0 (omega arith) .to t in omega arith)))
       ∙ places-induct (suc k) xs a n (omega arith) (λ i l. place-next (suc a) n a n (omega arith) (omega arith) (r (suc i) (omega arith)))
       ∙ ap (λ j. countFrom j n) (omega arith)
 

@@ -1,20 +1,13 @@
--- Two lists side by side: as long as one another, with a relation between the elements at each place.
+-- Two lists side by side, as long as one another, with a relation between the elements at each place.
 -- Assumes nothing.
-use mathlib.Core.Path.{_≡_, refl, ap, ap₂}
+use mathlib.Core.Path.{_≡_, refl, ap₂}
 use mathlib.Core.List.{List, [], _∷_, map, nil≢cons, cons≢nil, head-eq-of-cons-eq, tail-eq-of-cons-eq}
-use Prim.Native.Nat.{suc}
-use lib.ListN.{length}
 use Rattle.theory_lists.proofs.ListsLaws.{Every, every-uncons}
 
 -- the elements at each place are related
 pub data Pointwise {A B : Type 0} (R : A → B → Type 0) : List A → List B → Type 0 where
   pointwise-none : Pointwise R [] []
   pointwise-more : {a : A} {b : B} {xs : List A} {ys : List B} → R a b → Pointwise R xs ys → Pointwise R (a ∷ xs) (b ∷ ys)
-
--- related lists are as long as one another
-pub pointwise-length : {A B : Type 0} {R : A → B → Type 0} {xs : List A} {ys : List B} → Pointwise R xs ys → length xs ≡ length ys
-pointwise-length pointwise-none = refl
-pointwise-length (pointwise-more r rs) = ap suc (pointwise-length rs)
 
 -- a relation that says that two images are equal says that of the lists of images
 pub pointwise-map : {A B C : Type 0} (f : A → C) (g : B → C) {xs : List A} {ys : List B} → Pointwise (λ a b. f a ≡ g b) xs ys

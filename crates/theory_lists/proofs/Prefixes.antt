@@ -1,6 +1,6 @@
 -- Prefixes of a list: tests that hold up to some place of it and not after it. The elements that pass one such test and not
--- another stand together, as one block.
--- The idea: `prefixLength` counts the elements at the start that pass. Along the list, the block begins where the first test ends
+-- another stand together, as one part of the list.
+-- The idea: `prefixLength` counts the elements at the start that pass. Along the list, that part begins where the first test ends
 -- to hold and goes on as long as the second one holds.
 -- Assumes nothing.
 use mathlib.Core.Path.{_≡_, refl, sym, ap}
@@ -39,16 +39,6 @@ module _ {A : Type 0} (f : A → Bool) where
   prefix-over x [] h e = refl
   prefix-over x (y ∷ ys) h e = prefix-fail y ys (test-false (λ t. rw e at (every-uncons h .0 t)))
 
-  prefix-choice : (b : Bool) {m n : ℕ} → m ≤ n → elim b [ true ↦ suc m | false ↦ 0 ] ≤ suc n
-  prefix-choice true h = omega arith
-  prefix-choice false h = omega arith
-
-  -- no more than there are
-  pub prefix-le : (l : List A) → prefixLength f l ≤ length l
-  unfolding prefixLength
-  prefix-le [] = omega arith
-  prefix-le (x ∷ xs) = prefix-choice (f x) (prefix-le xs)
-
   -- the prefix's length is the one number of elements that all pass, where the next one does not
   pub prefix-unique : (l : List A) (n : ℕ) (d : A) → n ≤ length l → ((i : ℕ) → i < n → f (getD l i d) ≡ true)
       → (n < length l → f (getD l n d) ≡ false) → n ≡ prefixLength f l
@@ -60,30 +50,30 @@ module _ {A : Type 0} (f : A → Bool) where
       (ap suc (prefix-unique xs n d (omega arith) (λ i l. p (suc i) (omega arith)) (λ l. q (omega arith))))
 
 module _ {A : Type 0} (a b c : A → Bool) (sub : (x : A) → T (a x) → T (b x)) (r : (x : A) → Reflects (c x) (T (b x) × (T (a x) → ⊥))) where
-  block-step : (x : A) (xs : List A) → Every (λ y. T (a y) → T (a x)) xs → Every (λ y. T (b y) → T (b x)) xs
+  part-step : (x : A) (xs : List A) → Every (λ y. T (a y) → T (a x)) xs → Every (λ y. T (b y) → T (b x)) xs
       → filter c xs ≡ take (prefixLength b xs - prefixLength a xs) (drop (prefixLength a xs) xs)
       → (p q : Bool) → a x ≡ p → b x ≡ q
       → filter c (x ∷ xs) ≡ take (prefixLength b (x ∷ xs) - prefixLength a (x ∷ xs)) (drop (prefixLength a (x ∷ xs)) (x ∷ xs))
-  block-step x xs ha hb rec true q ea eb =
+  part-step x xs ha hb rec true q ea eb =
       let t : T (a x) = rw ea tt in
       rw (filter-fail c x xs (test-false (λ u. r x .to u .1 t)), prefix-pass a x xs ea, prefix-pass b x xs (test-true (sub x t)), suc-sub-suc) rec
-  block-step x xs ha hb rec false true ea eb =
+  part-step x xs ha hb rec false true ea eb =
       let n : T (c x) = r x .from (rw eb tt, λ t. rw ea at t) in
       rw (filter-pass c x xs (test-true n), prefix-fail a x xs ea, prefix-pass b x xs eb, sub-zero)
       (ap (λ l. x ∷ l) (rw (prefix-over a x xs ha ea, sub-zero) at rec))
-  block-step x xs ha hb rec false false ea eb =
+  part-step x xs ha hb rec false false ea eb =
       rw (filter-fail c x xs (test-false (λ u. rw eb at (r x .to u .0))), prefix-fail a x xs ea, prefix-fail b x xs eb)
       (rw (prefix-over b x xs hb eb, zero-sub) at rec)
 
   -- the elements that pass b and not a, where a and b hold up to some place each and b wherever a does
-  pub filter-block : (l : List A) → Falling a l → Falling b l
+  pub filter-part : (l : List A) → Falling a l → Falling b l
       → filter c l ≡ take (prefixLength b l - prefixLength a l) (drop (prefixLength a l) l)
   unfolding filter prefixLength
-  filter-block [] o s = refl
-  filter-block (x ∷ xs) o s =
+  filter-part [] o s = refl
+  filter-part (x ∷ xs) o s =
       let p = ordered-uncons o in
       let q = ordered-uncons s in
-      block-step x xs (p .0) (q .0) (filter-block xs (p .1) (q .1)) (a x) (b x) refl refl
+      part-step x xs (p .0) (q .0) (filter-part xs (p .1) (q .1)) (a x) (b x) refl refl
 
   -- an element passes b and not a
   abbrev In : A → Type 0
@@ -100,6 +90,6 @@ module _ {A : Type 0} (a b c : A → Bool) (sub : (x : A) → T (a x) → T (b x
       rw (prefix-fail a x xs e, prefix-pass b x xs (test-true (hb (s .value) (s .member) (s .has .0)))) (omega arith)
 
   -- and there is one where some element passes b and not a
-  pub block-some : (l : List A) → Falling b l → Some In l → prefixLength a l < prefixLength b l
-  block-some [] o s = absurd (List·Memᴰ·not-nil (s .member))
-  block-some (x ∷ xs) o s = let q = ordered-uncons o in some-step x xs (q .0) (block-some xs (q .1)) (a x) refl (some-uncons s)
+  pub part-some : (l : List A) → Falling b l → Some In l → prefixLength a l < prefixLength b l
+  part-some [] o s = absurd (List·Memᴰ·not-nil (s .member))
+  part-some (x ∷ xs) o s = let q = ordered-uncons o in some-step x xs (q .0) (part-some xs (q .1)) (a x) refl (some-uncons s)

@@ -11,9 +11,9 @@ use lib.ListN.{take, drop}
 use Rattle.theory_lists.specs.Lists.{any}
 use Rattle.theory_lists.proofs.ListsLaws.{Every}
 use Rattle.theory_orthtree.specs.Entries.{Entry, meetings, listedTogether, chain}
-use Rattle.theory_orthtree.specs.KeyBlocks.{keyBlocks}
+use Rattle.theory_orthtree.specs.KeyCells.{keyCells}
 use Rattle.theory_orthtree.proofs.PlaceLaws.{take-member, take-part}
-use Rattle.theory_orthtree.proofs.KeyBlocksLaws.{KeysOf, keys-part}
+use Rattle.theory_orthtree.proofs.KeyCellsLaws.{KeysOf, keys-part}
 use Rattle.theory_orthtree.proofs.JoinedLaws.{together-joined, meetings-joined}
 use Rattle.theory_orthtree.proofs.WholeLaws.{together-whole, meetings-whole}
 use Rattle.theory_orthtree.proofs.HeadsByKeys.{heads-by-keys}
@@ -53,10 +53,10 @@ module _ (arity depth : ℕ) (pos : 0 < arity) (es fs : List Entry) {k e a b a�
   -- the meetings up to the end of the block: those before it, and any two of its cells
   pub block-meetings : (c d : ℕ) → T (chain arity depth c es) → T (chain arity depth d fs) → {ks ls : List ℕ} {n m : ℕ}
       → KeysOf ks n es → KeysOf ls m fs → meetings arity depth (take a′ es) (take b′ fs)
-      ≡ meetings arity depth (take a es) (take b fs) + keyBlocks (take (a′ - a) (drop a ks)) * keyBlocks (take (b′ - b) (drop b ls))
+      ≡ meetings arity depth (take a es) (take b fs) + keyCells (take (a′ - a) (drop a ks)) * keyCells (take (b′ - b) (drop b ls))
   block-meetings c d rule rule₂ {ks} {ls} x y =
-      let p = heads-by-keys arity depth c pos es rule a a′ ∙ ap keyBlocks (sym (keys-part x a a′ (omega (arith, block .firstGrows)) (block .first .within))) in
-      let q = heads-by-keys arity depth d pos fs rule₂ b b′ ∙ ap keyBlocks (sym (keys-part y b b′ (omega (arith, block .secondGrows)) (block .second .within))) in
+      let p = heads-by-keys arity depth c pos es rule a a′ ∙ ap keyCells (sym (keys-part x a a′ (omega (arith, block .firstGrows)) (block .first .within))) in
+      let q = heads-by-keys arity depth d pos fs rule₂ b b′ ∙ ap keyCells (sym (keys-part y b b′ (omega (arith, block .secondGrows)) (block .second .within))) in
       ap₂ (λ s t. meetings arity depth s t) first-split second-split
       ∙ meetings-joined arity depth pos k (u .ended) (v .ended) first-later second-later
       ∙ ap (λ t. meetings arity depth (take a es) (take b fs) + t) (meetings-whole arity depth pos (block .whole) ∙ ap₂ _*_ p q)

@@ -1,5 +1,5 @@
--- In a list that satisfies the chain rule equal keys beside each other are of one cell, so a part of it has as many cells as blocks of
--- equal keys.
+-- In a list that satisfies the chain rule equal keys beside each other are of one cell, so a part of it has as many cells as its keys
+-- tell.
 -- Assumes nothing.
 use mathlib.Core.Path.{_≡_, refl, ap}
 use mathlib.Core.List.{List, [], _∷_, map}
@@ -14,9 +14,9 @@ use Rattle.theory_orthtree.specs.Entries.{Entry, cellHeads, cellHeadsAft
 use Rattle.theory_orthtree.proofs.EntriesLaws.{span-positive}
 use Rattle.theory_orthtree.proofs.ChainHeadsLaws.{heads-same, heads-next}
 use Rattle.theory_orthtree.proofs.ChainOrderLaws.{Before, chain-ordered}
-use Rattle.theory_orthtree.specs.KeyBlocks.{changesAfter, keyBlocks}
+use Rattle.theory_orthtree.specs.KeyCells.{changesAfter, keyCells}
 use Rattle.theory_orthtree.proofs.PlaceLaws.{take-member}
-use Rattle.theory_orthtree.proofs.KeyBlocksLaws.{changes-same, changes-other}
+use Rattle.theory_orthtree.proofs.KeyCellsLaws.{changes-same, changes-other}
 
 -- an ordered list without its first elements, and without its last
 ordered-drop : {A : Type 0} {R : A → A → Type 0} (n : ℕ) {l : List A} → Ordered R l → Ordered R (drop n l)
@@ -51,13 +51,13 @@ module _ (arity depth : ℕ) (pos : 0 < arity) where
   heads-after-keys e [] o = refl
   heads-after-keys e (f ∷ es) (ordered-more r o) = heads-step e f es (every-uncons r .0) (heads-after-keys f es o)
 
-  heads-keys : (es : List Entry) → Ordered (λ e f. Before arity depth e f) es → length (cellHeads es) ≡ keyBlocks (keys es)
-  unfolding cellHeads keyBlocks
+  heads-keys : (es : List Entry) → Ordered (λ e f. Before arity depth e f) es → length (cellHeads es) ≡ keyCells (keys es)
+  unfolding cellHeads keyCells
   heads-keys [] o = refl
   heads-keys (e ∷ es) o = ap suc (heads-after-keys e es o)
 
--- a part of a list that satisfies the chain rule has as many cells as blocks of equal keys
+-- a part of a list that satisfies the chain rule has as many cells as its keys tell
 pub heads-by-keys : (arity depth count : ℕ) → 0 < arity → (es : List Entry) → T (chain arity depth count es) → (a r : ℕ)
-    → length (cellHeads (take (r - a) (drop a es))) ≡ keyBlocks (map (λ e. e .key) (take (r - a) (drop a es)))
+    → length (cellHeads (take (r - a) (drop a es))) ≡ keyCells (map (λ e. e .key) (take (r - a) (drop a es)))
 heads-by-keys arity depth count pos es rule a r =
     heads-keys arity depth pos (take (r - a) (drop a es)) (ordered-take (r - a) (ordered-drop a (chain-ordered arity depth count pos es rule)))

@@ -10,7 +10,7 @@ use native.Mathlib.Omega.{arith}
 use Rattle.theory_lists.specs.Lists.{sumOf}
 use Rattle.theory_lists.proofs.Reflects.{reflects-and, reflects-or, reflects-iff, reflects-ltb, reflects-false}
 use Rattle.theory_lists.proofs.ListsLaws.{Every, every-uncons}
-use Rattle.theory_lists.proofs.EditedLists.{sumOf-append}
+use Rattle.theory_lists.proofs.SumLaws.{sum-append}
 use Rattle.theory_lists.proofs.IndexLaws.{reflects-same}
 use Rattle.theory_lists.proofs.SumLaws.{sum-agree}
 use Rattle.theory_orthtree.specs.Entries.{Entry, sameCell, cellHeads, cellHeadsAfter, rangeEnd, overlaps, meetings, listedTogether}
@@ -114,12 +114,12 @@ module _ (arity depth : ℕ) (pos : 0 < arity) (k : ℕ) where
     first-meets : Every (λ e. sumOf (one e) (cellHeads fs ++ cellHeads hs) ≡ sumOf (one e) (cellHeads fs)) (cellHeads es)
     first-meets e m =
         let z = sum-zero (one e) (cellHeads hs) (λ h n. one-none e h (no-overlap e h (es-end e (heads-members es e m)) (hs-start h (heads-members hs h n)))) in
-        omega (arith, sumOf-append (one e) (cellHeads fs) (cellHeads hs))
+        omega (arith, sum-append (one e) (cellHeads fs) (cellHeads hs))
 
     second-meets : Every (λ g. sumOf (one g) (cellHeads fs ++ cellHeads hs) ≡ sumOf (one g) (cellHeads hs)) (cellHeads gs)
     second-meets g m =
         let z = sum-zero (one g) (cellHeads fs) (λ f n. one-none g f (no-overlap-back g f (gs-start g (heads-members gs g m)) (fs-end f (heads-members fs f n)))) in
-        omega (arith, sumOf-append (one g) (cellHeads fs) (cellHeads hs))
+        omega (arith, sum-append (one g) (cellHeads fs) (cellHeads hs))
 
     -- the meetings before the key, and those from it on
     pub meetings-joined : meetings arity depth (es ++ gs) (fs ++ hs) ≡ meetings arity depth es fs + meetings arity depth gs hs
@@ -128,6 +128,6 @@ module _ (arity depth : ℕ) (pos : 0 < arity) (k : ℕ) where
         let all : Entry → ℕ = λ e. sumOf (one e) (cellHeads fs ++ cellHeads hs) in
         let p = heads-joined es gs (λ e m g n. no-cell e g (es-end e m) (gs-start g n)) in
         let q = heads-joined fs hs (λ f m h n. no-cell f h (fs-end f m) (hs-start h n)) in
-        rw (p, q) (sumOf-append all (cellHeads es) (cellHeads gs)
+        rw (p, q) (sum-append all (cellHeads es) (cellHeads gs)
         ∙ ap₂ _+_ (sum-agree all (λ e. sumOf (one e) (cellHeads fs)) (cellHeads es) first-meets)
         (sum-agree all (λ g. sumOf (one g) (cellHeads hs)) (cellHeads gs) second-meets))

@@ -8,7 +8,7 @@ pub mod ChainLaws
 pub mod ChainTilingLaws
 pub mod ChainCellLaws
 pub mod ChainOrderLaws
-pub mod ChainBlockLaws
+pub mod ChainPartLaws
 pub mod ChainItemsLaws
 pub mod ChainHeadsLaws
 pub mod TogetherLaws
@@ -24,10 +24,10 @@ pub mod PlaceLaws
 pub mod ChainPlaces
 pub mod JoinedLaws
 pub mod WholeLaws
-pub mod KeyBlocksLaws
+pub mod KeyCellsLaws
 pub mod HeadsByKeys
 pub mod CutLaws
 pub mod RunLaws
 pub mod NextBlock
 pub mod BlockLaws
-pub mod ChainBlocksExamples
+pub mod KeyCellsExamples

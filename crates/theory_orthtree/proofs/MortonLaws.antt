@@ -62,10 +62,6 @@ digit-rest {l} {a} k h = let pos : 0 < a = omega arith in rw (add-mul-div-left, 
 pub morton-quotient : (m n : ℕ) (cs : List ℕ) → mortonKey (m + n) cs / (2 ^ length cs) ^ m ≡ mortonKey n (cut m cs)
 morton-quotient m n cs = rw (morton-split m n cs, digit-rest _ (morton-bound m cs))
 
--- the lowest m digits of a key
-pub morton-remainder : (m n : ℕ) (cs : List ℕ) → mortonKey (m + n) cs % (2 ^ length cs) ^ m ≡ mortonKey m cs
-morton-remainder m n cs = rw (morton-split m n cs, digit-low _ (morton-bound m cs))
-
 -- coordinates with equal lowest bits and equal halves are equal
 lowest-injective : (xs ys : List ℕ) → length xs ≡ length ys → lowestBits xs ≡ lowestBits ys
     → map (λ c. c / 2) xs ≡ map (λ c. c / 2) ys → xs ≡ ys

@@ -13,8 +13,8 @@ use lib.ListN.{length, getD, take, drop}
 use Rattle.theory_lists.proofs.ListsLaws.{Every}
 use Rattle.theory_orthtree.specs.Entries.{Entry, span, rangeEnd, overlaps, chain}
 use Rattle.theory_orthtree.proofs.EntriesLaws.{noEntry, overlaps-reflects}
-use Rattle.theory_orthtree.specs.KeyBlocks.{CellEnd, RunEnd, keyFrom}
-use Rattle.theory_orthtree.proofs.KeyBlocksLaws.{KeysOf}
+use Rattle.theory_orthtree.specs.KeyCells.{CellEnd, RunEnd, keyFrom}
+use Rattle.theory_orthtree.proofs.KeyCellsLaws.{KeysOf}
 use Rattle.theory_orthtree.proofs.CutLaws.{Cut}
 use Rattle.theory_orthtree.proofs.RunLaws.{starts-before, Larger, cell-ends, run-grows, run-cut, run-part, run-cell, larger-at}
 

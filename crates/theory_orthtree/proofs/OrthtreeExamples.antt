@@ -11,7 +11,7 @@ use Rattle.theory_orthtree.specs.Morton.{lowestBits, mortonKey}
 use Rattle.theory_orthtree.specs.Leaves.{leavesBelow}
 use Rattle.theory_orthtree.specs.Entries.{Entry, emptyMark, isMark, sameCell, cellHeads, cellHeadsAfter, span, rangeEnd, covers, overlaps, meetings, listedTogether, entryFits, follows, chainAfter, chain}
 use Rattle.theory_orthtree.proofs.MortonChildLaws.{childCorner}
-use Rattle.theory_orthtree.proofs.ChainBlockLaws.{endedBy, startedBy}
+use Rattle.theory_orthtree.proofs.ChainPartLaws.{endedBy, startedBy}
 
 -- 5 = 101, 3 = 011 in binary: 011011 for x = 5, y = 3; for three coordinates 1 0 0 from the highest bits, and so on
 morton-example : mortonKey 16 (5 ∷ 3 ∷ []) ∷ mortonKey 16 (3 ∷ 5 ∷ []) ∷ mortonKey 10 (5 ∷ 3 ∷ 0 ∷ []) ∷ mortonKey 10 (0 ∷ 6 ∷ 1 ∷ []) ∷ mortonKey 1 (2 ∷ 3 ∷ []) ∷ []
@@ -122,6 +122,6 @@ unfolding mortonKey lowestBits
 child-key-example = refl
 
 -- of the entries above, those of the cell that has key 6 are at places 4 and 5, and of the cell that has key 11 at place 7
-block-example : endedBy 4 2 6 indexed ∷ startedBy 6 indexed ∷ endedBy 4 2 11 indexed ∷ startedBy 11 indexed ∷ [] ≡ 4 ∷ 6 ∷ 7 ∷ 8 ∷ []
+part-example : endedBy 4 2 6 indexed ∷ startedBy 6 indexed ∷ endedBy 4 2 11 indexed ∷ startedBy 11 indexed ∷ [] ≡ 4 ∷ 6 ∷ 7 ∷ 8 ∷ []
 unfolding prefixLength span rangeEnd
-block-example = refl
+part-example = refl

@@ -19,10 +19,10 @@ use Rattle.theory_orthtree.proofs.EntriesLaws.{span-positive}
 use Rattle.theory_orthtree.proofs.RangeLaws.{Within, spans-nested}
 use Rattle.theory_orthtree.proofs.ChainLaws.{SameCell, same-end, Follows}
 use Rattle.theory_orthtree.proofs.ChainOrderLaws.{Before, chain-fits, chain-keys-rise, chain-apart}
-use Rattle.theory_orthtree.specs.KeyBlocks.{CellEnd, RunEnd, keyFrom}
+use Rattle.theory_orthtree.specs.KeyCells.{CellEnd, RunEnd, keyFrom}
 use Rattle.theory_orthtree.proofs.PlaceLaws.{take-every, drop-every, take-at, drop-at, place-any}
 use Rattle.theory_orthtree.proofs.ChainPlaces.{chain-step, chain-last, chain-places, chain-within}
-use Rattle.theory_orthtree.proofs.KeyBlocksLaws.{from-key, from-end, KeysOf, keys-at}
+use Rattle.theory_orthtree.proofs.KeyCellsLaws.{from-key, from-end, KeysOf, keys-at}
 use Rattle.theory_orthtree.proofs.CutLaws.{Cut}
 
 module _ (arity depth : ℕ) (pos : 0 < arity) where

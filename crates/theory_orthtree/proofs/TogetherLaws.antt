@@ -63,15 +63,3 @@ unfolding listedTogether
 listedTogether-reflects arity depth pos es fs i j =
     reflects-iff (together-to arity depth es fs i j) (together-from arity depth es fs i j)
     (any-reflects _ (λ e. any-reflects _ (overlaps-reflects arity depth pos e) (listing fs j)) (listing es i))
-
--- it does not depend on which list is the first
-pub together-swap : {arity depth : ℕ} {es fs : List Entry} {i j : ℕ} → ListedTogether arity depth es fs i j → ListedTogether arity depth fs es j i
-together-swap t = record {
-  first = t .second;
-  second = t .first;
-  firstListed = t .secondListed;
-  secondListed = t .firstListed;
-  firstItem = t .secondItem;
-  secondItem = t .firstItem;
-  common = record { key = t .common .key; first = t .common .second; second = t .common .first };
-}

@@ -1,4 +1,4 @@
 pub mod Morton
 pub mod Leaves
 pub mod Entries
-pub mod KeyBlocks
+pub mod KeyCells

@@ -1,18 +1,19 @@
 use mathlib.Core.Path.{_≡_, sym, _∙_, ap}
 use mathlib.Core.Bool.{true, false}
 use borrow.Author.Needs.{needs}
-use Rattle.spec_calls.specs.Buffers.{Chart, chartOf, chartTable, tooShort, chainRule}
-use Rattle.laws_calls.proofs.BufferLaws.{rule-held}
-use Rattle.laws_calls.proofs.JudgeLaws.{chained-passed, chained-not-stale}
+use Rattle.spec_calls.specs.Buffers.{Chart, chartTable, tooShort, chainRule}
+use Rattle.laws_calls.proofs.BufferLaws.{rule-drawn}
+use Rattle.laws_calls.proofs.JudgeLaws.{chained-passed}
 use Rattle.laws_calls.proofs.ReaderLaws.{area-refused, area-done}
-use Rattle.base_answers.specs.Outcomes.{judgedOutcome}
+use Rattle.spec_calls.specs.Lent.{held}
+use Rattle.base_answers.specs.Outcomes.{verdictOutcome}
 use Rattle.call_area.proofs.doubled_area.Statement.{statement}
 use Rattle.call_area.proofs.doubled_area.Tie as tie
 
 -- the chart lent
 abbrev chart : tie.Start → Chart
 chart c =
-    let a = c .args in chartOf (a .table .now) (a .keys .now) (a .levels .now) (a .items .now) (a .triangles) (a .entries)
+    let a = c .args in held (a .table) (a .keys) (a .levels) (a .items) (a .triangles) (a .entries)
 
 judge-requires : tie.Need-judge-requires
 judge-requires c κs = search needs
@@ -27,22 +28,15 @@ fine : (c : tie.After-enum-told) →
 fine c =
     let j : tie.After-judge = search needs in
     let top : tie.Start = search needs in
-    chained-passed (chart top) (sym (ap judgedOutcome (c .enum-told .given .1)) ∙ j .judge .ensures)
+    chained-passed (chart top) (sym (ap verdictOutcome (c .enum-told .given .1)) ∙ j .judge .ensures)
 
 sum-requires : tie.Need-sum-requires
-unfolding chartTable
 sum-requires c κs =
     let top : tie.Start = search needs in
-    let h = rule-held (chart top) (fine c .0) (fine c .1) in ((h .few, h .room), h .good)
+    rule-drawn (chart top) (fine c .0) (fine c .1)
 
-enum-told-2 : tie.Need-enum-told-2
-enum-told-2 c = search needs
-
-enum-told-3 : tie.Need-enum-told-3
-enum-told-3 c = search needs
-
-enum-told-4 : tie.Need-enum-told-4
-enum-told-4 c = search needs
+enum-known-r : tie.Need-enum-known-r
+enum-known-r c = search needs
 
 returns : tie.Need-returns
 unfolding chartTable
@@ -54,33 +48,10 @@ returns c =
 
 returns-2 : tie.Need-returns-2
 returns-2 c =
+    let told : tie.After-r = search needs in
     let j : tie.After-judge = search needs in
     let top : tie.Start = search needs in
-    area-refused (chart top) (sym (ap judgedOutcome (c .enum-told2 .given .1)) ∙ j .judge .ensures)
-
-returns-3 : tie.Need-returns-3
-returns-3 c =
-    let j : tie.After-judge = search needs in
-    let top : tie.Start = search needs in
-    area-refused (chart top) (sym (ap judgedOutcome (c .enum-told3 .given .1)) ∙ j .judge .ensures)
-
-returns-4 : tie.Need-returns-4
-returns-4 c =
-    let j : tie.After-judge = search needs in
-    let top : tie.Start = search needs in
-    absurd (chained-not-stale (chart top) (sym (ap judgedOutcome (c .enum-told4 .given .1)) ∙ j .judge .ensures))
+    area-refused (chart top) (sym (ap verdictOutcome (told .r .given .1)) ∙ j .judge .ensures)
 
 pub doubled-area-spec : {M : Type 1} → statement M
-doubled-area-spec =
-    tie.close
-    (tie.spec
-    judge-requires
-    enum-told
-    sum-requires
-    enum-told-2
-    enum-told-3
-    enum-told-4
-    returns
-    returns-2
-    returns-3
-    returns-4)
+doubled-area-spec = tie.close (tie.spec judge-requires enum-told sum-requires enum-known-r returns returns-2)

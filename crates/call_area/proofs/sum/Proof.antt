@@ -31,7 +31,7 @@ doubled-requires c κs =
     let top : tie.Start Inv-loop μ-loop = search needs in
     let a = top .args in
     let i = loop .loop .i in
-    ap (λ t. proper (triangleOf t)) (c .triangle-at .ensures) ∙ proper-at (a .table .now) (a .n) i (top .pre .1) (omega arith)
+    ap (λ t. proper (triangleOf t)) (c .triangle-at .ensures) ∙ proper-at (a .table .now) (a .n) i (top .pre .oriented) (omega arith)
 
 add-s : tie.Need-add-s Inv-loop μ-loop
 add-s c = omega arith

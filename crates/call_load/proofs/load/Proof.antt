@@ -5,9 +5,10 @@ use native.Mathlib.Omega.{arith}
 use borrow.Author.Needs.{needs}
 use Rattle.spec_charts.specs.Refusals.{done}
 use Rattle.spec_charts.specs.Edits.{givenTable}
-use Rattle.spec_calls.specs.Buffers.{Chart, chartOf}
-use Rattle.base_answers.specs.Outcomes.{changeOutcome}
-use Rattle.base_answers.proofs.AnswerLaws.{answered-refused, other-refused}
+use Rattle.spec_calls.specs.Buffers.{Chart}
+use Rattle.spec_calls.specs.Calls.{changedBy}
+use Rattle.spec_calls.specs.Lent.{held}
+use Rattle.base_answers.specs.Outcomes.{verdictOutcome}
 use Rattle.call_load.proofs.LoadLaws.{judgedLoad, load-refused, load-judged, load-accepted, load-rest}
 use Rattle.call_load.proofs.load.Statement.{statement}
 use Rattle.call_load.proofs.load.Tie as tie
@@ -15,7 +16,7 @@ use Rattle.call_load.proofs.load.Tie as tie
 -- the chart lent
 abbrev chart : tie.Start → Chart
 chart c =
-    let a = c .args in chartOf (a .table .now) (a .keys .now) (a .levels .now) (a .items .now) (a .triangles) (a .entries)
+    let a = c .args in held (a .table) (a .keys) (a .levels) (a .items) (a .triangles) (a .entries)
 
 -- an earlier place, found from a later one
 abbrev judge-load-to-top : tie.After-judge-load → tie.Start
@@ -27,11 +28,11 @@ enum-told-to-top c = search needs
 -- nothing is against the load
 judged : (c : tie.After-enum-told) →
     let top : tie.Start = search needs in
-    done true ≡ judgedLoad (top .args .given .now) (chart top)
+    done true ≡ judgedLoad (top .args .numbers .now) (chart top)
 judged c =
     let judge-load : tie.After-judge-load = search needs in
     let top = judge-load-to-top judge-load in
-    sym (ap changeOutcome (c .enum-told .given .1)) ∙ judge-load .judge-load .ensures (top .args .triangles) (top .args .entries)
+    sym (ap verdictOutcome (c .enum-told .given .1)) ∙ judge-load .judge-load .ensures (top .args .triangles) (top .args .entries)
 
 judge-load-requires : tie.Need-judge-load-requires
 judge-load-requires c κs = search needs
@@ -44,8 +45,8 @@ unfolding givenTable
 store-requires c κs =
     let e : tie.After-enum-told = search needs in
     let top = enum-told-to-top e in
-    let given = load-accepted (top .args .given .now) (chart top) (judged e) in
-    (((omega (arith, given .few), omega arith), given .oriented), load-judged (top .args .given .now) (chart top) (judged e) .0)
+    let given = load-accepted (top .args .numbers .now) (chart top) (judged e) in
+    (record { few = omega (arith, given .few); room = omega arith; oriented = given .oriented }, load-judged (top .args .numbers .now) (chart top) (judged e) .0)
 
 same-length : tie.Need-same-length
 same-length c = search needs
@@ -65,7 +66,10 @@ returns c =
     let store : tie.After-store = search needs in
     let e : tie.After-enum-told = search needs in
     let top = enum-told-to-top e in
-    store .store .ensures ∙ load-rest (top .args .given .now) (chart top) (judged e)
+    store .store .ensures ∙ load-rest (top .args .numbers .now) (chart top) (judged e)
+
+enum-told-2 : tie.Need-enum-told-2
+enum-told-2 c = search needs
 
 same-length-5 : tie.Need-same-length-5
 same-length-5 c = search needs
@@ -80,13 +84,14 @@ same-length-8 : tie.Need-same-length-8
 same-length-8 c = search needs
 
 returns-2 : tie.Need-returns-2
+unfolding changedBy
 returns-2 c =
+    let told : tie.After-enum-told2 = search needs in
     let judge-load : tie.After-judge-load = search needs in
     let top = judge-load-to-top judge-load in
-    let j = judge-load .judge-load .result in
-    let r = other-refused j (c .match .keys2) in
-    answered-refused (chart top) j (r .1)
-    ∙ load-refused (top .args .given .now) (chart top) (sym (r .1) ∙ judge-load .judge-load .ensures (top .args .triangles) (top .args .entries))
+    let is = told .enum-told2 .given .1 in
+    rw is (load-refused (top .args .numbers .now) (chart top)
+    (sym (ap verdictOutcome is) ∙ judge-load .judge-load .ensures (top .args .triangles) (top .args .entries)))
 
 pub load-spec : {M : Type 1} → statement M
 load-spec =
@@ -100,6 +105,7 @@ load-spec =
     same-length-3
     same-length-4
     returns
+    enum-told-2
     same-length-5
     same-length-6
     same-length-7

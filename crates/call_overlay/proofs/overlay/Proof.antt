@@ -1,28 +1,37 @@
 -- Refusal 1 of all buffers, then 2 of both charts, then the pairs: each return is a case of `overlayCall`. What the merge marks is
 -- what is listed together, so the marked pairs that have a common interior point are the pairs listed.
-use mathlib.Core.Path.{_≡_, sym, _∙_, ap₂}
+use mathlib.Core.Path.{_≡_, refl, sym, _∙_, ap₂}
 use mathlib.Core.Bool.{Bool, true, false, _&&_, _||_}
+use native.Mathlib.Omega.{arith}
 use borrow.Author.Needs.{needs}
 use borrow.Author.Tests.{not-true, not-false}
 use lib.Dec.{ltb}
 use lib.ListN.{length}
-use Rattle.spec_calls.specs.Buffers.{Chart, chartOf, tooShort, chainRule, chartTable, chartEntries, pairsLength}
+use Rattle.theory_orthtree.specs.Entries.{span}
+use Rattle.spec_squares.specs.Square.{arity, depth}
+use Rattle.spec_calls.specs.Buffers.{Chart, tooShort, chainRule, chartTable, chartEntries, pairsLength}
+use Rattle.spec_calls.specs.Lent.{held}
 use Rattle.overlay_marks.specs.PairMarks.{rowsLength}
 use Rattle.overlay_marks.proofs.BitLaws.{zeros-empty}
-use Rattle.call_overlay.proofs.OverlayLaws.{overlay-short, first-long, second-long, pairs-long, overlay-broken, first-passed, second-passed, first-chain, second-chain, overlay-passed, overlay-same}
+use Rattle.call_overlay.proofs.OverlayLaws.{overlay-short, first-long, second-long, pairs-long, overlay-broken, first-passed, second-passed, overlay-passed, overlay-same}
 use Rattle.call_overlay.proofs.overlay.Statement.{statement}
 use Rattle.call_overlay.proofs.overlay.Tie as tie
+
+-- the keys of the tree of squares end at 2^32
+tree-end : span arity depth 0 ≡ 4294967296
+unfolding span
+tree-end = refl
 
 -- the two charts
 abbrev first : tie.Start → Chart
 first c =
     let a = c .args in
-    chartOf (a .table0 .now) (a .keys0 .now) (a .levels0 .now) (a .items0 .now) (a .n0) (a .m0)
+    held (a .table0) (a .keys0) (a .levels0) (a .items0) (a .triangles0) (a .entries0)
 
 abbrev second : tie.Start → Chart
 second c =
     let a = c .args in
-    chartOf (a .table1 .now) (a .keys1 .now) (a .levels1 .now) (a .items1 .now) (a .n1) (a .m1)
+    held (a .table1) (a .keys1) (a .levels1) (a .items1) (a .triangles1) (a .entries1)
 
 -- a lent buffer is too short
 abbrev short : tie.Start → Bool
@@ -53,8 +62,8 @@ judged c =
     let too-short : tie.After-too-short = search needs in
     let top = too-short-to-top too-short in
     let a = top .args in
-    ap₂ (λ x y. x || y || ltb (length (a .pairs .now)) pairsLength) (too-short .too-short .ensures (a .n0) (a .m0))
-    (c .too-short2 .ensures (a .n1) (a .m1))
+    ap₂ (λ x y. x || y || ltb (length (a .pairs .now)) pairsLength) (too-short .too-short .ensures (a .triangles0) (a .entries0))
+    (c .too-short2 .ensures (a .triangles1) (a .entries1))
 
 -- none is
 long : (c : tie.Else1) →
@@ -135,8 +144,13 @@ mark-pairs-requires c κs =
     let s = long else1 in
     let r = rules else2 in
     let p = first-passed (first top) (second top) l s r in
-    let q = second-passed (first top) (second top) l s r in
-    ((p .entries, (p .keyed, p .listed)), ((q .entries, (q .keyed, q .listed)), (search needs, λ k h. zeros-empty rowsLength k)))
+    let q = second-passed (first top) (second top) l s r in (
+      record { few = p .entries; forKeys = p .lists .forKeys; forItems = p .lists .forItems },
+      (
+        record { few = q .entries; forKeys = q .lists .forKeys; forItems = q .lists .forItems },
+        record { room = search needs; unmarked = λ k h. zeros-empty rowsLength k },
+      ),
+    )
 
 slice-aggregate-put-pairs : tie.Need-slice-aggregate-put-pairs
 slice-aggregate-put-pairs c = search needs
@@ -151,7 +165,7 @@ put-pairs-requires c κs =
     let r = rules else2 in
     let p = first-passed (first top) (second top) l s r in
     let q = second-passed (first top) (second top) l s r in
-    (((p .triangles, p .rows), p .oriented), (((q .triangles, q .rows), q .oriented), (search needs, pairs-long (first top) (second top) l s)))
+    ((p .drawn, q .drawn), (search needs, pairs-long (first top) (second top) l s))
 
 finish-requires : tie.Need-finish-requires
 finish-requires c κs =
@@ -176,11 +190,11 @@ returns-3 c =
     let l = a .pairs .now in
     let s = long else1 in
     let r = rules else2 in
-    let p = first-chain (first top) (second top) l s r in
-    let q = second-chain (first top) (second top) l s r in
-    let o = mark-pairs .mark-pairs .ensures .overlapping (a .levels0 .now) (a .levels1 .now) (p .0) (q .0) (a .n0) (a .n1) (p .1) (q .1) in
+    let p = first-passed (first top) (second top) l s r in
+    let q = second-passed (first top) (second top) l s r in
+    let o = mark-pairs .mark-pairs .ensures .overlapping arity depth (omega arith) tree-end (a .levels0 .now) (a .levels1 .now) (p .lists .forLevels) (q .lists .forLevels) (a .triangles0) (a .triangles1) (p .chained) (q .chained) in
     finish .finish .ensures _ l (put-pairs .put-pairs .ensures)
-    ∙ overlay-same (a .table0 .now) (a .n0) (a .table1 .now) (a .n1) o (first-passed (first top) (second top) l s r .triangles) (second-passed (first top) (second top) l s r .triangles) l
+    ∙ overlay-same (a .table0 .now) (a .triangles0) (a .table1 .now) (a .triangles1) o (p .drawn .few) (q .drawn .few) l
     ∙ overlay-passed (first top) (second top) l s r
 
 pub overlay-spec : {M : Type 1} → statement M

@@ -19,14 +19,19 @@ shl-half : tie.Need-shl-half
 shl-half c = search needs
 
 sub-result : tie.Need-sub-result
-sub-result c = let h = half-at (c .before .args .level) (omega arith) .positive in omega arith
+sub-result c =
+    let top : tie.Start = search needs in
+    let h = half-at (top .args .level) (omega arith) .positive in omega arith
 
 returns : tie.Need-returns
-returns c = let s = span-deepest (c .before .args .level) (c .if1 .taken) in omega arith
+returns c =
+    let top : tie.Start = search needs in
+    let s = span-deepest (top .args .level) (c .if1 .taken) in omega arith
 
 returns-2 : tie.Need-returns-2
 returns-2 c =
-    let l = c .before .args .level in
+    let top : tie.Start = search needs in
+    let l = top .args .level in
     let h = half-at l (omega arith) in
     omega (arith, xor-below _ (31 - 2 * l) (h .positive) (h .power), h .twice)
 

@@ -20,18 +20,6 @@ loop-holds c =
     let top : tie.Start Inv-loop μ-loop = search needs in
     (search needs, sym (all-below-none (λ k. proper (triangleAt (top .args .table .now) k))))
 
-triangle-at-requires : tie.Need-triangle-at-requires Inv-loop μ-loop
-triangle-at-requires c κs = omega arith
-
-is-proper-requires : tie.Need-is-proper-requires Inv-loop μ-loop
-is-proper-requires c κs = search needs
-
-add-i : tie.Need-add-i Inv-loop μ-loop
-add-i c = search needs
-
-loop-less : tie.Need-loop-less Inv-loop μ-loop
-loop-less c = search needs
-
 loop-again : tie.Need-loop-again Inv-loop μ-loop
 unfolding triangleOf cornerAt
 loop-again c =
@@ -63,9 +51,9 @@ all-proper-spec =
     Inv-loop
     μ-loop
     loop-holds
-    triangle-at-requires
-    is-proper-requires
-    add-i
-    loop-less
+    (λ c κs. omega arith)
+    (λ c κs. search needs)
+    (λ c. search needs)
+    (λ c. search needs)
     loop-again
     returns)

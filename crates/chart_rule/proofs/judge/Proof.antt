@@ -14,9 +14,6 @@ abbrev chart : tie.Start → Chart
 chart c =
     let a = c .args in held (a .table) (a .keys) (a .levels) (a .items) (a .triangles) (a .entries)
 
-too-short-requires : tie.Need-too-short-requires
-too-short-requires c κs = search needs
-
 returns : tie.Need-returns
 returns c =
     let s : tie.After-too-short = search needs in
@@ -54,4 +51,4 @@ returns-3 c =
     sym (chained-passes (chart top) (done true) (long else1) (sym (r .chain-rule .ensures) ∙ not-false (r .chain-rule .result) (c .if2 .left)))
 
 pub judge-spec : {M : Type 1} → statement M
-judge-spec = tie.close (tie.spec too-short-requires returns chain-rule-requires returns-2 returns-3)
+judge-spec = tie.close (tie.spec (λ c κs. search needs) returns chain-rule-requires returns-2 returns-3)

@@ -9,9 +9,6 @@ returns c =
     let top : tie.Start = search needs in
     let a = top .args in table-many (a .table .now) (a .triangles) (omega arith)
 
-all-proper-requires : tie.Need-all-proper-requires
-all-proper-requires c κs = omega arith
-
 returns-2 : tie.Need-returns-2
 returns-2 c =
     let top : tie.Start = search needs in
@@ -19,4 +16,4 @@ returns-2 c =
     table-ruled (a .table .now) (a .triangles) (omega arith) (c .all-proper .ensures)
 
 pub table-rule-spec : {M : Type 1} → statement M
-table-rule-spec = tie.close (tie.spec returns all-proper-requires returns-2)
+table-rule-spec = tie.close (tie.spec returns (λ c κs. omega arith) returns-2)

@@ -1,3 +1,4 @@
+-- One law of `flipAs` for each answer, by whether both new triangles have D > 0.
 use mathlib.Core.Path.{sym, _∙_, ap, ap₂}
 use mathlib.Core.Bool.{_&&_}
 use native.Mathlib.Omega.{arith}
@@ -24,7 +25,7 @@ returns c =
     let a = top .args in
     let both = ap₂ _&&_ (is-proper .is-proper .ensures) (is-proper2 .is-proper2 .ensures) in (
       sym (as-refused (tableOf (a .table .now) (a .n)) (a .i) (a .j) (triangleOf (a .t5)) (triangleOf (a .t6))
-          (sym both ∙ not-true (is-proper .is-proper .result && is-proper2 .is-proper2 .result) (c .if1 .taken))),
+          (sym both ∙ not-true _ (c .if1 .taken))),
       omega arith,
     )
 
@@ -41,11 +42,11 @@ returns-2 c =
     let s = a .t5 in
     let u = a .t6 in
     let both = ap₂ _&&_ (is-proper .is-proper .ensures) (is-proper2 .is-proper2 .ensures) in
-    let rows = second-row (replace-row .replace-row .last .1 .1 .1 .1 .0) (put-triangle .put-triangle .last .0) (a .n) (a .j) (triangle (cornerAt u 2) (cornerAt s 1) (cornerAt s 2))
-    (top .pre .0 .1) (omega arith) (replace-row .replace-row .ensures) (put-triangle .put-triangle .ensures) in (
+    let rows = second-row _ (a .n) (a .j) (triangle (cornerAt u 2) (cornerAt s 1) (cornerAt s 2))
+    (search needs) (omega arith) (replace-row .replace-row .ensures) (put-triangle .put-triangle .ensures) in (
       ap done rows
           ∙ sym (as-made (tableOf (a .table .now) (a .n)) (a .i) (a .j) (triangleOf s) (triangleOf u)
-          (sym both ∙ not-false (is-proper .is-proper .result && is-proper2 .is-proper2 .result) (else1 .if1 .left))),
+          (sym both ∙ not-false _ (else1 .if1 .left))),
       omega arith,
     )
 

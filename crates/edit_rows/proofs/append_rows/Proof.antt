@@ -1,3 +1,4 @@
+-- The invariant: the rows copied so far stand behind those that the scratch table had.
 use Prim.Native.Nat.{_-_}
 use native.Mathlib.Omega.{arith}
 use borrow.Author.Needs.{needs}
@@ -6,16 +7,16 @@ use Rattle.edit_rows.proofs.append_rows.Statement.{statement}
 use Rattle.edit_rows.proofs.append_rows.Tie as tie
 
 abbrev Inv-loop : tie.InvT-loop
-Inv-loop table first end out₀ m i₀ out i = Appending table first end out₀ m out i
+Inv-loop table first end scratch₀ m i₀ scratch i = Appending table first end scratch₀ m scratch i
 
 abbrev μ-loop : tie.MeasureT-loop
-μ-loop table first end out₀ m i₀ out i = end - i
+μ-loop table first end scratch₀ m i₀ scratch i = end - i
 
 loop-holds : tie.Need-loop-holds Inv-loop μ-loop
 loop-holds c =
     let top : tie.Start Inv-loop μ-loop = search needs in
     let a = top .args in
-    appending-start (a .table .now) (a .first) (a .end) (a .out .now) (a .m) (top .pre .0 .0)
+    appending-start (a .table .now) (a .first) (a .end) (a .scratch .now) (a .m) (search needs)
 
 sub-put-triangle : tie.Need-sub-put-triangle Inv-loop μ-loop
 sub-put-triangle c =
@@ -42,9 +43,6 @@ put-triangle-requires c κs =
     let top : tie.Start Inv-loop μ-loop = search needs in
     omega (arith, loop .loop .inv .low, loop .loop .inv .same, in-loop .loop-test .taken, top .pre)
 
-add-i : tie.Need-add-i Inv-loop μ-loop
-add-i c = search needs
-
 loop-less : tie.Need-loop-less Inv-loop μ-loop
 loop-less c =
     let in-loop : tie.In-loop Inv-loop μ-loop = search needs in
@@ -61,7 +59,7 @@ loop-again c =
     let in-loop : tie.In-loop Inv-loop μ-loop = search needs in
     let loop : tie.At-loop Inv-loop μ-loop = search needs in
     let top = loop-to-top loop in
-    appending-next (loop .loop .inv) (in-loop .loop-test .taken) (top .pre .1 .1) (triangle-at .triangle-at .ensures)
+    appending-next (loop .loop .inv) (in-loop .loop-test .taken) (search needs) (triangle-at .triangle-at .ensures)
     (put-triangle .put-triangle .ensures)
 
 same-length : tie.Need-same-length Inv-loop μ-loop
@@ -85,7 +83,7 @@ append-rows-spec =
     add-put-triangle
     triangle-at-requires
     put-triangle-requires
-    add-i
+    (λ c. search needs)
     loop-less
     loop-again
     same-length

@@ -1,3 +1,4 @@
+-- The rows are copied, and one of them is written again.
 use native.Mathlib.Omega.{arith}
 use Rattle.spec_plane.specs.Triangle.{triangleOf}
 use Rattle.edit_rows.proofs.CopyLaws.{row-replaced}
@@ -11,8 +12,8 @@ returns c =
     let append-rows : tie.After-append-rows = search needs in
     let top : tie.Start = search needs in
     let a = top .args in
-    row-replaced (a .table .now) (a .out .now) (append-rows .append-rows .last .1 .1 .1 .0) (put-triangle .put-triangle .last .0) (a .n) (a .i) (triangleOf (a .x)) (top .pre .0 .0) (omega arith)
-    (append-rows .append-rows .ensures) (put-triangle .put-triangle .ensures)
+    row-replaced (a .table .now) (a .scratch .now) _ (a .n) (a .i) (triangleOf (a .x)) (search needs) (omega arith) (append-rows .append-rows .ensures)
+    (put-triangle .put-triangle .ensures)
 
 pub replace-row-spec : {M : Type 1} → statement M
 replace-row-spec =

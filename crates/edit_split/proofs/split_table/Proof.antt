@@ -1,4 +1,5 @@
-use mathlib.Core.Path.{sym, _∙_, ap}
+-- One law of `splitTable` for each answer, by the tests that led to it.
+use mathlib.Core.Path.{_≡_, sym, _∙_, ap}
 use native.Mathlib.Omega.{arith}
 use borrow.Author.Tests.{not-true, not-false}
 use Rattle.spec_plane.specs.Triangle.{strictlyInside}
@@ -11,80 +12,65 @@ use borrow.Author.Needs.{needs}
 use Rattle.edit_split.proofs.split_table.Statement.{statement}
 use Rattle.edit_split.proofs.split_table.Tie as tie
 
+-- the test is of the table's triangle i
+tested : (c : tie.After-is-strictly-inside) →
+    let top : tie.Start = search needs in
+    let a = top .args in
+    c .is-strictly-inside .result ≡ strictlyInside (triangleAt (a .table .now) (a .i)) (a .p)
+tested c =
+    let triangle-at : tie.After-triangle-at = search needs in
+    let top : tie.Start = search needs in
+    let a = top .args in
+    c .is-strictly-inside .ensures
+    ∙ ap (λ u. strictlyInside u (a .p)) (triangle-read (triangleAt (a .table .now) (a .i)) (triangle-at .triangle-at .ensures))
+
+-- an earlier place, found from a later one
+abbrev else1-to-top : tie.Else1 → tie.Start
+else1-to-top c = search needs
+
 returns : tie.Need-returns
 returns c =
     let top : tie.Start = search needs in
     let a = top .args in
     (sym (split-beyond (a .table .now) (a .n) (a .i) (a .p) (c .if1 .taken)), omega arith)
 
-triangle-at-requires : tie.Need-triangle-at-requires
-triangle-at-requires c κs = search needs
-
-is-strictly-inside-requires : tie.Need-is-strictly-inside-requires
-is-strictly-inside-requires c κs = search needs
-
 returns-2 : tie.Need-returns-2
 returns-2 c =
-    let is-strictly-inside : tie.After-is-strictly-inside = search needs in
-    let triangle-at : tie.After-triangle-at = search needs in
+    let inside : tie.After-is-strictly-inside = search needs in
     let else1 : tie.Else1 = search needs in
     let top : tie.Start = search needs in
-    let a = top .args in
-    let t = triangleAt (a .table .now) (a .i) in
-    let test = is-strictly-inside .is-strictly-inside .ensures ∙ ap (λ u. strictlyInside u (a .p)) (triangle-read t (triangle-at .triangle-at .ensures)) in (
-      sym (split-outside (a .table .now) (a .n) (a .i) (a .p) (omega (arith, else1 .if1 .left))
-          (sym test ∙ not-true (is-strictly-inside .is-strictly-inside .result) (c .if2 .taken))),
+    let a = top .args in (
+      sym (split-outside (a .table .now) (a .n) (a .i) (a .p) (omega (arith, else1 .if1 .left)) (sym (tested inside) ∙ not-true _ (c .if2 .taken))),
       omega arith,
     )
-
-add-if3 : tie.Need-add-if3
-add-if3 c = search needs
-
--- an earlier place, found from a later one
-abbrev else1-to-top : tie.Else1 → tie.Start
-else1-to-top c = search needs
 
 returns-3 : tie.Need-returns-3
 returns-3 c =
     let else2 : tie.Else2 = search needs in
-    let is-strictly-inside : tie.After-is-strictly-inside = search needs in
-    let triangle-at : tie.After-triangle-at = search needs in
+    let inside : tie.After-is-strictly-inside = search needs in
     let else1 : tie.Else1 = search needs in
     let top = else1-to-top else1 in
-    let a = top .args in
-    let t = triangleAt (a .table .now) (a .i) in
-    let test = is-strictly-inside .is-strictly-inside .ensures ∙ ap (λ u. strictlyInside u (a .p)) (triangle-read t (triangle-at .triangle-at .ensures)) in (
+    let a = top .args in (
       sym (split-full (a .table .now) (a .n) (a .i) (a .p) (omega (arith, else1 .if1 .left))
-          (sym test ∙ not-false (is-strictly-inside .is-strictly-inside .result) (else2 .if2 .left)) (c .if3 .taken)),
+          (sym (tested inside) ∙ not-false _ (else2 .if2 .left)) (c .if3 .taken)),
       omega arith,
     )
-
-put-split-requires : tie.Need-put-split-requires
-put-split-requires c κs = search needs
-
-add-t9 : tie.Need-add-t9
-add-t9 c = search needs
-
-same-length : tie.Need-same-length
-same-length c = search needs
 
 returns-4 : tie.Need-returns-4
 returns-4 c =
     let put-split : tie.After-put-split = search needs in
     let else3 : tie.Else3 = search needs in
     let else2 : tie.Else2 = search needs in
-    let is-strictly-inside : tie.After-is-strictly-inside = search needs in
+    let inside : tie.After-is-strictly-inside = search needs in
     let triangle-at : tie.After-triangle-at = search needs in
     let else1 : tie.Else1 = search needs in
     let top = else1-to-top else1 in
     let a = top .args in
     let ns = a .table .now in
-    let t = triangleAt ns (a .i) in
-    let read = triangle-read t (triangle-at .triangle-at .ensures) in
-    let test = is-strictly-inside .is-strictly-inside .ensures ∙ ap (λ u. strictlyInside u (a .p)) read in (
+    let read = triangle-read (triangleAt ns (a .i)) (triangle-at .triangle-at .ensures) in (
       ap done (put-split .put-split .ensures ∙ ap (λ u. splitAt (tableOf ns (a .n)) (a .i) u (a .p)) read)
-          ∙ sym (split-made ns (a .n) (a .i) (a .p) (omega (arith, else1 .if1 .left))
-          (sym test ∙ not-false (is-strictly-inside .is-strictly-inside .result) (else2 .if2 .left)) (omega (arith, else3 .if3 .left))),
+          ∙ sym (split-made ns (a .n) (a .i) (a .p) (omega (arith, else1 .if1 .left)) (sym (tested inside) ∙ not-false _ (else2 .if2 .left))
+          (omega (arith, else3 .if3 .left))),
       omega (arith, else3 .if3 .left),
     )
 
@@ -93,12 +79,12 @@ split-table-spec =
     tie.close
     (tie.spec
     returns
-    triangle-at-requires
-    is-strictly-inside-requires
+    (λ c κs. search needs)
+    (λ c κs. search needs)
     returns-2
-    add-if3
+    (λ c. search needs)
     returns-3
-    put-split-requires
-    add-t9
-    same-length
+    (λ c κs. search needs)
+    (λ c. search needs)
+    (λ c. search needs)
     returns-4)

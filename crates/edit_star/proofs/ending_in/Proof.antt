@@ -1,3 +1,4 @@
+-- One law of `endingIn` for each of the three corners.
 use mathlib.Core.Path.{sym, _∙_, ap}
 use Rattle.spec_plane.specs.Triangle.{triangleOf, rotated, cornerAt}
 use Rattle.spec_charts.specs.Edits.{triangle}
@@ -5,15 +6,6 @@ use Rattle.edit_star.proofs.EndingLaws.{ending-third, ending-second, en
 use borrow.Author.Needs.{needs}
 use Rattle.edit_star.proofs.ending_in.Statement.{statement}
 use Rattle.edit_star.proofs.ending_in.Tie as tie
-
-array-copy-out-same-point : tie.Need-array-copy-out-same-point
-array-copy-out-same-point c = search needs
-
-same-point-requires : tie.Need-same-point-requires
-same-point-requires c κs = search needs
-
-rotated-requires : tie.Need-rotated-requires
-rotated-requires c κs = search needs
 
 returns : tie.Need-returns
 unfolding triangle triangleOf rotated cornerAt
@@ -23,15 +15,6 @@ returns c =
     let top : tie.Start = search needs in
     let a = top .args in
     ap triangleOf (c .rotated .ensures) ∙ sym (ending-third (a .p) (triangleOf (a .t1)) (sym (same-point .same-point .ensures) ∙ then1 .if1 .taken))
-
-array-copy-out-same-point-2 : tie.Need-array-copy-out-same-point-2
-array-copy-out-same-point-2 c = search needs
-
-same-point-requires-2 : tie.Need-same-point-requires-2
-same-point-requires-2 c κs = search needs
-
-rotated-requires-2 : tie.Need-rotated-requires-2
-rotated-requires-2 c κs = search needs
 
 returns-2 : tie.Need-returns-2
 unfolding triangle triangleOf rotated cornerAt
@@ -44,9 +27,6 @@ returns-2 c =
     let a = top .args in
     ap triangleOf (c .rotated2 .ensures)
     ∙ sym (ending-second (a .p) (triangleOf (a .t1)) (sym (same-point .same-point .ensures) ∙ else1 .if1 .left) (sym (same-point2 .same-point2 .ensures) ∙ then2 .if2 .taken))
-
-rotated-requires-3 : tie.Need-rotated-requires-3
-rotated-requires-3 c κs = search needs
 
 returns-3 : tie.Need-returns-3
 unfolding triangle triangleOf rotated cornerAt
@@ -64,13 +44,13 @@ pub ending-in-spec : {M : Type 1} → statement M
 ending-in-spec =
     tie.close
     (tie.spec
-    array-copy-out-same-point
-    same-point-requires
-    rotated-requires
+    (λ c. search needs)
+    (λ c κs. search needs)
+    (λ c κs. search needs)
     returns
-    array-copy-out-same-point-2
-    same-point-requires-2
-    rotated-requires-2
+    (λ c. search needs)
+    (λ c κs. search needs)
+    (λ c κs. search needs)
     returns-2
-    rotated-requires-3
+    (λ c κs. search needs)
     returns-3)

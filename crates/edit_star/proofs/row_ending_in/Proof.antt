@@ -6,12 +6,6 @@ use borrow.Author.Needs.{needs}
 use Rattle.edit_star.proofs.row_ending_in.Statement.{statement}
 use Rattle.edit_star.proofs.row_ending_in.Tie as tie
 
-triangle-at-requires : tie.Need-triangle-at-requires
-triangle-at-requires c κs = search needs
-
-ending-in-requires : tie.Need-ending-in-requires
-ending-in-requires c κs = search needs
-
 returns : tie.Need-returns
 returns c =
     let triangle-at : tie.After-triangle-at = search needs in
@@ -20,4 +14,4 @@ returns c =
     c .ending-in .ensures ∙ ap (endingIn (a .p)) (triangle-read (triangleAt (a .table .now) (a .i)) (triangle-at .triangle-at .ensures))
 
 pub row-ending-in-spec : {M : Type 1} → statement M
-row-ending-in-spec = tie.close (tie.spec triangle-at-requires ending-in-requires returns)
+row-ending-in-spec = tie.close (tie.spec (λ c κs. search needs) (λ c κs. search needs) returns)

@@ -1,54 +1,39 @@
-use mathlib.Core.Path.{sym, _∙_, ap}
+-- What is made is stored, which answers 11 or 0; a refusal is answered with lists and counts as they were.
+use mathlib.Core.Path.{sym, _∙_, ap, subst}
+use Rattle.spec_charts.specs.Table.{Drawn}
 use Rattle.spec_charts.specs.Refusals.{andThen}
 use Rattle.spec_charts.specs.Edits.{withinLimit}
-use Rattle.spec_calls.specs.Buffers.{Chart, chartOf}
+use Rattle.spec_calls.specs.Lent.{held}
 use Rattle.spec_calls.specs.Calls.{changedBy}
 use Rattle.spec_calls.specs.Calls.{Changed as Calls·Changed}
-use Rattle.base_answers.specs.declared.Changed.{Changed}
 use Rattle.base_answers.specs.Outcomes.{changedOf}
-use Rattle.edit_rows.specs.Edited.{editedOutcome}
-use Rattle.base_answers.proofs.AnswerLaws.{answered}
-use Rattle.edit_steps.proofs.MadeLaws.{made-stored, edited-refused}
+use Rattle.edit_rows.specs.declared.Edited.{Edited}
+use Rattle.edit_rows.specs.Edited.{editedOutcome, editedCount}
 use borrow.Author.Needs.{needs}
 use Rattle.edit_steps.proofs.finish.Statement.{statement}
 use Rattle.edit_steps.proofs.finish.Tie as tie
 
--- the chart lent
-abbrev chart : tie.Start → Chart
-chart c =
-    let a = c .args in chartOf (a .table .now) (a .keys .now) (a .levels .now) (a .items .now) (a .triangles) (a .entries)
-
--- what is given back where the lists are as they were
-abbrev kept : tie.Start → Changed → Calls·Changed
-kept c r = let a = c .args in changedOf r (a .table .now) (a .keys .now) (a .levels .now) (a .items .now)
-
-enum-known-made : tie.Need-enum-known-made
-enum-known-made c = search needs
-
-store-requires : tie.Need-store-requires
-store-requires c κs =
-    let made : tie.After-made = search needs in
-    let top : tie.Start = search needs in
-    (made-stored (top .args .scratch .now) (made .made .given .1) (top .pre .0), top .pre .1)
-
-same-length : tie.Need-same-length
-same-length c = search needs
-
-same-length-2 : tie.Need-same-length-2
-same-length-2 c = search needs
-
-same-length-3 : tie.Need-same-length-3
-same-length-3 c = search needs
-
-same-length-4 : tie.Need-same-length-4
-same-length-4 c = search needs
+-- what the call answers, by how the edit went
+abbrev answer : tie.Start → Edited → Calls·Changed
+answer c e =
+    let a = c .args in
+    changedBy (held (a .table) (a .keys) (a .levels) (a .items) (a .triangles) (a .entries))
+    (andThen (editedOutcome e (a .scratch .now)) (λ t. withinLimit t))
 
 -- an earlier place, found from a later one
 abbrev made-to-top : tie.After-made → tie.Start
 made-to-top c = search needs
 
-abbrev at-keys2-to-top : tie.At-match-keys2 → tie.Start
-at-keys2-to-top c = search needs
+abbrev made2-to-top : tie.After-made2 → tie.Start
+made2-to-top c = search needs
+
+store-requires : tie.Need-store-requires
+store-requires c κs =
+    let made : tie.After-made = search needs in
+    let top = made-to-top made in
+    let ns = top .args .scratch .now in
+    let drawn : Drawn ns (editedCount (top .args .made)) = search needs in
+    (subst (λ e. Drawn ns (editedCount e)) (made .made .given .1) drawn, search needs)
 
 returns : tie.Need-returns
 unfolding andThen
@@ -56,33 +41,29 @@ returns c =
     let store : tie.After-store = search needs in
     let made : tie.After-made = search needs in
     let top = made-to-top made in
-    store .store .ensures ∙ ap (λ e. changedBy (chart top) (andThen (editedOutcome e (top .args .scratch .now)) (λ t. withinLimit t))) (sym (made .made .given .1))
-
-edited-change-requires : tie.Need-edited-change-requires
-edited-change-requires c κs = search needs
-
-refused-requires : tie.Need-refused-requires
-refused-requires c κs = search needs
+    store .store .ensures ∙ ap (answer top) (sym (made .made .given .1))
 
 returns-2 : tie.Need-returns-2
+unfolding andThen changedBy
 returns-2 c =
-    let edited-change : tie.After-edited-change = search needs in
-    let at-keys2 : tie.At-match-keys2 = search needs in
-    let top = at-keys2-to-top at-keys2 in
-    ap (kept top) (c .refused .ensures) ∙ ap (answered (chart top)) (edited-change .edited-change .ensures)
-    ∙ edited-refused (chart top) (top .args .scratch .now) (top .args .made) (at-keys2 .match .keys2)
+    let refused : tie.After-refused = search needs in
+    let made2 : tie.After-made2 = search needs in
+    let top = made2-to-top made2 in
+    let a = top .args in
+    ap (λ r. changedOf r (held (a .table) (a .keys) (a .levels) (a .items))) (refused .refused .ensures)
+    ∙ ap (answer top) (sym (made2 .made2 .given .1))
 
 pub finish-spec : {M : Type 1} → statement M
 finish-spec =
     tie.close
     (tie.spec
-    enum-known-made
+    (λ c. search needs)
     store-requires
-    same-length
-    same-length-2
-    same-length-3
-    same-length-4
+    (λ c. search needs)
+    (λ c κs. search needs)
+    (λ c. search needs)
+    (λ c. search needs)
+    (λ c. search needs)
+    (λ c. search needs)
     returns
-    edited-change-requires
-    refused-requires
     returns-2)

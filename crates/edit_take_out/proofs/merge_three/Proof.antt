@@ -1,3 +1,4 @@
+-- One law of `mergeThree` for each answer, by whether the three close round in either order.
 use mathlib.Core.Path.{sym, _∙_, ap, ap₂}
 use mathlib.Core.Bool.{cond, _||_}
 use native.Mathlib.Omega.{arith}
@@ -11,12 +12,6 @@ use borrow.Author.Needs.{needs}
 use Rattle.edit_take_out.proofs.merge_three.Statement.{statement}
 use Rattle.edit_take_out.proofs.merge_three.Tie as tie
 
-closes-round-requires : tie.Need-closes-round-requires
-closes-round-requires c κs = search needs
-
-closes-round-requires-2 : tie.Need-closes-round-requires-2
-closes-round-requires-2 c κs = search needs
-
 returns : tie.Need-returns
 returns c =
     let closes-round2 : tie.After-closes-round2 = search needs in
@@ -25,21 +20,9 @@ returns c =
     let a = top .args in
     let either = ap₂ _||_ (closes-round .closes-round .ensures) (closes-round2 .closes-round2 .ensures) in (
       sym (merge-refused (tableOf (a .table .now) (a .n)) (a .i) (a .j) (a .k) (triangleOf (a .s)) (triangleOf (a .u)) (triangleOf (a .v))
-          (sym either ∙ not-true (closes-round .closes-round .result || closes-round2 .closes-round2 .result) (c .if1 .taken))),
+          (sym either ∙ not-true _ (c .if1 .taken))),
       omega arith,
     )
-
-merged-requires : tie.Need-merged-requires
-merged-requires c κs = search needs
-
-put-merged-requires : tie.Need-put-merged-requires
-put-merged-requires c κs = search needs
-
-sub-t18 : tie.Need-sub-t18
-sub-t18 c = search needs
-
-same-length : tie.Need-same-length
-same-length c = search needs
 
 -- an earlier place, found from a later one
 abbrev closes-round-to-top : tie.After-closes-round → tie.Start
@@ -62,19 +45,19 @@ returns-2 c =
     let merged = merged-2 .merged .ensures ∙ ap (λ z. triangle (s .a) (s .b) (cond z (u .b) (v .b))) (closes-round .closes-round .ensures) in (
       ap done (put-merged .put-merged .ensures ∙ ap (mergeAround table (a .i) (a .j) (a .k)) merged)
           ∙ sym (merge-made table (a .i) (a .j) (a .k) s u v
-          (sym either ∙ not-false (closes-round .closes-round .result || closes-round2 .closes-round2 .result) (else1 .if1 .left))),
-      omega (arith, top .pre .1 .0),
+          (sym either ∙ not-false _ (else1 .if1 .left))),
+      search needs,
     )
 
 pub merge-three-spec : {M : Type 1} → statement M
 merge-three-spec =
     tie.close
     (tie.spec
-    closes-round-requires
-    closes-round-requires-2
+    (λ c κs. search needs)
+    (λ c κs. search needs)
     returns
-    merged-requires
-    put-merged-requires
-    sub-t18
-    same-length
+    (λ c κs. search needs)
+    (λ c κs. search needs)
+    (λ c. search needs)
+    (λ c. search needs)
     returns-2)

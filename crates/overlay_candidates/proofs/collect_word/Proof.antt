@@ -1,31 +1,28 @@
 -- Mark after mark: the lowest bit that is left is the next place, and a word without a bit adds nothing.
 use mathlib.Core.Path.{_≡_, refl, subst}
-use Prim.Native.Nat.{ℕ, _+_, _*_, _-_, _/_, _^_, _≤_, _<_}
+use Prim.Native.Nat.{ℕ, _+_, _*_, _-_, _^_, _<_}
 use native.Mathlib.Omega.{arith}
 use borrow.Author.Needs.{needs}
 use lib.Count.{trailingZeros, trailing-le}
-use lib.ListN.{length, getD}
+use lib.ListN.{getD}
 use Rattle.spec_plane.specs.Box.{Box}
 use Rattle.spec_charts.specs.Table.{maxTriangles}
 use Rattle.base_boxes.proofs.BoxesLaws.{places-fewer, set-length}
 use Rattle.base_geometry.specs.Bounds.{boundsBox}
-use Rattle.base_boxes.specs.Boxes.{boxAt}
+use Rattle.base_boxes.specs.Boxes.{boxAt, boxesHeld}
 use Rattle.overlay_marks.specs.PairMarks.{rowWords}
 use Rattle.overlay_candidates.specs.RowCandidates.{NearInRow}
 use Rattle.overlay_candidates.proofs.WordLaws.{Lowest}
-use Rattle.overlay_candidates.proofs.NearLaws.{near-more, near-skip, word-start, word-ended, next-mark, mark-within, mark-next, mark-there, mark-past}
+use Rattle.overlay_candidates.proofs.NearLaws.{MarksDone, near-more, near-skip, word-start, word-ended, next-mark, mark-within, mark-next, mark-there, mark-past}
 use Rattle.overlay_candidates.proofs.collect_word.Statement.{statement}
 use Rattle.overlay_candidates.proofs.collect_word.Tie as tie
 
 abbrev Inv-loop : tie.InvT-loop
-Inv-loop b lefts tops rights bottoms rows m i q near₀ c w₀ j₀ n₀ near w j n =
-    ((64 * q ≤ j) × (j ≤ 64 * (q + 1)))
-    × ((w ≡ getD rows (rowWords * i + q) 0 / 2 ^ (j - 64 * q))
-    × ((length near ≡ length near₀)
-    × NearInRow (boundsBox b) (boxAt lefts tops rights bottoms) rows m i near j n))
+Inv-loop b lefts tops rights bottoms rows triangles i q near₀ found w₀ j₀ c₀ near w j c =
+    MarksDone (boundsBox b) (boxAt lefts tops rights bottoms) rows triangles i near₀ near q w j c
 
 abbrev μ-loop : tie.MeasureT-loop
-μ-loop b lefts tops rights bottoms rows m i q near₀ c w₀ j₀ n₀ near w j n =
+μ-loop b lefts tops rights bottoms rows triangles i q near₀ found w₀ j₀ c₀ near w j c =
     64 * (q + 1) - j
 
 -- what the function was given
@@ -36,7 +33,7 @@ start c =
 
 -- the boxes of the lists
 abbrev boxes : tie.Start Inv-loop μ-loop → ℕ → Box
-boxes c = boxAt (c .args .lefts .now) (c .args .tops .now) (c .args .rights .now) (c .args .bottoms .now)
+boxes c = let a = c .args in boxesHeld (a .lefts) (a .tops) (a .rights) (a .bottoms)
 
 -- the word
 abbrev word : tie.Start Inv-loop μ-loop → ℕ
@@ -55,7 +52,7 @@ mark c =
     let loop : tie.At-loop Inv-loop μ-loop = search needs in
     let a = start c .args in
     let l = loop .loop in
-    next-mark (a .rows .now) (a .i) (l .j) (a .q) (l .w) (fits c) (l .inv .0 .0) (l .inv .1 .0) (omega arith)
+    next-mark (a .rows .now) (a .i) (l .j) (a .q) (l .w) (fits c) (l .inv .low) (l .inv .left) (omega arith)
 
 within : (c : tie.In-loop Inv-loop μ-loop) →
     let loop : tie.At-loop Inv-loop μ-loop = search needs in
@@ -64,7 +61,7 @@ within c =
     let loop : tie.At-loop Inv-loop μ-loop = search needs in
     let a = start c .args in
     let l = loop .loop in
-    mark-within (a .rows .now) (a .i) (l .j) (a .q) (l .w) (fits c) (l .inv .0 .0) (l .inv .1 .0) _ (mark c)
+    mark-within (a .rows .now) (a .i) (l .j) (a .q) (l .w) (fits c) (l .inv .low) (l .inv .left) _ (mark c)
 
 mul-w : tie.Need-mul-w Inv-loop μ-loop
 mul-w c = search needs
@@ -84,7 +81,12 @@ mul-j c = search needs
 loop-holds : tie.Need-loop-holds Inv-loop μ-loop
 loop-holds c =
     let top : tie.Start Inv-loop μ-loop = search needs in
-    ((omega arith, omega arith), (word-start (word top) (64 * top .args .q), (refl, top .pre .1 .1)))
+    record {
+      low = omega arith;
+      high = omega arith;
+      left = word-start (word top) (64 * top .args .q);
+      collected = record { near = top .pre .1; kept = refl };
+    }
 
 cast-j : tie.Need-cast-j Inv-loop μ-loop
 cast-j c =
@@ -103,8 +105,8 @@ append-if-near-requires c κs =
     let top = start in-loop in
     let a = top .args in
     let l = loop .loop in (
-      places-fewer (a .lefts .now) (a .tops .now) (a .rights .now) (a .bottoms .now) _ maxTriangles (omega (arith, within in-loop)) (top .pre .0 .0),
-      omega (arith, within in-loop, l .inv .1 .1 .1 .few, l .inv .1 .1 .0),
+      places-fewer (a .lefts .now) (a .tops .now) (a .rights .now) (a .bottoms .now) _ maxTriangles (omega (arith, within in-loop)) (top .pre .0 .0 .boxes),
+      omega (arith, within in-loop, l .inv .collected .near .few, l .inv .collected .kept, top .pre .0 .0 .room),
     )
 
 cast-w : tie.Need-cast-w Inv-loop μ-loop
@@ -116,7 +118,7 @@ shr-w : tie.Need-shr-w Inv-loop μ-loop
 shr-w c =
     let in-loop : tie.In-loop Inv-loop μ-loop = search needs in
     let loop : tie.At-loop Inv-loop μ-loop = search needs in
-    omega (arith, within in-loop, loop .loop .inv .0 .0)
+    omega (arith, within in-loop, loop .loop .inv .low)
 
 add-j-2 : tie.Need-add-j-2 Inv-loop μ-loop
 add-j-2 c =
@@ -139,23 +141,24 @@ loop-again c =
     let i = l .inv in
     let call = append-if-near .append-if-near in
     let bounds = boundsBox (a .b) in
-    let skipped = near-skip bounds (boxes top) (a .rows .now) (a .m) (a .i) (i .1 .1 .1) _ (mark-next (a .rows .now) (a .i) (l .j) (a .q) (l .w) (fits d) (i .0 .0) (i .1 .0) _ (mark d)) in
-    let there = mark-there (a .rows .now) (a .i) (l .j) (a .q) (l .w) (fits d) (i .0 .0) (i .1 .0) _ (mark d) in (
-      (omega arith, omega (arith, within d)),
-      (
-        mark-past (a .rows .now) (a .i) (l .j) (a .q) (l .w) (fits d) (i .0 .0) (i .1 .0) _ (mark d),
-        (
-          set-length (l .near) _ (l .n) _ _ (call .ensures .0) (i .1 .1 .0),
-          near-more bounds (boxes top) (a .rows .now) (a .m) (a .i) skipped there _ (call .result)
-              (omega (arith, within d, i .1 .1 .1 .few, i .1 .1 .0, top .pre .0 .1 .1, top .pre .1 .0 .1)) (call .ensures .0) (call .ensures .1),
-        ),
-      ),
-    )
+    let skipped = near-skip bounds (boxes top) (a .rows .now) (a .triangles) (a .i) (i .collected .near) _ (mark-next (a .rows .now) (a .i) (l .j) (a .q) (l .w) (fits d) (i .low) (i .left) _ (mark d)) in
+    let there = mark-there (a .rows .now) (a .i) (l .j) (a .q) (l .w) (fits d) (i .low) (i .left) _ (mark d) in
+    record {
+      low = omega (arith, i .low);
+      high = omega (arith, within d);
+      left = mark-past (a .rows .now) (a .i) (l .j) (a .q) (l .w) (fits d) (i .low) (i .left) _ (mark d);
+      collected = record {
+        near =
+            near-more bounds (boxes top) (a .rows .now) (a .triangles) (a .i) skipped there _ (call .result)
+            (omega (arith, within d, i .collected .near .few, i .collected .kept, top .pre .0 .1 .1, top .pre .0 .0 .room)) (call .ensures .0) (call .ensures .1);
+        kept = set-length (l .near) _ (l .c) _ _ (call .ensures .0) (i .collected .kept);
+      };
+    }
 
 same-length : tie.Need-same-length Inv-loop μ-loop
 same-length c =
     let loop : tie.At-loop Inv-loop μ-loop = search needs in
-    loop .loop .inv .1 .1 .0
+    loop .loop .inv .collected .kept
 
 -- an earlier place, found from a later one
 abbrev shared-slice-known6-to-top : tie.After-shared-slice-known6 Inv-loop μ-loop → tie.Start Inv-loop μ-loop
@@ -170,10 +173,13 @@ returns c =
     let l = loop .loop in
     let i = l .inv in
     let small : word top < 2 ^ 64 = omega (arith, shared-slice-known6 .shared-slice-known6 .given (rowWords * a .i + a .q)) in
-    let none = word-ended (a .rows .now) (a .i) (l .j) (a .q) (l .w) small (i .0 .0) (i .1 .0) (omega arith) in
-    let e : l .j + (64 * (a .q + 1) - l .j) ≡ 64 * (a .q + 1) = omega (arith, i .0 .1) in
+    let none = word-ended (a .rows .now) (a .i) (l .j) (a .q) (l .w) small (i .low) (i .left) (omega arith) in
+    let e : l .j + (64 * (a .q + 1) - l .j) ≡ 64 * (a .q + 1) = omega (arith, i .high) in
     let bounds = boundsBox (a .b) in
-    (subst (λ k. NearInRow bounds (boxes top) (a .rows .now) (a .m) (a .i) (l .near) k (l .n)) e (near-skip bounds (boxes top) (a .rows .now) (a .m) (a .i) (i .1 .1 .1) _ none), i .1 .1 .0)
+    record {
+      near = subst (λ k. NearInRow bounds (boxes top) (a .rows .now) (a .triangles) (a .i) (l .near) k (l .c)) e (near-skip bounds (boxes top) (a .rows .now) (a .triangles) (a .i) (i .collected .near) _ none);
+      kept = i .collected .kept;
+    }
 
 pub collect-word-spec : {M : Type 1} → statement M
 collect-word-spec =

@@ -1,23 +1,24 @@
+-- The items before place i are inserted.
 use mathlib.Core.Path.{_≡_, subst}
-use Prim.Native.Nat.{_-_, _≤_}
+use Prim.Native.Nat.{_-_}
 use native.Mathlib.Omega.{arith}
 use borrow.Author.Needs.{needs}
 use Rattle.overlay_marks.specs.PairMarks.{ItemsInserted}
-use Rattle.overlay_marks.proofs.SetLaws.{insert-start, insert-more}
+use Rattle.overlay_marks.proofs.SetLaws.{Inserting, insert-start, insert-more}
 use Rattle.overlay_marks.proofs.insert_all.Statement.{statement}
 use Rattle.overlay_marks.proofs.insert_all.Tie as tie
 
 abbrev Inv-loop : tie.InvT-loop
-Inv-loop set₀ items a r i₀ set i = ((a ≤ i) × (i ≤ r)) × ItemsInserted set₀ items a i set
+Inv-loop set₀ items from to i₀ set i = Inserting set₀ items from to i set
 
 abbrev μ-loop : tie.MeasureT-loop
-μ-loop set₀ items a r i₀ set i = r - i
+μ-loop set₀ items from to i₀ set i = to - i
 
 loop-holds : tie.Need-loop-holds Inv-loop μ-loop
 loop-holds c =
     let top : tie.Start Inv-loop μ-loop = search needs in
     let a = top .args in
-    ((omega arith, omega arith), insert-start (a .set .now) (a .items .now) (a .a))
+    record { low = omega arith; high = top .pre .0 .ordered; inserted = insert-start (a .set .now) (a .items .now) (a .from) }
 
 mul-place : tie.Need-mul-place Inv-loop μ-loop
 mul-place c = search needs
@@ -31,7 +32,7 @@ place-requires c κs = tt
 insert-requires : tie.Need-insert-requires Inv-loop μ-loop
 insert-requires c κs =
     let loop : tie.At-loop Inv-loop μ-loop = search needs in
-    omega (arith, loop .loop .inv .1 .kept, c .place .ensures)
+    omega (arith, loop .loop .inv .inserted .kept, c .place .ensures)
 
 add-i : tie.Need-add-i Inv-loop μ-loop
 add-i c = search needs
@@ -45,12 +46,16 @@ loop-again c =
     let place : tie.After-place Inv-loop μ-loop = search needs in
     let loop : tie.At-loop Inv-loop μ-loop = search needs in
     let l = loop .loop in
-    ((omega arith, omega arith), insert-more (l .inv .1) (omega arith) (omega arith) (place .place .ensures) (insert .insert .ensures))
+    record {
+      low = omega (arith, l .inv .low);
+      high = omega arith;
+      inserted = insert-more (l .inv .inserted) (l .inv .low) (omega arith) (place .place .ensures) (insert .insert .ensures);
+    }
 
 same-length : tie.Need-same-length Inv-loop μ-loop
 same-length c =
     let loop : tie.At-loop Inv-loop μ-loop = search needs in
-    loop .loop .inv .1 .kept
+    loop .loop .inv .inserted .kept
 
 returns : tie.Need-returns Inv-loop μ-loop
 returns c =
@@ -58,8 +63,8 @@ returns c =
     let top : tie.Start Inv-loop μ-loop = search needs in
     let a = top .args in
     let l = loop .loop in
-    let e : l .i ≡ a .r = omega arith in
-    subst (λ x. ItemsInserted (a .set .now) (a .items .now) (a .a) x (l .set)) e (l .inv .1)
+    let e : l .i ≡ a .to = omega (arith, l .inv .high) in
+    subst (λ x. ItemsInserted (a .set .now) (a .items .now) (a .from) x (l .set)) e (l .inv .inserted)
 
 pub insert-all-spec : {M : Type 1} → statement M
 insert-all-spec =

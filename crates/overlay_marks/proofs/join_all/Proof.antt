@@ -1,23 +1,24 @@
+-- The rows of the items before place i have the set's bits.
 use mathlib.Core.Path.{_≡_, subst}
-use Prim.Native.Nat.{_-_, _≤_}
+use Prim.Native.Nat.{_-_}
 use native.Mathlib.Omega.{arith}
 use borrow.Author.Needs.{needs}
 use Rattle.overlay_marks.specs.PairMarks.{SetJoined}
-use Rattle.overlay_marks.proofs.SetLaws.{join-start, join-more}
+use Rattle.overlay_marks.proofs.SetLaws.{Joining, join-start, join-more}
 use Rattle.overlay_marks.proofs.join_all.Statement.{statement}
 use Rattle.overlay_marks.proofs.join_all.Tie as tie
 
 abbrev Inv-loop : tie.InvT-loop
-Inv-loop rows₀ items a r set i₀ rows i = ((a ≤ i) × (i ≤ r)) × SetJoined rows₀ items a i set rows
+Inv-loop rows₀ items from to set i₀ rows i = Joining rows₀ items from to i set rows
 
 abbrev μ-loop : tie.MeasureT-loop
-μ-loop rows₀ items a r set i₀ rows i = r - i
+μ-loop rows₀ items from to set i₀ rows i = to - i
 
 loop-holds : tie.Need-loop-holds Inv-loop μ-loop
 loop-holds c =
     let top : tie.Start Inv-loop μ-loop = search needs in
     let a = top .args in
-    ((omega arith, omega arith), join-start (a .rows .now) (a .items .now) (a .a) (a .set .now))
+    record { low = omega arith; high = top .pre .0 .ordered; joined = join-start (a .rows .now) (a .items .now) (a .from) (a .set .now) }
 
 mul-place : tie.Need-mul-place Inv-loop μ-loop
 mul-place c = search needs
@@ -34,7 +35,7 @@ mul-join c = omega (arith, c .place .ensures)
 join-requires : tie.Need-join-requires Inv-loop μ-loop
 join-requires c κs =
     let loop : tie.At-loop Inv-loop μ-loop = search needs in
-    (omega (arith, loop .loop .inv .1 .kept, c .place .ensures), search needs)
+    (omega (arith, loop .loop .inv .joined .kept, c .place .ensures), search needs)
 
 add-i : tie.Need-add-i Inv-loop μ-loop
 add-i c = search needs
@@ -48,12 +49,16 @@ loop-again c =
     let place : tie.After-place Inv-loop μ-loop = search needs in
     let loop : tie.At-loop Inv-loop μ-loop = search needs in
     let l = loop .loop in
-    ((omega arith, omega arith), join-more (l .inv .1) (omega arith) (omega arith) (place .place .ensures) (join .join .ensures))
+    record {
+      low = omega (arith, l .inv .low);
+      high = omega arith;
+      joined = join-more (l .inv .joined) (l .inv .low) (omega arith) (place .place .ensures) (join .join .ensures);
+    }
 
 same-length : tie.Need-same-length Inv-loop μ-loop
 same-length c =
     let loop : tie.At-loop Inv-loop μ-loop = search needs in
-    loop .loop .inv .1 .kept
+    loop .loop .inv .joined .kept
 
 returns : tie.Need-returns Inv-loop μ-loop
 returns c =
@@ -61,8 +66,8 @@ returns c =
     let top : tie.Start Inv-loop μ-loop = search needs in
     let a = top .args in
     let l = loop .loop in
-    let e : l .i ≡ a .r = omega arith in
-    subst (λ x. SetJoined (a .rows .now) (a .items .now) (a .a) x (a .set .now) (l .rows)) e (l .inv .1)
+    let e : l .i ≡ a .to = omega (arith, l .inv .high) in
+    subst (λ x. SetJoined (a .rows .now) (a .items .now) (a .from) x (a .set .now) (l .rows)) e (l .inv .joined)
 
 pub join-all-spec : {M : Type 1} → statement M
 join-all-spec =

@@ -1,3 +1,4 @@
+-- The second part's items become a set, which is joined into the row of each of the first part's.
 use Rattle.overlay_marks.proofs.SetLaws.{parts-marked}
 use borrow.Author.Needs.{needs}
 use Rattle.overlay_marks.proofs.mark_parts.Statement.{statement}

@@ -1,3 +1,4 @@
+-- The smaller of the item and the mark's place.
 use mathlib.Core.Path.{_∙_}
 use borrow.Author.Needs.{needs}
 use Rattle.overlay_marks.proofs.place.Statement.{statement}

@@ -1,3 +1,4 @@
+-- Both runs go up to where the larger of the two cells ends, and each item of the one is marked with each of the other.
 use mathlib.Core.Path.{ap₂}
 use Prim.Native.Nat.{_*_}
 use native.Mathlib.Omega.{arith}
@@ -22,14 +23,14 @@ mark-parts-requires c κs = search needs
 abbrev run-end-to-top : tie.After-run-end → tie.Start
 run-end-to-top c = search needs
 
-mul-t16 : tie.Need-mul-t16
-mul-t16 c =
+mul-t17 : tie.Need-mul-t17
+mul-t17 c =
     let run-end2 : tie.After-run-end2 = search needs in
     let run-end : tie.After-run-end = search needs in
     let top = run-end-to-top run-end in
     let s = run-end .run-end in
     let t = run-end2 .run-end2 in
-    omega (arith, cells-fit (s .ensures) (t .ensures) (top .pre .1 .1 .0 .0) (top .pre .1 .1 .0 .1))
+    omega (arith, cells-fit (s .ensures) (t .ensures) (top .pre .0 .0 .few) (top .pre .1 .0 .0 .few))
 
 same-length : tie.Need-same-length
 same-length c = search needs
@@ -59,6 +60,6 @@ mark-block-spec =
     run-end-requires
     run-end-requires-2
     mark-parts-requires
-    mul-t16
+    mul-t17
     same-length
     returns)

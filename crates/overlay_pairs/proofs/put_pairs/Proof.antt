@@ -1,3 +1,4 @@
+-- The boxes of the second table's triangles are put into lists first; a list has room for each triangle.
 use borrow.Author.Needs.{needs}
 use Rattle.overlay_pairs.proofs.put_pairs.Statement.{statement}
 use Rattle.overlay_pairs.proofs.put_pairs.Tie as tie
@@ -10,11 +11,15 @@ put-rows-requires : tie.Need-put-rows-requires
 put-rows-requires c κs =
     let put-boxes : tie.After-put-boxes = search needs in
     let top = put-boxes-to-top put-boxes in
-    let second = top .pre .1 .0 in (
-      top .pre .0,
+    let second = top .pre .0 .1 in (
+      top .pre .0 .0,
       (
-        (record { rows = second .0 .1; places = search needs; oriented = second .1; boxes = put-boxes .put-boxes .ensures }, search needs),
-        (second .0 .0, search needs),
+        record {
+          few = second .few;
+          boxed = record { rows = second .room; places = search needs; oriented = second .oriented; boxes = put-boxes .put-boxes .ensures };
+          places = search needs;
+        },
+        top .pre .1 .1,
       ),
     )
 

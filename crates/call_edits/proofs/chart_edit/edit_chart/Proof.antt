@@ -1,32 +1,27 @@
--- Judged, made, stored: one proof for every edit, since `tableEdit` says what an edit makes of a table.
+-- Judged, made, stored: one proof for every edit, since `eventOf` says which event it is.
 use mathlib.Core.Path.{_≡_, sym, _∙_, ap}
 use mathlib.Core.Bool.{true, false}
 use native.Mathlib.Omega.{arith}
+use borrow.Author.Needs.{needs}
 use Rattle.spec_charts.specs.Refusals.{done, andThen}
 use Rattle.spec_charts.specs.Edits.{withinLimit}
-use Rattle.spec_calls.specs.Buffers.{Chart, chartOf, chartTable, tooShort, chainRule}
+use Rattle.laws_charts.proofs.CountedLaws.{event-limited}
+use Rattle.spec_calls.specs.Buffers.{Chart, chartTable, tooShort, chainRule}
 use Rattle.spec_calls.specs.Calls.{changedBy, ifIndexed}
-use Rattle.laws_calls.proofs.BufferLaws.{rule-held}
+use Rattle.spec_calls.specs.Lent.{held}
+use Rattle.laws_calls.proofs.BufferLaws.{rule-drawn}
 use Rattle.laws_calls.proofs.JudgeLaws.{indexed-passed}
-use Rattle.laws_calls.proofs.EditCalls.{edit-judged}
-use Rattle.spec_calls.specs.Calls.{Changed as Calls·Changed}
-use Rattle.base_answers.specs.declared.Changed.{Changed}
-use Rattle.base_answers.specs.Outcomes.{judgedOutcome, changedOf}
-use Rattle.edit_steps.specs.Edit.{tableEdit}
-use Rattle.base_answers.proofs.AnswerLaws.{answered}
-use Rattle.edit_steps.proofs.MadeLaws.{made-proper, edit-keeps, judged-refused}
-use borrow.Author.Needs.{needs}
+use Rattle.laws_calls.proofs.EditCalls.{edit-judged, edit-refused}
+use Rattle.base_answers.specs.Outcomes.{verdictOutcome}
+use Rattle.edit_steps.specs.Edit.{eventOf}
+use Rattle.edit_steps.proofs.MadeLaws.{made-drawn}
 use Rattle.call_edits.proofs.chart_edit.edit_chart.Statement.{statement}
 use Rattle.call_edits.proofs.chart_edit.edit_chart.Tie as tie
 
 -- the chart lent
 abbrev chart : tie.Start → Chart
 chart c =
-    let a = c .args in chartOf (a .table .now) (a .keys .now) (a .levels .now) (a .items .now) (a .triangles) (a .entries)
-
--- what is given back where the lists are as they were
-abbrev kept : tie.Start → Changed → Calls·Changed
-kept c r = let a = c .args in changedOf r (a .table .now) (a .keys .now) (a .levels .now) (a .items .now)
+    let a = c .args in held (a .table) (a .keys) (a .levels) (a .items) (a .triangles) (a .entries)
 
 -- nothing is against the chart
 judged : (c : tie.After-enum-told) →
@@ -34,7 +29,7 @@ judged : (c : tie.After-enum-told) →
     done true ≡ ifIndexed (chart top) (done true)
 judged c =
     let judge-edit : tie.After-judge-edit = search needs in
-    sym (ap judgedOutcome (c .enum-told .given .1)) ∙ judge-edit .judge-edit .ensures
+    sym (ap verdictOutcome (c .enum-told .given .1)) ∙ judge-edit .judge-edit .ensures
 
 -- so it is long enough and holds to the chain rule
 fine : (c : tie.After-enum-told) →
@@ -61,24 +56,22 @@ abbrev judge-edit-to-top : tie.After-judge-edit → tie.Start
 judge-edit-to-top c = search needs
 
 edit-table-requires : tie.Need-edit-table-requires
-unfolding chartTable
 edit-table-requires c κs =
     let d : tie.After-enum-told = search needs in
     let top = enum-told-to-top d in
-    let h = rule-held (chart top) (fine d .0) (fine d .1) in
-    (h .few, (h .room, omega arith))
+    let h = rule-drawn (chart top) (fine d .0) (fine d .1) in
+    record { few = h .few; room = h .room; scratch = omega arith }
 
 slice-aggregate-finish : tie.Need-slice-aggregate-finish
 slice-aggregate-finish c = search needs
 
 finish-requires : tie.Need-finish-requires
-unfolding chartTable
 finish-requires c κs =
     let s : tie.After-edit-table = search needs in
     let d : tie.After-enum-told = search needs in
     let top = enum-told-to-top d in
-    let good = made-proper (chart top) (fine d .1) (tableEdit (top .args .edit)) (edit-keeps (top .args .edit)) (s .edit-table .result) (s .edit-table .last .1 .1 .1 .0) (s .edit-table .ensures .0) in
-    (((s .edit-table .ensures .1, omega arith), good), fine d .0)
+    let h = rule-drawn (chart top) (fine d .0) (fine d .1) in
+    (made-drawn h (eventOf (top .args .edit)) (s .edit-table .result) _ (omega arith) (s .edit-table .ensures .0) (s .edit-table .ensures .1), fine d .0)
 
 same-length : tie.Need-same-length
 same-length c = search needs
@@ -99,15 +92,13 @@ returns c =
     let edit-table : tie.After-edit-table = search needs in
     let enum-told : tie.After-enum-told = search needs in
     let top = enum-told-to-top enum-told in
+    let e = eventOf (top .args .edit) in
     finish .finish .ensures
-    ∙ ap (λ o. changedBy (chart top) (andThen o (λ t. withinLimit t))) (edit-table .edit-table .ensures .0)
-    ∙ edit-judged (chart top) (tableEdit (top .args .edit)) (judged enum-told)
+    ∙ ap (changedBy (chart top)) (ap (λ o. andThen o (λ t. withinLimit t)) (edit-table .edit-table .ensures .0) ∙ sym (event-limited e (chartTable (chart top))))
+    ∙ edit-judged (chart top) e (judged enum-told)
 
-judged-change-requires : tie.Need-judged-change-requires
-judged-change-requires c κs = search needs
-
-refused-requires : tie.Need-refused-requires
-refused-requires c κs = search needs
+enum-told-2 : tie.Need-enum-told-2
+enum-told-2 c = search needs
 
 same-length-5 : tie.Need-same-length-5
 same-length-5 c = search needs
@@ -122,13 +113,13 @@ same-length-8 : tie.Need-same-length-8
 same-length-8 c = search needs
 
 returns-2 : tie.Need-returns-2
+unfolding changedBy
 returns-2 c =
-    let judged-change : tie.After-judged-change = search needs in
-    let at-keys2 : tie.At-match-keys2 = search needs in
+    let told : tie.After-enum-told2 = search needs in
     let judge-edit : tie.After-judge-edit = search needs in
     let top = judge-edit-to-top judge-edit in
-    ap (kept top) (c .refused .ensures) ∙ ap (answered (chart top)) (judged-change .judged-change .ensures)
-    ∙ judged-refused (chart top) (tableEdit (top .args .edit)) (judge-edit .judge-edit .result) (at-keys2 .match .keys2) (judge-edit .judge-edit .ensures)
+    let is = told .enum-told2 .given .1 in
+    rw is (edit-refused (chart top) (eventOf (top .args .edit)) (sym (ap verdictOutcome is) ∙ judge-edit .judge-edit .ensures))
 
 pub edit-chart-spec : {M : Type 1} → statement M
 edit-chart-spec =
@@ -145,8 +136,7 @@ edit-chart-spec =
     same-length-3
     same-length-4
     returns
-    judged-change-requires
-    refused-requires
+    enum-told-2
     same-length-5
     same-length-6
     same-length-7

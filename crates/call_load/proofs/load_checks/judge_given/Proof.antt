@@ -18,7 +18,7 @@ returns : tie.Need-returns
 unfolding andThen
 returns c =
     let top : tie.Start = search needs in
-    sym (ap judged (given-length (top .args .given .now) (c .if1 .taken)))
+    sym (ap judged (given-length (top .args .numbers .now) (c .if1 .taken)))
 
 first-faulty-requires : tie.Need-first-faulty-requires
 first-faulty-requires c κs = search needs
@@ -31,7 +31,7 @@ returns-2 c =
     let top : tie.Start = search needs in
     let e = f .first-faulty .ensures in
     ap (λ i. refused (FaultyTriangle i)) e
-    ∙ sym (ap judged (given-faulty (top .args .given .now) (else1 .if1 .left) (omega (arith, e, c .if2 .taken))))
+    ∙ sym (ap judged (given-faulty (top .args .numbers .now) (else1 .if1 .left) (omega (arith, e, c .if2 .taken))))
 
 returns-3 : tie.Need-returns-3
 unfolding andThen givenTable
@@ -40,7 +40,7 @@ returns-3 c =
     let else1 : tie.Else1 = search needs in
     let top : tie.Start = search needs in
     let e = f .first-faulty .ensures in
-    sym (ap judged (given-done (top .args .given .now) (else1 .if1 .left) (omega (arith, e, c .if2 .left))))
+    sym (ap judged (given-done (top .args .numbers .now) (else1 .if1 .left) (omega (arith, e, c .if2 .left))))
 
 pub judge-given-spec : {M : Type 1} → statement M
 judge-given-spec = tie.close (tie.spec returns first-faulty-requires returns-2 returns-3)

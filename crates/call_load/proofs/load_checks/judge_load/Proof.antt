@@ -10,19 +10,19 @@ too-short-requires c κs = search needs
 
 returns : tie.Need-returns
 unfolding ifLong refuseIf
-returns c count n =
+returns c triangles entries =
     let too-short : tie.After-too-short = search needs in
-    rw (sym (too-short .too-short .ensures count n) ∙ c .if1 .taken)
+    rw (sym (too-short .too-short .ensures triangles entries) ∙ c .if1 .taken)
 
 judge-given-requires : tie.Need-judge-given-requires
 judge-given-requires c κs = search needs
 
 returns-2 : tie.Need-returns-2
 unfolding ifLong refuseIf
-returns-2 c count n =
+returns-2 c triangles entries =
     let else1 : tie.Else1 = search needs in
     let too-short : tie.After-too-short = search needs in
-    rw (sym (too-short .too-short .ensures count n) ∙ else1 .if1 .left) (c .judge-given .ensures)
+    rw (sym (too-short .too-short .ensures triangles entries) ∙ else1 .if1 .left) (c .judge-given .ensures)
 
 pub judge-load-spec : {M : Type 1} → statement M
 judge-load-spec = tie.close (tie.spec too-short-requires returns judge-given-requires returns-2)

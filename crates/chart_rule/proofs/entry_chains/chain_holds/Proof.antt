@@ -11,6 +11,7 @@ use Rattle.theory_lists.specs.Lists.{all, upTo}
 use Rattle.theory_lists.proofs.IndexLaws.{all-below-at, all-below-fewer}
 use Rattle.spec_squares.specs.Square.{depth}
 use Rattle.spec_calls.specs.Buffers.{zipEntries}
+use Rattle.laws_calls.proofs.BufferLaws.{roomy-fewer}
 use Rattle.chart_links.specs.Links.{entryAt}
 use Rattle.chart_rule.proofs.PartLaws.{no-entries, chain-stopped, chain-joined}
 use borrow.Author.Needs.{needs}
@@ -23,16 +24,13 @@ returns c =
     let a = top .args in
     no-entries (a .count) (zipEntries (a .keys .now) (a .levels .now) (a .items .now)) (c .if1 .taken)
 
-levels-fit-requires : tie.Need-levels-fit-requires
-levels-fit-requires c κs = search needs
-
 returns-2 : tie.Need-returns-2
 returns-2 c =
     let levels-fit : tie.After-levels-fit = search needs in
     let top : tie.Start = search needs in
     let a = top .args in
     let fit = levels-fit .levels-fit in
-    chain-stopped (a .count) (a .keys .now) (a .levels .now) (a .items .now) (a .n) (a .n - 1) (omega arith) (top .pre .0) (top .pre .1 .0) (top .pre .1 .1)
+    chain-stopped (a .count) (a .keys .now) (a .levels .now) (a .items .now) (a .n) (a .n - 1) (omega arith) (top .pre)
     (sym (fit .ensures) ∙ not-true (fit .result) (c .if2 .taken))
 
 -- from here on every level fits
@@ -43,65 +41,21 @@ levels-ok c =
     let levels-fit : tie.After-levels-fit = search needs in
     let fit = levels-fit .levels-fit in sym (fit .ensures) ∙ not-false (fit .result) (c .if2 .left)
 
-sub-last : tie.Need-sub-last
-sub-last c = search needs
-
-count-for-all-requires : tie.Need-count-for-all-requires
-count-for-all-requires c κs = search needs
-
-cast-most : tie.Need-cast-most
-cast-most c = search needs
-
-sub-faults : tie.Need-sub-faults
-sub-faults c = search needs
-
-part-faults-start : tie.Need-part-faults-start
-part-faults-start c = search needs
-
-part-faults-end : tie.Need-part-faults-end
-part-faults-end c = search needs
-
-sub-faults-2 : tie.Need-sub-faults-2
-sub-faults-2 c = search needs
-
-part-faults-start-2 : tie.Need-part-faults-start-2
-part-faults-start-2 c = search needs
-
-part-faults-end-2 : tie.Need-part-faults-end-2
-part-faults-end-2 c = search needs
-
-sub-faults-3 : tie.Need-sub-faults-3
-sub-faults-3 c = search needs
-
-part-faults-start-3 : tie.Need-part-faults-start-3
-part-faults-start-3 c = search needs
-
-part-faults-end-3 : tie.Need-part-faults-end-3
-part-faults-end-3 c = search needs
-
 faults-requires : tie.Need-faults-requires
 faults-requires c κs =
     let else2 : tie.Else2 = search needs in
     let top : tie.Start = search needs in
     let levels = top .args .levels .now in (
-      omega arith,
+      roomy-fewer (omega arith) (top .pre),
       (
-        simp (length-take, length-drop) (omega arith),
+        record {
+          forKeys = simp (length-take, length-drop) (omega arith);
+          forLevels = simp (length-take, length-drop) (omega arith);
+          forItems = simp (length-take, length-drop) (omega arith);
+        },
         all-below-fewer (λ i. leb (getD levels i 0) depth) (omega arith) (levels-ok else2),
       ),
     )
-
-shared-slice-read-result : tie.Need-shared-slice-read-result
-shared-slice-read-result c = search needs
-
-mul-ends-tree : tie.Need-mul-ends-tree
-mul-ends-tree c = search needs
-
-shared-slice-read-ends-tree : tie.Need-shared-slice-read-ends-tree
-shared-slice-read-ends-tree c = search needs
-
-shared-slice-read-ends-tree-2 : tie.Need-shared-slice-read-ends-tree-2
-shared-slice-read-ends-tree-2 c = search needs
 
 ends-tree-requires : tie.Need-ends-tree-requires
 ends-tree-requires c κs =
@@ -123,7 +77,7 @@ returns-3 c =
     let else2 : tie.Else2 = search needs in
     let top = else2-to-top else2 in
     let a = top .args in
-    chain-joined (a .count) (a .keys .now) (a .levels .now) (a .items .now) (a .n) (a .n - 1) (omega arith) (top .pre .0) (top .pre .1 .0) (top .pre .1 .1)
+    chain-joined (a .count) (a .keys .now) (a .levels .now) (a .items .now) (a .n) (a .n - 1) (omega arith) (top .pre)
     (levels-ok else2)
     (count-for-all .count-for-all .ensures (a .count)) (faults .faults .ensures) (c .ends-tree .ensures (getD (a .items .now) (a .n - 1) 0))
 
@@ -132,24 +86,24 @@ chain-holds-spec =
     tie.close
     (tie.spec
     returns
-    levels-fit-requires
+    (λ c κs. search needs)
     returns-2
-    sub-last
-    count-for-all-requires
-    cast-most
-    sub-faults
-    part-faults-start
-    part-faults-end
-    sub-faults-2
-    part-faults-start-2
-    part-faults-end-2
-    sub-faults-3
-    part-faults-start-3
-    part-faults-end-3
+    (λ c. search needs)
+    (λ c κs. search needs)
+    (λ c. search needs)
+    (λ c. search needs)
+    (λ c. search needs)
+    (λ c. search needs)
+    (λ c. search needs)
+    (λ c. search needs)
+    (λ c. search needs)
+    (λ c. search needs)
+    (λ c. search needs)
+    (λ c. search needs)
     faults-requires
-    shared-slice-read-result
-    mul-ends-tree
-    shared-slice-read-ends-tree
-    shared-slice-read-ends-tree-2
+    (λ c. search needs)
+    (λ c. search needs)
+    (λ c. search needs)
+    (λ c. search needs)
     ends-tree-requires
     returns-3)

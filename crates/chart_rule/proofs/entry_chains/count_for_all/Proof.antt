@@ -22,24 +22,6 @@ loop-holds c =
     let top : tie.Start Inv-loop μ-loop = search needs in
     (search needs, λ count. leb·zero count ∙ sym (all-below-none (λ k. itemFits count (getD (top .args .items .now) k 0))))
 
-mul-count-for : tie.Need-mul-count-for Inv-loop μ-loop
-mul-count-for c = search needs
-
-shared-slice-read-count-for : tie.Need-shared-slice-read-count-for Inv-loop μ-loop
-shared-slice-read-count-for c = search needs
-
-count-for-requires : tie.Need-count-for-requires Inv-loop μ-loop
-count-for-requires c κs = search needs
-
-larger-requires : tie.Need-larger-requires Inv-loop μ-loop
-larger-requires c κs = search needs
-
-add-i : tie.Need-add-i Inv-loop μ-loop
-add-i c = search needs
-
-loop-less : tie.Need-loop-less Inv-loop μ-loop
-loop-less c = search needs
-
 loop-again : tie.Need-loop-again Inv-loop μ-loop
 loop-again c =
     let count-for : tie.After-count-for Inv-loop μ-loop = search needs in
@@ -67,11 +49,11 @@ count-for-all-spec =
     Inv-loop
     μ-loop
     loop-holds
-    mul-count-for
-    shared-slice-read-count-for
-    count-for-requires
-    larger-requires
-    add-i
-    loop-less
+    (λ c. search needs)
+    (λ c. search needs)
+    (λ c κs. search needs)
+    (λ c κs. search needs)
+    (λ c. search needs)
+    (λ c. search needs)
     loop-again
     returns)

@@ -26,54 +26,18 @@ loop-holds c =
     let a = top .args in
     (search needs, sym (all-below-none (λ k. linkedAt (a .keys .now) (a .levels .now) (a .items .now) (a .next-keys .now) (a .next-levels .now) (a .next-items .now) k)))
 
-mul-fault : tie.Need-mul-fault Inv-loop μ-loop
-mul-fault c = search needs
-
-shared-slice-read-fault : tie.Need-shared-slice-read-fault Inv-loop μ-loop
-shared-slice-read-fault c = search needs
-
-shared-slice-read-fault-2 : tie.Need-shared-slice-read-fault-2 Inv-loop μ-loop
-shared-slice-read-fault-2 c = search needs
-
-mul-fault-2 : tie.Need-mul-fault-2 Inv-loop μ-loop
-mul-fault-2 c = search needs
-
-shared-slice-read-fault-3 : tie.Need-shared-slice-read-fault-3 Inv-loop μ-loop
-shared-slice-read-fault-3 c = search needs
-
-mul-fault-3 : tie.Need-mul-fault-3 Inv-loop μ-loop
-mul-fault-3 c = search needs
-
-shared-slice-read-fault-4 : tie.Need-shared-slice-read-fault-4 Inv-loop μ-loop
-shared-slice-read-fault-4 c = search needs
-
-shared-slice-read-fault-5 : tie.Need-shared-slice-read-fault-5 Inv-loop μ-loop
-shared-slice-read-fault-5 c = search needs
-
-mul-fault-4 : tie.Need-mul-fault-4 Inv-loop μ-loop
-mul-fault-4 c = search needs
-
-shared-slice-read-fault-6 : tie.Need-shared-slice-read-fault-6 Inv-loop μ-loop
-shared-slice-read-fault-6 c = search needs
-
 -- an earlier place, found from a later one
 abbrev loop-to-top : tie.At-loop Inv-loop μ-loop → tie.Start Inv-loop μ-loop
 loop-to-top c = search needs
 
-fault-requires : tie.Need-fault-requires Inv-loop μ-loop
-fault-requires c κs =
+link-fault-requires : tie.Need-link-fault-requires Inv-loop μ-loop
+link-fault-requires c κs =
     let in-loop : tie.In-loop Inv-loop μ-loop = search needs in
     let loop : tie.At-loop Inv-loop μ-loop = search needs in
     let top = loop-to-top loop in
     let levels = top .args .levels .now in
     let i = loop .loop .i in
     leb→le (getD levels i 0) depth (all-below-at (λ k. leb (getD levels k 0) depth) (top .pre .1 .1) (in-loop .loop-test .taken))
-
-add-i : tie.Need-add-i Inv-loop μ-loop
-add-i c = search needs
-
-loop-less : tie.Need-loop-less Inv-loop μ-loop
-loop-less c = search needs
 
 loop-again : tie.Need-loop-again Inv-loop μ-loop
 unfolding entryAt
@@ -83,10 +47,10 @@ loop-again c =
     let a = top .args in
     let l = loop .loop in (
       omega arith,
-      or-zero (l .found) (c .fault .result)
+      or-zero (l .found) (c .link-fault .result)
           ∙ all-below-step
           (λ k. linkedAt (a .keys .now) (a .levels .now) (a .items .now) (a .next-keys .now) (a .next-levels .now) (a .next-items .now) k)
-          (l .i) (l .inv .1) (c .fault .ensures),
+          (l .i) (l .inv .1) (c .link-fault .ensures),
     )
 
 returns : tie.Need-returns Inv-loop μ-loop
@@ -105,18 +69,18 @@ faults-spec =
     Inv-loop
     μ-loop
     loop-holds
-    mul-fault
-    shared-slice-read-fault
-    shared-slice-read-fault-2
-    mul-fault-2
-    shared-slice-read-fault-3
-    mul-fault-3
-    shared-slice-read-fault-4
-    shared-slice-read-fault-5
-    mul-fault-4
-    shared-slice-read-fault-6
-    fault-requires
-    add-i
-    loop-less
+    (λ c. search needs)
+    (λ c. search needs)
+    (λ c. search needs)
+    (λ c. search needs)
+    (λ c. search needs)
+    (λ c. search needs)
+    (λ c. search needs)
+    (λ c. search needs)
+    (λ c. search needs)
+    (λ c. search needs)
+    link-fault-requires
+    (λ c. search needs)
+    (λ c. search needs)
     loop-again
     returns)

@@ -1,3 +1,4 @@
+-- The place of the triangle is written with the first part, and the other two are appended.
 use native.Mathlib.Omega.{arith}
 use Rattle.spec_plane.specs.Triangle.{triangleOf, cornerAt}
 use Rattle.spec_charts.specs.Edits.{triangle, splitAt}
@@ -22,7 +23,7 @@ returns c =
     let top = replace-row-to-top replace-row in
     let a = top .args in
     let s = a .t4 in
-    two-appended (replace-row .replace-row .last .1 .1 .1 .1 .0) (put-triangle .put-triangle .last .0) (put-triangle2 .put-triangle2 .last .0) (a .n)
+    two-appended _ (a .n)
     (triangle (cornerAt s 1) (cornerAt s 2) (a .p)) (triangle (cornerAt s 2) (cornerAt s 0) (a .p)) (omega arith)
     (replace-row .replace-row .ensures) (put-triangle .put-triangle .ensures) (put-triangle2 .put-triangle2 .ensures)
 

@@ -1,5 +1,7 @@
+-- Three runs of rows, one behind the other, leave out rows j and k; then row i is written.
 use native.Mathlib.Omega.{arith}
 use Rattle.spec_plane.specs.Triangle.{triangleOf}
+use Rattle.edit_take_out.specs.Places.{Ascending}
 use Rattle.edit_take_out.proofs.MergeRows.{merged-rows}
 use borrow.Author.Needs.{needs}
 use Rattle.edit_take_out.proofs.triangle_merge.put_merged.Statement.{statement}
@@ -20,11 +22,10 @@ returns c =
     let append-rows = append-rows2-to-append-rows append-rows2 in
     let top = append-rows-to-top append-rows in
     let a = top .args in
-    let pre = top .pre in
-    merged-rows (a .table .now) (a .out .now) (append-rows .append-rows .last .1 .1 .1 .0) (append-rows2 .append-rows2 .last .1 .1 .1 .0)
-    (append-rows3 .append-rows3 .last .1 .1 .1 .0) (put-triangle .put-triangle .last .0) (a .n) (a .i) (a .j) (a .k) (triangleOf (a .merged))
-    (pre .0 .0) (pre .0 .1 .0) (pre .0 .1 .1) (omega arith) (append-rows .append-rows .ensures) (append-rows2 .append-rows2 .ensures)
-    (append-rows3 .append-rows3 .ensures) (put-triangle .put-triangle .ensures)
+    let places : Ascending (a .i) (a .j) (a .k) (a .n) = search needs in
+    merged-rows (a .table .now) (a .scratch .now) _ _ _ (a .n) (a .i) (a .j) (a .k) (triangleOf (a .merged)) places (omega arith)
+    (append-rows .append-rows .ensures) (append-rows2 .append-rows2 .ensures) (append-rows3 .append-rows3 .ensures)
+    (put-triangle .put-triangle .ensures)
 
 pub put-merged-spec : {M : Type 1} → statement M
 put-merged-spec =

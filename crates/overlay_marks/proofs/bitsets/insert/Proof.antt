@@ -1,3 +1,4 @@
+-- A word with one bit more, and every other word as it was.
 use Rattle.overlay_marks.proofs.BitLaws.{inserted}
 use borrow.Author.Needs.{needs}
 use Rattle.overlay_marks.proofs.bitsets.insert.Statement.{statement}

@@ -1,3 +1,4 @@
+-- Keys are passed as long as they are that of the first place.
 use Prim.Native.Nat.{_-_}
 use borrow.Author.Needs.{needs}
 use Rattle.overlay_merge.proofs.WalkLaws.{CellPassed, cell-start, cell-more, cell-met, cell-over}
@@ -5,10 +6,10 @@ use Rattle.overlay_merge.proofs.runs.cell_end.Statement.{statement}
 use Rattle.overlay_merge.proofs.runs.cell_end.Tie as tie
 
 abbrev Inv-loop : tie.InvT-loop
-Inv-loop keys n a key r₀ r = CellPassed keys n a key r
+Inv-loop keys entries at key r₀ r = CellPassed keys entries at key r
 
 abbrev μ-loop : tie.MeasureT-loop
-μ-loop keys n a key r₀ r = n - r
+μ-loop keys entries at key r₀ r = entries - r
 
 mul-key : tie.Need-mul-key Inv-loop μ-loop
 mul-key c = search needs
@@ -22,7 +23,7 @@ add-r c = search needs
 loop-holds : tie.Need-loop-holds Inv-loop μ-loop
 loop-holds c =
     let top : tie.Start Inv-loop μ-loop = search needs in
-    let a = top .args in cell-start (a .keys .now) (a .n) (a .a) (top .pre .0)
+    let a = top .args in cell-start (a .keys .now) (a .entries) (a .at) (top .pre .below)
 
 mul-if1 : tie.Need-mul-if1 Inv-loop μ-loop
 mul-if1 c = search needs
@@ -35,7 +36,7 @@ returns c =
     let loop : tie.At-loop Inv-loop μ-loop = search needs in
     let top : tie.Start Inv-loop μ-loop = search needs in
     let a = top .args in
-    cell-met (a .keys .now) (a .n) (a .a) (loop .loop .inv) (c .if1 .taken)
+    cell-met (a .keys .now) (a .entries) (a .at) (loop .loop .inv) (c .if1 .taken)
 
 add-r-2 : tie.Need-add-r-2 Inv-loop μ-loop
 add-r-2 c = search needs
@@ -49,14 +50,14 @@ loop-again c =
     let loop : tie.At-loop Inv-loop μ-loop = search needs in
     let top : tie.Start Inv-loop μ-loop = search needs in
     let a = top .args in
-    cell-more (a .keys .now) (a .n) (a .a) (loop .loop .inv) (in-loop .loop-test .taken) (c .if1 .left)
+    cell-more (a .keys .now) (a .entries) (a .at) (loop .loop .inv) (in-loop .loop-test .taken) (c .if1 .left)
 
 returns-2 : tie.Need-returns-2 Inv-loop μ-loop
 returns-2 c =
     let loop : tie.At-loop Inv-loop μ-loop = search needs in
     let top : tie.Start Inv-loop μ-loop = search needs in
     let a = top .args in
-    cell-over (a .keys .now) (a .n) (a .a) (loop .loop .inv) (c .loop-test .left)
+    cell-over (a .keys .now) (a .entries) (a .at) (loop .loop .inv) (c .loop-test .left)
 
 pub cell-end-spec : {M : Type 1} → statement M
 cell-end-spec =

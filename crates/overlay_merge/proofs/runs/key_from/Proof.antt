@@ -1,7 +1,6 @@
 use native.Mathlib.Omega.{arith}
 use borrow.Author.Tests.{lt-ltb, le-ltb}
-use Rattle.theory_orthtree.specs.Entries.{span}
-use Rattle.theory_orthtree.specs.KeyBlocks.{keyFrom}
+use Rattle.theory_orthtree.specs.KeyCells.{keyFrom}
 use borrow.Author.Needs.{needs}
 use Rattle.overlay_merge.proofs.runs.key_from.Statement.{statement}
 use Rattle.overlay_merge.proofs.runs.key_from.Tie as tie
@@ -22,13 +21,13 @@ unfolding keyFrom
 returns c =
     let then1 : tie.Then1 = search needs in
     let top : tie.Start = search needs in
-    rw (lt-ltb (top .args .i) (top .args .n) (then1 .if1 .taken))
+    rw (lt-ltb (top .args .i) (top .args .entries) (then1 .if1 .taken))
 
 returns-2 : tie.Need-returns-2
-unfolding keyFrom span
+unfolding keyFrom
 returns-2 c =
     let top : tie.Start = search needs in
-    rw (le-ltb (top .args .i) (top .args .n) (c .if1 .left))
+    rw (le-ltb (top .args .i) (top .args .entries) (c .if1 .left))
 
 pub key-from-spec : {M : Type 1} → statement M
 key-from-spec =

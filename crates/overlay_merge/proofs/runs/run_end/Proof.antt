@@ -1,3 +1,4 @@
+-- Keys are passed as long as they are below the end, and each that differs from the one before it starts a cell.
 use Prim.Native.Nat.{_-_}
 use native.Mathlib.Omega.{arith}
 use borrow.Author.Needs.{needs}
@@ -7,10 +8,10 @@ use Rattle.overlay_merge.proofs.runs.run_end.Statement.{statement}
 use Rattle.overlay_merge.proofs.runs.run_end.Tie as tie
 
 abbrev Inv-loop : tie.InvT-loop
-Inv-loop keys n a end cells₀ r₀ cells r = RunPassed keys n a end r cells
+Inv-loop keys entries at end cells₀ r₀ cells r = RunPassed keys entries at end r cells
 
 abbrev μ-loop : tie.MeasureT-loop
-μ-loop keys n a end cells₀ r₀ cells r = n - r
+μ-loop keys entries at end cells₀ r₀ cells r = entries - r
 
 add-r : tie.Need-add-r Inv-loop μ-loop
 add-r c = search needs
@@ -19,7 +20,7 @@ loop-holds : tie.Need-loop-holds Inv-loop μ-loop
 loop-holds c =
     let top : tie.Start Inv-loop μ-loop = search needs in
     let a = top .args in
-    run-start (a .keys .now) (a .n) (a .a) (a .end) (top .pre .0) (top .pre .1)
+    run-start (a .keys .now) (a .entries) (a .at) (a .end) (top .pre .below) (top .pre .room)
 
 mul-if1 : tie.Need-mul-if1 Inv-loop μ-loop
 mul-if1 c = search needs
@@ -37,25 +38,25 @@ returns c =
     let loop : tie.At-loop Inv-loop μ-loop = search needs in
     let top : tie.Start Inv-loop μ-loop = search needs in
     let a = top .args in
-    run-met (a .keys .now) (a .n) (a .a) (a .end) (loop .loop .inv) (λ l. omega (arith, c .if1 .taken))
+    run-met (a .keys .now) (a .entries) (a .at) (a .end) (loop .loop .inv) (λ l. omega (arith, c .if1 .taken))
 
-sub-change : tie.Need-sub-change Inv-loop μ-loop
-sub-change c = search needs
+sub-cell-step : tie.Need-sub-cell-step Inv-loop μ-loop
+sub-cell-step c = search needs
 
-mul-change : tie.Need-mul-change Inv-loop μ-loop
-mul-change c = search needs
+mul-cell-step : tie.Need-mul-cell-step Inv-loop μ-loop
+mul-cell-step c = search needs
 
-shared-slice-read-change : tie.Need-shared-slice-read-change Inv-loop μ-loop
-shared-slice-read-change c = search needs
+shared-slice-read-cell-step : tie.Need-shared-slice-read-cell-step Inv-loop μ-loop
+shared-slice-read-cell-step c = search needs
 
-mul-change-2 : tie.Need-mul-change-2 Inv-loop μ-loop
-mul-change-2 c = search needs
+mul-cell-step-2 : tie.Need-mul-cell-step-2 Inv-loop μ-loop
+mul-cell-step-2 c = search needs
 
-shared-slice-read-change-2 : tie.Need-shared-slice-read-change-2 Inv-loop μ-loop
-shared-slice-read-change-2 c = search needs
+shared-slice-read-cell-step-2 : tie.Need-shared-slice-read-cell-step-2 Inv-loop μ-loop
+shared-slice-read-cell-step-2 c = search needs
 
-change-requires : tie.Need-change-requires Inv-loop μ-loop
-change-requires c κs = tt
+cell-step-requires : tie.Need-cell-step-requires Inv-loop μ-loop
+cell-step-requires c κs = tt
 
 add-cells : tie.Need-add-cells Inv-loop μ-loop
 add-cells c =
@@ -63,7 +64,7 @@ add-cells c =
     let top : tie.Start Inv-loop μ-loop = search needs in
     let a = top .args in
     let l = loop .loop in
-    omega (arith, run-few (a .keys .now) (a .n) (a .a) (a .end) (l .inv), c .change .ensures, change-few (getD (a .keys .now) (l .r - 1) 0) (getD (a .keys .now) (l .r) 0))
+    omega (arith, run-few (a .keys .now) (a .entries) (a .at) (a .end) (l .inv), c .cell-step .ensures, change-few (getD (a .keys .now) (l .r - 1) 0) (getD (a .keys .now) (l .r) 0))
 
 add-r-2 : tie.Need-add-r-2 Inv-loop μ-loop
 add-r-2 c = search needs
@@ -78,14 +79,14 @@ loop-again c =
     let loop : tie.At-loop Inv-loop μ-loop = search needs in
     let top : tie.Start Inv-loop μ-loop = search needs in
     let a = top .args in
-    run-more (a .keys .now) (a .n) (a .a) (a .end) (loop .loop .inv) (in-loop .loop-test .taken) (top .pre .1) (omega (arith, else1 .if1 .left)) (c .change .ensures)
+    run-more (a .keys .now) (a .entries) (a .at) (a .end) (loop .loop .inv) (in-loop .loop-test .taken) (top .pre .room) (omega (arith, else1 .if1 .left)) (c .cell-step .ensures)
 
 returns-2 : tie.Need-returns-2 Inv-loop μ-loop
 returns-2 c =
     let loop : tie.At-loop Inv-loop μ-loop = search needs in
     let top : tie.Start Inv-loop μ-loop = search needs in
     let a = top .args in
-    run-met (a .keys .now) (a .n) (a .a) (a .end) (loop .loop .inv) (λ l. absurd (omega arith))
+    run-met (a .keys .now) (a .entries) (a .at) (a .end) (loop .loop .inv) (λ l. absurd (omega arith))
 
 pub run-end-spec : {M : Type 1} → statement M
 run-end-spec =
@@ -99,12 +100,12 @@ run-end-spec =
     shared-slice-read-if1
     cast-if1
     returns
-    sub-change
-    mul-change
-    shared-slice-read-change
-    mul-change-2
-    shared-slice-read-change-2
-    change-requires
+    sub-cell-step
+    mul-cell-step
+    shared-slice-read-cell-step
+    mul-cell-step-2
+    shared-slice-read-cell-step-2
+    cell-step-requires
     add-cells
     add-r-2
     loop-less

@@ -1,9 +1,10 @@
+-- Nothing where too many are found already; else the pairs with the row's candidates, which are all its pairs.
 use mathlib.Core.Path.{refl}
 use native.Mathlib.Omega.{arith}
 use borrow.Author.Needs.{needs}
 use Rattle.overlay_pairs.specs.Pairs.{rowPairs}
 use Rattle.overlay_pairs.proofs.WroteLaws.{wrote-over}
-use Rattle.overlay_pairs.proofs.PairLaws.{near-each, row-wrote}
+use Rattle.overlay_pairs.proofs.PairLaws.{near-triangles, row-wrote}
 use Rattle.overlay_pairs.proofs.pair_rows.put_row.Statement.{statement}
 use Rattle.overlay_pairs.proofs.pair_rows.put_row.Tie as tie
 
@@ -11,7 +12,10 @@ returns : tie.Need-returns
 returns c =
     let top : tie.Start = search needs in
     let a = top .args in
-    (wrote-over (rowPairs (a .first .now) (a .second .now) (a .m) (a .rows .now) (a .i)) (a .at) (a .pairs .now) (c .if1 .taken) (top .pre .1 .1 .1 .0), refl)
+    record {
+      wrote = wrote-over (rowPairs (a .first .now) (a .second .now) (a .second-triangles) (a .rows .now) (a .i)) (a .found) (a .pairs .now) (c .if1 .taken) (top .pre .1 .1 .few);
+      kept = refl;
+    }
 
 triangle-box-requires : tie.Need-triangle-box-requires
 triangle-box-requires c κs = search needs
@@ -29,10 +33,14 @@ put-near-requires c κs =
     let triangle-box : tie.After-triangle-box = search needs in
     let top = triangle-box-to-top triangle-box in
     let a = top .args in
-    let call = collect-row .collect-row in
-    let few = top .pre .1 .1 .0 in (
-      (top .pre .0 .0, (few .0 .0, omega (arith, call .ensures .0 .few, call .ensures .1, few .1 .1))),
-      (near-each (a .first .now) (a .rows .now) (a .i) (top .pre .0 .1) (triangle-box .triangle-box .ensures) (top .pre .1 .0 .0) (few .0 .1) (call .ensures .0) (omega (arith, call .ensures .0 .few, call .ensures .1, few .1 .1)), top .pre .1 .1 .1),
+    let second = top .pre .1 .0 in
+    let found = collect-row .collect-row .ensures in (
+      (
+        top .pre .0 .0,
+        near-triangles (a .first .now) (a .rows .now) (a .i) (top .pre .0 .1) (triangle-box .triangle-box .ensures) (second .boxed) (second .few) (found .near)
+            (omega (arith, found .near .few, found .kept, second .places .room)),
+      ),
+      top .pre .1 .1,
     )
 
 same-length : tie.Need-same-length
@@ -48,9 +56,14 @@ returns-2 c =
     let triangle-box : tie.After-triangle-box = search needs in
     let top = triangle-box-to-top triangle-box in
     let a = top .args in
-    let call = collect-row .collect-row in
-    let few = top .pre .1 .1 .0 in
-    (row-wrote (a .first .now) (a .rows .now) (a .i) (top .pre .0 .1) (triangle-box .triangle-box .ensures) (top .pre .1 .0 .0) (few .0 .1) (call .ensures .0) (omega (arith, call .ensures .0 .few, call .ensures .1, few .1 .1)) (put-near .put-near .ensures), call .ensures .1)
+    let second = top .pre .1 .0 in
+    let found = collect-row .collect-row .ensures in
+    record {
+      wrote =
+          row-wrote (a .first .now) (a .rows .now) (a .i) (top .pre .0 .1) (triangle-box .triangle-box .ensures) (second .boxed) (second .few) (found .near)
+          (omega (arith, found .near .few, found .kept, second .places .room)) (put-near .put-near .ensures);
+      kept = found .kept;
+    }
 
 pub put-row-spec : {M : Type 1} → statement M
 put-row-spec =

@@ -1,23 +1,22 @@
+-- Candidate after candidate: the pairs with those before it are written.
 use mathlib.Core.Path.{_≡_, _∙_, ap₂, subst}
-use Prim.Native.Nat.{_-_, _≤_}
+use Prim.Native.Nat.{_-_}
 use native.Mathlib.Omega.{arith}
 use borrow.Author.Needs.{needs}
 use lib.ListN.{take}
 use Rattle.spec_plane.specs.Triangle.{triangleOf, cornerAt, corners}
 use Rattle.spec_plane.specs.Interior.{interiorsMeet}
-use Rattle.spec_charts.specs.Table.{triangleAt}
 use Rattle.overlay_pairs.specs.Pairs.{nearPairs, Wrote}
 use Rattle.overlay_pairs.proofs.WroteLaws.{wrote-within}
-use Rattle.overlay_pairs.proofs.PairLaws.{pairs-none, pairs-more}
+use Rattle.overlay_pairs.proofs.PairLaws.{NearDone, pairs-none, pairs-more}
 use Rattle.overlay_pairs.proofs.pair_writes.put_near.Statement.{statement}
 use Rattle.overlay_pairs.proofs.pair_writes.put_near.Tie as tie
 
 abbrev Inv-loop : tie.InvT-loop
-Inv-loop first i second near d pairs₀ at s c₀ k₀ pairs c k =
-    ((k ≤ d) × (s ≡ corners (triangleAt first i))) × Wrote (nearPairs first second i (take k near)) at c pairs₀ pairs
+Inv-loop first i second near d pairs₀ found s c₀ k₀ pairs c k = NearDone first second i near d s found k c pairs₀ pairs
 
 abbrev μ-loop : tie.MeasureT-loop
-μ-loop first i second near d pairs₀ at s c₀ k₀ pairs c k = d - k
+μ-loop first i second near d pairs₀ found s c₀ k₀ pairs c k = d - k
 
 triangle-at-requires : tie.Need-triangle-at-requires Inv-loop μ-loop
 triangle-at-requires c κs = search needs
@@ -26,7 +25,11 @@ loop-holds : tie.Need-loop-holds Inv-loop μ-loop
 loop-holds c =
     let top : tie.Start Inv-loop μ-loop = search needs in
     let a = top .args in
-    ((omega arith, c .triangle-at .ensures), pairs-none (a .first .now) (a .second .now) (a .i) (a .near .now) (a .at) (a .pairs .now) (top .pre .1 .1 .0))
+    record {
+      within = omega arith;
+      corners = c .triangle-at .ensures;
+      wrote = pairs-none (a .first .now) (a .second .now) (a .i) (a .near .now) (a .found) (a .pairs .now) (top .pre .1 .few);
+    }
 
 mul-j : tie.Need-mul-j Inv-loop μ-loop
 mul-j c = search needs
@@ -38,7 +41,7 @@ triangle-at-requires-2 : tie.Need-triangle-at-requires-2 Inv-loop μ-loop
 triangle-at-requires-2 c κs =
     let loop : tie.At-loop Inv-loop μ-loop = search needs in
     let top : tie.Start Inv-loop μ-loop = search needs in
-    top .pre .1 .0 (loop .loop .k) (omega arith) .1
+    top .pre .0 .1 .each (loop .loop .k) (omega arith) .room
 
 interiors-meet-requires : tie.Need-interiors-meet-requires Inv-loop μ-loop
 interiors-meet-requires c κs = search needs
@@ -50,13 +53,14 @@ cast-put-pair-2 : tie.Need-cast-put-pair-2 Inv-loop μ-loop
 cast-put-pair-2 c =
     let loop : tie.At-loop Inv-loop μ-loop = search needs in
     let top : tie.Start Inv-loop μ-loop = search needs in
-    let h = top .pre .1 .0 (loop .loop .k) (omega arith) in omega arith
+    omega (arith, top .pre .0 .1 .each (loop .loop .k) (omega arith) .few)
 
 put-pair-requires : tie.Need-put-pair-requires Inv-loop μ-loop
 put-pair-requires c κs =
     let loop : tie.At-loop Inv-loop μ-loop = search needs in
-    let w = loop .loop .inv .1 in
-    (wrote-within w, omega (arith, w .kept))
+    let top : tie.Start Inv-loop μ-loop = search needs in
+    let w = loop .loop .inv .wrote in
+    record { few = wrote-within w; room = omega (arith, w .kept, top .pre .1 .room) }
 
 add-k : tie.Need-add-k Inv-loop μ-loop
 add-k c = search needs
@@ -79,16 +83,19 @@ loop-again c =
     let a = top .args in
     let l = loop .loop in
     let meet = interiors-meet .interiors-meet .ensures
-    ∙ ap₂ (λ s t. interiorsMeet (triangleOf s) (triangleOf t)) (l .inv .0 .1) (triangle-at2 .triangle-at2 .ensures) in (
-      (omega arith, l .inv .0 .1),
-      pairs-more (a .first .now) (a .second .now) (a .i) (a .near .now) (l .k) (omega arith) meet (l .inv .1)
-          (put-pair .put-pair .ensures),
-    )
+    ∙ ap₂ (λ s t. interiorsMeet (triangleOf s) (triangleOf t)) (l .inv .corners) (triangle-at2 .triangle-at2 .ensures) in
+    record {
+      within = omega arith;
+      corners = l .inv .corners;
+      wrote =
+          pairs-more (a .first .now) (a .second .now) (a .i) (a .near .now) (l .k) (omega (arith, top .pre .0 .1 .room)) meet (l .inv .wrote)
+          (put-pair .put-pair .ensures);
+    }
 
 same-length : tie.Need-same-length Inv-loop μ-loop
 same-length c =
     let loop : tie.At-loop Inv-loop μ-loop = search needs in
-    loop .loop .inv .1 .kept
+    loop .loop .inv .wrote .kept
 
 returns : tie.Need-returns Inv-loop μ-loop
 returns c =
@@ -96,8 +103,8 @@ returns c =
     let top : tie.Start Inv-loop μ-loop = search needs in
     let a = top .args in
     let l = loop .loop in
-    let e : l .k ≡ a .d = omega arith in
-    subst (λ k. Wrote (nearPairs (a .first .now) (a .second .now) (a .i) (take k (a .near .now))) (a .at) (l .c) (a .pairs .now) (l .pairs)) e (l .inv .1)
+    let e : l .k ≡ a .d = omega (arith, l .inv .within) in
+    subst (λ k. Wrote (nearPairs (a .first .now) (a .second .now) (a .i) (take k (a .near .now))) (a .found) (l .c) (a .pairs .now) (l .pairs)) e (l .inv .wrote)
 
 pub put-near-spec : {M : Type 1} → statement M
 put-near-spec =

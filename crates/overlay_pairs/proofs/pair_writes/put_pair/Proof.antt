@@ -1,3 +1,4 @@
+-- Nothing where they do not meet, one too many where there is no room, else the pair after those found.
 use mathlib.Core.Path.{sym, subst}
 use Prim.Native.Nat.{_+_, _*_}
 use native.Mathlib.Omega.{arith}
@@ -15,7 +16,7 @@ returns c =
     let top : tie.Start = search needs in
     let a = top .args in
     let l = a .pairs .now in
-    subst (λ b. Wrote (pairIf b (a .i) (a .j)) (a .c) (a .c) l l) (sym (not-true (a .meet) (c .if1 .taken))) (wrote-none (a .c) l (top .pre .0))
+    subst (λ b. Wrote (pairIf b (a .i) (a .j)) (a .found) (a .found) l l) (sym (not-true (a .meet) (c .if1 .taken))) (wrote-none (a .found) l (top .pre .few))
 
 add-result : tie.Need-add-result
 add-result c = search needs
@@ -26,8 +27,8 @@ returns-2 c =
     let top : tie.Start = search needs in
     let a = top .args in
     let l = a .pairs .now in
-    subst (λ b. Wrote (pairIf b (a .i) (a .j)) (a .c) (maxPairs + 1) l l) (sym (not-false (a .meet) (else1 .if1 .left)))
-    (wrote-full (record { i = a .i; j = a .j }) (a .c) l (omega arith) (omega arith))
+    subst (λ b. Wrote (pairIf b (a .i) (a .j)) (a .found) (maxPairs + 1) l l) (sym (not-false (a .meet) (else1 .if1 .left)))
+    (wrote-full (record { i = a .i; j = a .j }) (a .found) l (omega arith) (omega arith))
 
 mul-pairs : tie.Need-mul-pairs
 mul-pairs c = search needs
@@ -62,8 +63,8 @@ returns-3 c =
     let top : tie.Start = search needs in
     let a = top .args in
     let l = a .pairs .now in
-    subst (λ b. Wrote (pairIf b (a .i) (a .j)) (a .c) (a .c + 1) l (set (set l (2 * a .c) (a .i)) (2 * a .c + 1) (a .j))) (sym (not-false (a .meet) (else1 .if1 .left)))
-    (wrote-one (record { i = a .i; j = a .j }) (a .c) l (omega arith))
+    subst (λ b. Wrote (pairIf b (a .i) (a .j)) (a .found) (a .found + 1) l (set (set l (2 * a .found) (a .i)) (2 * a .found + 1) (a .j))) (sym (not-false (a .meet) (else1 .if1 .left)))
+    (wrote-one (record { i = a .i; j = a .j }) (a .found) l (omega arith))
 
 pub put-pair-spec : {M : Type 1} → statement M
 put-pair-spec =

@@ -1,3 +1,4 @@
+-- The key of two coordinates is that of the first, and twice that of the second.
 use Rattle.read_cells.proofs.SpreadLaws.{morton-weave}
 use borrow.Author.Needs.{needs}
 use Rattle.read_cells.proofs.morton.interleaved.Statement.{statement}

@@ -1,3 +1,4 @@
+-- A byte is one of 256, so that the steps are computed for each.
 use borrow.Author.Needs.{needs}
 use Rattle.read_cells.proofs.SpreadLaws.{spread-byte, spread-bound}
 use Rattle.read_cells.proofs.morton.spread.Statement.{statement}

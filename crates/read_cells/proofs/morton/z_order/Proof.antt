@@ -1,3 +1,4 @@
+-- The low bytes give the lower half of the key, the high bytes the upper half.
 use Rattle.read_cells.proofs.SpreadLaws.{zOrder-bytes}
 use borrow.Author.Needs.{needs}
 use Rattle.read_cells.proofs.morton.z_order.Statement.{statement}

@@ -1,3 +1,4 @@
+-- The place is bracketed by low and high, and each key in the middle brings one of them nearer.
 use Prim.Native.Nat.{_+_, _-_, _/_}
 use native.Mathlib.Omega.{arith}
 use Rattle.read_cells.proofs.HalvesLaws.{Bracket, bracket-all, bracket-above, bracket-below, bracket-met}
@@ -43,7 +44,7 @@ loop-again c =
     let loop : tie.At-loop Inv-loop μ-loop = search needs in
     let top : tie.Start Inv-loop μ-loop = search needs in
     let l = loop .loop in
-    bracket-above (top .pre .1) (l .inv) _ (omega arith) (omega arith) (c .if1 .taken)
+    bracket-above (top .pre .rises) (l .inv) _ (omega arith) (omega arith) (c .if1 .taken)
 
 loop-less-2 : tie.Need-loop-less-2 Inv-loop μ-loop
 loop-less-2 c = omega arith
@@ -53,7 +54,7 @@ loop-again-2 c =
     let loop : tie.At-loop Inv-loop μ-loop = search needs in
     let top : tie.Start Inv-loop μ-loop = search needs in
     let l = loop .loop in
-    bracket-below (top .pre .1) (l .inv) _ (omega arith) (omega arith) (c .if1 .left)
+    bracket-below (top .pre .rises) (l .inv) _ (omega arith) (omega arith) (c .if1 .left)
 
 returns : tie.Need-returns Inv-loop μ-loop
 returns c =

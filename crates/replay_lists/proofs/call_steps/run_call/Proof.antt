@@ -1,9 +1,11 @@
+-- The first number of a call says which call it is, and each is the call of its event.
 use mathlib.Core.Path.{_∙_}
 use mathlib.Core.List.{List}
 use Prim.Native.Nat.{ℕ}
 use native.Mathlib.Omega.{arith}
 use borrow.Author.Needs.{needs}
-use Rattle.spec_calls.specs.Buffers.{Chart, chartOf}
+use Rattle.spec_calls.specs.Buffers.{Chart}
+use Rattle.spec_calls.specs.Lent.{held}
 use Rattle.replay_lists.proofs.CallLaws.{load-long, split-long, other-long, load-event, split-event, takeOut-event, flip-event}
 use Rattle.replay_lists.proofs.call_steps.run_call.Statement.{statement}
 use Rattle.replay_lists.proofs.call_steps.run_call.Tie as tie
@@ -11,7 +13,7 @@ use Rattle.replay_lists.proofs.call_steps.run_call.Tie as tie
 -- the chart lent
 abbrev chart : tie.Start → Chart
 chart c =
-    let a = c .args in chartOf (a .table .now) (a .keys .now) (a .levels .now) (a .items .now) (a .triangles) (a .entries)
+    let a = c .args in held (a .table) (a .keys) (a .levels) (a .items) (a .triangles) (a .entries)
 
 -- the numbers of the call
 abbrev numbers : tie.Start → List ℕ
@@ -20,18 +22,18 @@ numbers c = c .args .call .now
 shared-slice-read-if1 : tie.Need-shared-slice-read-if1
 shared-slice-read-if1 c = search needs
 
-sub-given : tie.Need-sub-given
-sub-given c =
+sub-words : tie.Need-sub-words
+sub-words c =
     let top : tie.Start = search needs in
     omega (arith, load-long (numbers top) (top .pre) (c .if1 .taken))
 
-part-given-start : tie.Need-part-given-start
-part-given-start c =
+part-words-start : tie.Need-part-words-start
+part-words-start c =
     let top : tie.Start = search needs in
     omega (arith, load-long (numbers top) (top .pre) (c .if1 .taken))
 
-part-given-end : tie.Need-part-given-end
-part-given-end c = search needs
+part-words-end : tie.Need-part-words-end
+part-words-end c = search needs
 
 load-requires : tie.Need-load-requires
 load-requires c κs = search needs
@@ -205,9 +207,9 @@ run-call-spec =
     tie.close
     (tie.spec
     shared-slice-read-if1
-    sub-given
-    part-given-start
-    part-given-end
+    sub-words
+    part-words-start
+    part-words-end
     load-requires
     same-length
     same-length-2
