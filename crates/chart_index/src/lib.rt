@@ -87,7 +87,7 @@ pub fn build_into(
     requires { ⌜ Roomy maxEntries (now keys) (now levels) (now items) ⌝ }
     ensures { λ r. ⌜ ListedIn maxEntries (entriesOf (tableOf (now (table .entry)) n)) r keys levels items ⌝ }
 {
-    if n > quadtree_build::SMALL_TABLE {
+    if n > quadtree_build::FEW_TRIANGLES {
         return list_all(table, n, keys, levels, items);
     }
     let m = list_few(table, n, keys, levels, items);
