@@ -80,7 +80,7 @@ pub fn entries_match(
     requires { ⌜ (m ≤ maxEntries) × Roomy m (now keys) (now levels) (now items) ⌝ }
     ensures { λ o. ⌜ o ≡ indexed (given table keys levels items n m) ⌝ }
 {
-    if n > quadtree_build::SMALL_TABLE {
+    if n > quadtree_build::FEW_TRIANGLES {
         return match_all(table, n, keys, levels, items, m);
     }
     if m <= quadtree_build::FEW_ENTRIES {

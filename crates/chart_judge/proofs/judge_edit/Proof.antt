@@ -31,9 +31,8 @@ entries-match-requires : tie.Need-entries-match-requires
 entries-match-requires c κs =
     let top : tie.Start = search needs in
     let lent = chart top in
-    let h = rule-drawn lent (fine c .0) (fine c .1) in
-    let l = searchable lent (fine c .0) (fine c .1) .0 in
-    (((h .few, h .room), h .oriented), ((ruled lent (fine c .1) .entries, l .forKeys), (l .forLevels, l .forItems)))
+    let s = fine c .0 in
+    let r = fine c .1 in (rule-drawn lent s r, (ruled lent r .entries, searchable lent s r .0))
 
 -- an earlier place, found from a later one
 abbrev enum-told-to-top : tie.After-enum-told → tie.Start

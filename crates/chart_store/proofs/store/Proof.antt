@@ -17,8 +17,7 @@ chart c =
 build-into-requires : tie.Need-build-into-requires
 build-into-requires c κs =
     let top : tie.Start = search needs in
-    let d = top .pre .0 in
-    let l = long-enough (chart top) (top .pre .1) .lists in (((d .few, d .room), d .oriented), (l .forKeys, (l .forLevels, l .forItems)))
+    (top .pre .0, long-enough (chart top) (top .pre .1) .lists)
 
 -- an earlier place, found from a later one
 abbrev build-into-to-top : tie.After-build-into → tie.Start
