@@ -182,3 +182,8 @@ chartWith-example = refl
 indexedChart-example : (c : Chart) → indexedChart c [] ≡ chartWith c [] (entry 0 0 65535 ∷ [])
 unfolding evaluate
 indexedChart-example c = refl
+
+-- over the chart of V, which has four cells, too: the cells of the table before it play no part
+indexedChart-over-example : indexedChart (quartered (65535 ∷ 65535 ∷ 0 ∷ 65535 ∷ 65535 ∷ 0 ∷ []) (0 ∷ 0 ∷ 0 ∷ 0 ∷ []) 4) [] .entryCount ≡ 1
+unfolding evaluate
+indexedChart-over-example = refl
