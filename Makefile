@@ -1,16 +1,47 @@
-# make test: the test command, which .ci/run calls. make run: the command program on document 01's example.
-# make bench: time per build beside hand-written engines.
-# make mutants: small wrong versions of the definitions, and which of them the proofs and examples accept; long, outside the gate.
-.PHONY: test run bench mutants
+# make alone prints the targets. Each target first tells what it needs and is not here.
+TARGETS := run test bench stack model map mutants
 
-test:
-	@bash tests/run.sh
+run.does := proves, builds and runs the command program on document 01's example
+run.needs := rt rustc python3
+run.takes := as long as the proofs that are not made yet; some 6 minutes for all
+run.by := bash tests/demo.sh
 
-run:
-	@bash tests/demo.sh
+test.does := the whole gate: proofs, must-fail edits, programs, reference model, definitions executed, pages; .ci/run calls it
+test.needs := rt rustc python3
+test.takes := some 20 minutes
+test.by := bash tests/run.sh
 
-bench:
-	@bash bench/run.sh
+bench.does := time per build beside hand-written engines in C, in one run, as ratios
+bench.needs := rt cc python3
+bench.takes := a minute, and the proofs of bench_build and what is below it that are not made yet
+bench.by := bash bench/run.sh
 
-mutants:
-	@python3 tests/mutants.py $(OPTIONS)
+stack.does := the stack that each public call uses, on small and on full tables
+stack.needs := rt cc python3
+stack.takes := a minute, and the proofs of the public calls that are not made yet
+stack.by := python3 tests/stack.py
+
+model.does := builds the reference model, runs its own tests and the stored command streams
+model.needs := rustc python3
+model.takes := half a minute
+model.by := bash tests/model.sh build && bash tests/model.sh test && python3 tests/log_cases.py target/model/model log
+
+map.does := writes docs/MAP.md, the storeys and what stands on what, from crates.txt and the texts of the crates
+map.needs := python3
+map.takes := a second
+map.by := python3 tests/map.py
+
+mutants.does := small wrong versions of the definitions, and which of them the proofs and examples accept; OPTIONS="--crates spec_plane"
+mutants.needs := rt rustc python3
+mutants.takes := hours for all, with progress; outside the gate
+mutants.by = python3 tests/mutants.py $(OPTIONS)
+
+.PHONY: help $(TARGETS)
+help:
+	$(info make TARGET, where TARGET is one of these (times on 2 cores):)
+	$(foreach t,$(TARGETS),$(info )$(info $t: $($t.does))$(info $()  needs $($t.needs); takes $($t.takes)))
+	@:
+
+$(TARGETS):
+	@bash tests/need.sh $@ $($@.needs)
+	@$($@.by)

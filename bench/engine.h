@@ -9,7 +9,7 @@ typedef struct { uint32_t *keys; uint8_t *levels; uint16_t *items; } Lists;
 
 enum { REFUSED = 16386 };
 
-/* Files a table of n triangles: the number of its entries, 16,385 where they are too many (the lists stay as they were), or
+/* Builds the entries of a table of n triangles: their number, 16,385 where they are too many (the lists stay as they were), or
    REFUSED for too many triangles or one with D <= 0. */
 size_t plain_build(const uint16_t *table, size_t n, Lists out);
 size_t culled_build(const uint16_t *table, size_t n, Lists out);

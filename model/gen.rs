@@ -417,8 +417,8 @@ impl Stream {
             }
             let rest = target - entries.len();
             let mut worth = vec![0usize; table.len()];
-            for e in entries.iter().filter(|e| e.tri != MARK) {
-                worth[e.tri as usize] += 1;
+            for e in entries.iter().filter(|e| e.item != MARK) {
+                worth[e.item as usize] += 1;
             }
             // Fewest copies for each sum, and the last one taken.
             let mut best: Vec<Option<(usize, usize)>> = vec![None; rest + 1];

@@ -10,12 +10,17 @@
 //!   model gen KIND SEED  random command stream; KIND is one of mesh, soup,
 //!                      touch, full, many, bad, edge; SEED is decimal
 //!
+//! The model's own tests draw streams by `gen`; no script does. The streams of
+//! tests/vectors are named by the same kinds and by seeds, but they came with
+//! their logs from another program: `gen` of that kind and seed draws another
+//! stream. The model reads them like every other (tests/log_cases.py).
+//!
 //! Script of `model calls`
 //!
 //! One command per line; words are separated by blanks; empty lines and lines
 //! that start with # are skipped. There are two charts, C is 0 or 1. BUF is
 //! one of
-//!   table0 keys0 levels0 tris0 table1 keys1 levels1 tris1 pairs
+//!   table0 keys0 levels0 items0 table1 keys1 levels1 items1 pairs
 //! with places of 16, 32, 8, 16 bits for a chart and 16 bits for pairs.
 //! At the start each buffer has its demanded length (3,072, 16,384, 16,384,
 //! 16,384, 8,192), all places are 0, and all counts are 0.
@@ -33,7 +38,7 @@
 //! counts they give back as the counts of the chart.
 //!   load C n1 n2 ...     load NUMBER REF N M HASH
 //!   split C t x y        split NUMBER REF N M HASH
-//!   takeout C x y        takeout NUMBER REF N M HASH
+//!   take_out C x y       take_out NUMBER REF N M HASH
 //!   flip C i j           flip NUMBER REF N M HASH
 //!   locate C x y         locate NUMBER TRIANGLE HASH     (or `nowhere`)
 //!   listing C x y        listing LENGTH t1 t2 ... HASH   (it has no number)
@@ -110,7 +115,7 @@ fn entries_text(input: &str) -> String {
         Ok((_, entries)) => {
             let mut out = format!("{}\n", entries.len());
             for e in entries {
-                out += &format!("{} {} {}\n", e.key, e.level, e.tri);
+                out += &format!("{} {} {}\n", e.key, e.level, e.item);
             }
             out
         }
@@ -133,7 +138,7 @@ struct Rest {
     table: Vec<u16>,
     keys: Vec<u32>,
     levels: Vec<u8>,
-    tris: Vec<u16>,
+    items: Vec<u16>,
 }
 
 fn hide(c: &mut Chart, lent: &[usize]) -> Rest {
@@ -141,7 +146,7 @@ fn hide(c: &mut Chart, lent: &[usize]) -> Rest {
         table: c.table.split_off(lent[0]),
         keys: c.keys.split_off(lent[1]),
         levels: c.levels.split_off(lent[2]),
-        tris: c.tris.split_off(lent[3]),
+        items: c.items.split_off(lent[3]),
     }
 }
 
@@ -149,12 +154,12 @@ fn show(c: &mut Chart, rest: Rest) {
     c.table.extend(rest.table);
     c.keys.extend(rest.keys);
     c.levels.extend(rest.levels);
-    c.tris.extend(rest.tris);
+    c.items.extend(rest.items);
 }
 
 /// The place of a buffer in the order above.
 fn buffer_number(name: &str) -> Option<usize> {
-    let names = ["table0", "keys0", "levels0", "tris0", "table1", "keys1", "levels1", "tris1", "pairs"];
+    let names = ["table0", "keys0", "levels0", "items0", "table1", "keys1", "levels1", "items1", "pairs"];
     names.iter().position(|n| *n == name)
 }
 
@@ -165,7 +170,7 @@ fn hash(b: &Bench) -> u64 {
         c.table.iter().for_each(|v| v.to_le_bytes().into_iter().for_each(&mut byte));
         c.keys.iter().for_each(|v| v.to_le_bytes().into_iter().for_each(&mut byte));
         c.levels.iter().for_each(|v| byte(*v));
-        c.tris.iter().for_each(|v| v.to_le_bytes().into_iter().for_each(&mut byte));
+        c.items.iter().for_each(|v| v.to_le_bytes().into_iter().for_each(&mut byte));
     }
     b.pairs.iter().for_each(|v| v.to_le_bytes().into_iter().for_each(&mut byte));
     h
@@ -178,7 +183,7 @@ fn checksum(before: u64, c: &Chart) -> u64 {
     c.table.iter().for_each(|v| place(*v as u64));
     c.keys.iter().for_each(|v| place(*v as u64));
     c.levels.iter().for_each(|v| place(*v as u64));
-    c.tris.iter().for_each(|v| place(*v as u64));
+    c.items.iter().for_each(|v| place(*v as u64));
     s
 }
 
@@ -246,7 +251,7 @@ impl Bench {
             "table" => Some(Buf::Mid(&mut chart.table)),
             "keys" => Some(Buf::Wide(&mut chart.keys)),
             "levels" => Some(Buf::Small(&mut chart.levels)),
-            "tris" => Some(Buf::Mid(&mut chart.tris)),
+            "items" => Some(Buf::Mid(&mut chart.items)),
             _ => None,
         }
     }
@@ -375,7 +380,7 @@ impl Bench {
                 let r = chart.split(num(2)?, pt(coord(3)?, coord(4)?));
                 edited(r, chart)
             }
-            "takeout" => {
+            "take_out" => {
                 exact(4)?;
                 let r = chart.take_out(pt(coord(2)?, coord(3)?));
                 edited(r, chart)

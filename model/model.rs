@@ -237,7 +237,7 @@ pub fn triangle_meets(t: &Tri, sq: &Square) -> bool {
 pub struct Entry {
     pub key: u32,
     pub level: u8,
-    pub tri: u16,
+    pub item: u16,
 }
 
 /// Is some point an end of every one of these sides?
@@ -257,10 +257,10 @@ fn gather(sq: &Square, sides: &[[Point; 2]], tris: &[(u16, Tri)], out: &mut Vec<
     if sq.level == LAST_LEVEL || have_common_end(&sides) {
         let (key, level) = (sq.key(), sq.level);
         if tris.is_empty() {
-            out.push(Entry { key, level, tri: MARK });
+            out.push(Entry { key, level, item: MARK });
         }
-        for (tri, _) in tris {
-            out.push(Entry { key, level, tri });
+        for (item, _) in tris {
+            out.push(Entry { key, level, item });
         }
         return out.len() <= ENTRY_LEN;
     }
@@ -398,7 +398,7 @@ pub struct Chart {
     pub table: Vec<u16>,
     pub keys: Vec<u32>,
     pub levels: Vec<u8>,
-    pub tris: Vec<u16>,
+    pub items: Vec<u16>,
     pub n: u64,
     pub m: u64,
 }
@@ -409,7 +409,7 @@ impl Chart {
             table: vec![0; TABLE_LEN],
             keys: vec![0; ENTRY_LEN],
             levels: vec![0; ENTRY_LEN],
-            tris: vec![0; ENTRY_LEN],
+            items: vec![0; ENTRY_LEN],
             n: 0,
             m: 0,
         }
@@ -419,7 +419,7 @@ impl Chart {
         self.table.len() < TABLE_LEN
             || self.keys.len() < ENTRY_LEN
             || self.levels.len() < ENTRY_LEN
-            || self.tris.len() < ENTRY_LEN
+            || self.items.len() < ENTRY_LEN
     }
 
     /// The used triangles; only when the count is at most 512.
@@ -430,7 +430,7 @@ impl Chart {
     /// The used entries; only when the count is at most 16,384.
     pub fn used_entries(&self) -> Vec<Entry> {
         (0..self.m as usize)
-            .map(|i| Entry { key: self.keys[i], level: self.levels[i], tri: self.tris[i] })
+            .map(|i| Entry { key: self.keys[i], level: self.levels[i], item: self.items[i] })
             .collect()
     }
 
@@ -455,7 +455,7 @@ impl Chart {
         }
         let same_cell = |p: &Entry, q: &Entry| p.key == q.key && p.level == q.level;
         for w in e.windows(2) {
-            let stays = same_cell(&w[0], &w[1]) && w[1].tri > w[0].tri;
+            let stays = same_cell(&w[0], &w[1]) && w[1].item > w[0].item;
             let follows = w[1].key as u64 == end(&w[0]);
             if !stays && !follows {
                 return false;
@@ -464,7 +464,7 @@ impl Chart {
         (0..e.len()).all(|i| {
             let alone = (i == 0 || !same_cell(&e[i - 1], &e[i]))
                 && (i + 1 == e.len() || !same_cell(&e[i + 1], &e[i]));
-            (e[i].tri as u64) < self.n || (e[i].tri == MARK && alone)
+            (e[i].item as u64) < self.n || (e[i].item == MARK && alone)
         })
     }
 
@@ -485,16 +485,16 @@ impl Chart {
     }
 
     /// Writes all four lists in full length and sets the counts.
-    fn file(&mut self, table: &[Tri], entries: &[Entry]) {
+    fn store(&mut self, table: &[Tri], entries: &[Entry]) {
         let numbers: Vec<u16> = table.iter().flat_map(numbers_of_tri).collect();
         for i in 0..TABLE_LEN {
             self.table[i] = numbers.get(i).copied().unwrap_or(0);
         }
         for i in 0..ENTRY_LEN {
-            let e = entries.get(i).copied().unwrap_or(Entry { key: 0, level: 0, tri: 0 });
+            let e = entries.get(i).copied().unwrap_or(Entry { key: 0, level: 0, item: 0 });
             self.keys[i] = e.key;
             self.levels[i] = e.level;
-            self.tris[i] = e.tri;
+            self.items[i] = e.item;
         }
         self.n = table.len() as u64;
         self.m = entries.len() as u64;
@@ -503,7 +503,7 @@ impl Chart {
     fn finish(&mut self, o: Outcome) -> Refusal {
         match o {
             Ok((table, entries)) => {
-                self.file(&table, &entries);
+                self.store(&table, &entries);
                 no(0)
             }
             Err(r) => r,
@@ -554,7 +554,7 @@ impl Chart {
         self.used_entries()
             .iter()
             .filter(|e| e.key as u64 <= key && key < e.key as u64 + keys_of_level(e.level))
-            .map(|e| e.tri)
+            .map(|e| e.item)
             .filter(|&t| t != MARK)
             .collect()
     }
@@ -594,23 +594,23 @@ impl Chart {
 pub struct Cell {
     pub start: u64,
     pub end: u64,
-    pub tris: Vec<u16>,
+    pub items: Vec<u16>,
 }
 
 pub fn cells_of(entries: &[Entry]) -> Vec<Cell> {
     let mut cells: std::collections::BTreeMap<(u32, u8), Vec<u16>> = Default::default();
     for e in entries {
         let list = cells.entry((e.key, e.level)).or_default();
-        if e.tri != MARK {
-            list.push(e.tri);
+        if e.item != MARK {
+            list.push(e.item);
         }
     }
     cells
         .into_iter()
-        .map(|((key, level), tris)| Cell {
+        .map(|((key, level), items)| Cell {
             start: key as u64,
             end: key as u64 + keys_of_level(level),
-            tris,
+            items,
         })
         .collect()
 }
@@ -640,8 +640,8 @@ pub fn list_pairs(ta: &[Tri], ca: &[Cell], tb: &[Tri], cb: &[Cell]) -> Vec<(u16,
         // cb is sorted by key and its ranges do not overlap one another.
         let from = cb.partition_point(|b| b.end <= a.start);
         for b in cb[from..].iter().take_while(|b| b.start < a.end) {
-            for &i in &a.tris {
-                for &j in &b.tris {
+            for &i in &a.items {
+                for &j in &b.items {
                     near[i as usize][j as usize] = true;
                 }
             }

@@ -20,7 +20,7 @@ fn loaded(numbers: &[u16]) -> Chart {
 }
 
 fn list(c: &Chart) -> Vec<(u32, u8, u16)> {
-    c.used_entries().iter().map(|e| (e.key, e.level, e.tri)).collect()
+    c.used_entries().iter().map(|e| (e.key, e.level, e.item)).collect()
 }
 
 fn numbers(c: &Chart) -> Vec<u16> {
@@ -63,7 +63,7 @@ fn case_4() {
 #[test]
 fn case_5() {
     let (u, both) = (loaded(&U), loaded(&uv()));
-    let sizes: Vec<usize> = cells_of(&both.used_entries()).iter().map(|c| c.tris.len()).collect();
+    let sizes: Vec<usize> = cells_of(&both.used_entries()).iter().map(|c| c.items.len()).collect();
     assert_eq!(sizes, [1, 1, 1, 2, 2, 2, 1]);
     let ranges = |c: &Chart| cells_of(&c.used_entries()).iter().map(|c| (c.start, c.end)).collect::<Vec<_>>();
     assert_eq!(ranges(&u), ranges(&both));
@@ -143,8 +143,8 @@ fn said(script: &str) -> Vec<String> {
 fn filed_or_not() {
     // 5.1: table U with the mark alone passes 2 but not 3.
     let got = said(
-        "load 0 0 0 65535 0 0 65535\nset keys0 0 0\nset levels0 0 0\nset tris0 0 65535\ncounts 0 1 1\n\
-         locate 0 5 5\noverlay 0 0\nlisting 0 5 5\nsplit 0 0 5 5\ntakeout 0 5 5\nflip 0 0 0\nsound 0\narea 0",
+        "load 0 0 0 65535 0 0 65535\nset keys0 0 0\nset levels0 0 0\nset items0 0 65535\ncounts 0 1 1\n\
+         locate 0 5 5\noverlay 0 0\nlisting 0 5 5\nsplit 0 0 5 5\ntake_out 0 5 5\nflip 0 0 0\nsound 0\narea 0",
     );
     assert_eq!(
         got,
@@ -154,7 +154,7 @@ fn filed_or_not() {
             "overlay 0 0 1",
             "listing 0",
             "split 3 0 1 1",
-            "takeout 3 0 1 1",
+            "take_out 3 0 1 1",
             "flip 3 0 1 1",
             "sound 0 yes",
             "area 0 4294836225"
@@ -170,9 +170,9 @@ fn behind_the_counts() {
     cells_bare(&Square::WHOLE, &[[a, b, p], [b, c, p], [c, a, p]], &mut bare);
     let split = format!("split 0 0 3 {}", bare.len());
     let got = said(
-        "len table0 3080 7\nlen pairs 8200 5\nlen keys0 16390 6\nfill keys0 77\nfill levels0 99\nfill tris0 3\nfill table0 8\n\
+        "len table0 3080 7\nlen pairs 8200 5\nlen keys0 16390 6\nfill keys0 77\nfill levels0 99\nfill items0 3\nfill table0 8\n\
          load 0 0 0 65535 0 0 65535\ndump table0 5 8\ndump table0 3071 3073\ndump keys0 6 8\ndump keys0 16383 16385\n\
-         set table0 9 500\nset levels0 7 200\nset tris0 7 1\nlocate 0 1 1\nsplit 0 0 1 1\ndump table0 16 20\ntakeout 0 1 1\n\
+         set table0 9 500\nset levels0 7 200\nset items0 7 1\nlocate 0 1 1\nsplit 0 0 1 1\ndump table0 16 20\ntake_out 0 1 1\n\
          dump levels0 0 9\n\
          counts 0 2 7\narea 0\ncounts 0 0 7\narea 0\ncounts 0 1 6\narea 0\ncounts 0 1 8\narea 0\ncounts 0 1 0\nlocate 0 0 0\n\
          counts 0 1 16385\nsound 0\ncounts 0 513 7\nlisting 0 0 0\noverlay 0 0\ncounts 0 1 7\nset pairs 3 9\noverlay 0 0\n\
@@ -189,7 +189,7 @@ fn behind_the_counts() {
             "locate 0 0",
             split.as_str(),
             "dump table0 3080 1 1 0 0",
-            "takeout 0 0 1 7",
+            "take_out 0 0 1 7",
             "dump levels0 16384 2 2 2 2 1 1 1 0 0",
             "area 2 0",
             "area 2 0",
@@ -210,14 +210,14 @@ fn behind_the_counts() {
 
 #[test]
 fn short_buffers() {
-    for buf in ["table", "keys", "levels", "tris"] {
+    for buf in ["table", "keys", "levels", "items"] {
         let n = if buf == "table" { 3071 } else { 16383 };
         let got = said(&format!(
-            "counts 0 4 5\nload 1\nlen {buf}0 {n}\nload 0 1 2 3\nsplit 0 0 0 0\ntakeout 0 0 0\nflip 0 0 0\nlocate 0 0 0\n\
+            "counts 0 4 5\nload 1\nlen {buf}0 {n}\nload 0 1 2 3\nsplit 0 0 0 0\ntake_out 0 0 0\nflip 0 0 0\nlocate 0 0 0\n\
              listing 0 0 0\nsound 0\narea 0\noverlay 0 1\noverlay 1 0\noverlay 1 1"
         ));
         let want = [
-            "load 0 0 0 1", "load 1 0 4 5", "split 1 0 4 5", "takeout 1 0 4 5", "flip 1 0 4 5", "locate 1 nowhere",
+            "load 0 0 0 1", "load 1 0 4 5", "split 1 0 4 5", "take_out 1 0 4 5", "flip 1 0 4 5", "locate 1 nowhere",
             "listing 0", "sound 1 no", "area 1 0", "overlay 1 0 0", "overlay 1 0 0", "overlay 0 0 1",
         ];
         assert_eq!(got, want);
@@ -239,19 +239,19 @@ fn chain_faults() {
     let good = loaded(&uv());
     assert!(good.chain_holds() && good.is_filed());
     let mut c = good.clone();
-    c.tris[0] = MARK; // alone in its cell: allowed by 2
+    c.items[0] = MARK; // alone in its cell: allowed by 2
     assert!(c.chain_holds() && !c.is_filed());
     let mut c = good.clone();
-    c.tris[4] = MARK; // second of its cell
+    c.items[4] = MARK; // second of its cell
     assert!(!c.chain_holds());
     let mut c = good.clone();
-    c.tris.swap(3, 4);
+    c.items.swap(3, 4);
     assert!(!c.chain_holds());
     let mut c = good.clone();
-    c.tris[4] = 0;
+    c.items[4] = 0;
     assert!(!c.chain_holds());
     let mut c = good.clone();
-    c.tris[9] = 2;
+    c.items[9] = 2;
     assert!(!c.chain_holds());
     let mut c = good.clone();
     c.levels[9] = 17;
@@ -271,7 +271,7 @@ fn chain_faults() {
     for i in 0..4 {
         c.keys[i] = 4 * Q * i as u32;
         c.levels[i] = 1;
-        c.tris[i] = MARK;
+        c.items[i] = MARK;
     }
     assert!(c.chain_holds() && !c.is_filed());
     // 5.2: a table with too many entries of its own gives 3.
@@ -308,7 +308,7 @@ fn chain_by_cells(c: &Chart) -> bool {
         let group: Vec<u64> = e[i..]
             .iter()
             .take_while(|f| f.key == e[i].key && f.level == e[i].level)
-            .map(|f| f.tri as u64)
+            .map(|f| f.item as u64)
             .collect();
         let numbered = group.iter().all(|t| *t < c.n) && group.windows(2).all(|w| w[0] < w[1]);
         if !numbered && group != [65_535] {
@@ -331,24 +331,24 @@ fn damaged_chains() {
             match r.below(7) {
                 0 => c.keys[i] = Q.wrapping_mul(r.below(16) as u32).wrapping_add(r.pick(&[0, 0, 0, 1, 4])),
                 1 => c.levels[i] = r.pick(&[0, 1, 2, 3, 16, 17, 255]),
-                2 => c.tris[i] = r.pick(&[0, 1, 2, MARK]),
+                2 => c.items[i] = r.pick(&[0, 1, 2, MARK]),
                 3 => c.n = r.pick(&[0, 1, 2, 512, 513, u64::MAX]),
                 4 => c.m = r.pick(&[0, 1, 7, 10, 16_384, 16_385, u64::MAX]),
                 5 => c.table[r.below(12) as usize] = r.pick(&[0, 7, 65_535]),
                 _ => {
                     // Four quarters in place of an entry.
                     if c.m < 10 && i < c.m as usize && c.levels[i] < 16 {
-                        let (key, level, tri) = (c.keys[i], c.levels[i] + 1, c.tris[i]);
+                        let (key, level, tri) = (c.keys[i], c.levels[i] + 1, c.items[i]);
                         for k in (i + 1..c.m as usize).rev() {
                             c.keys[k + 3] = c.keys[k];
                             c.levels[k + 3] = c.levels[k];
-                            c.tris[k + 3] = c.tris[k];
+                            c.items[k + 3] = c.items[k];
                         }
                         for k in 0..4 {
                             let step = 4u64.pow(16 - level.min(16) as u32) * k as u64;
                             c.keys[i + k] = key.wrapping_add(step as u32);
                             c.levels[i + k] = level;
-                            c.tris[i + k] = tri;
+                            c.items[i + k] = tri;
                         }
                         c.m += 3;
                     }
@@ -481,9 +481,9 @@ fn cells_bare(sq: &Square, table: &[Tri], out: &mut Vec<Entry>) {
     if sq.level == 16 || common {
         let met: Vec<usize> = (0..table.len()).filter(|&i| triangle_meets(&table[i], sq)).collect();
         if met.is_empty() {
-            out.push(Entry { key: sq.key(), level: sq.level, tri: MARK });
+            out.push(Entry { key: sq.key(), level: sq.level, item: MARK });
         }
-        out.extend(met.iter().map(|&i| Entry { key: sq.key(), level: sq.level, tri: i as u16 }));
+        out.extend(met.iter().map(|&i| Entry { key: sq.key(), level: sq.level, item: i as u16 }));
     } else {
         sq.quarters().iter().for_each(|q| cells_bare(q, table, out));
     }
@@ -506,7 +506,7 @@ fn entries_and_reading() {
         assert!(c.chain_holds() && c.is_filed());
         for _ in 0..40 {
             let (x, y) = (r.below(span) as u16, r.below(span) as u16);
-            // 5.7: in a filed chart, the lowest holder of the whole table.
+            // 5.7: in an indexed chart, the lowest holder of the whole table.
             let holder = table.iter().position(|t| holds(t, pt(x, y))).map(|i| i as u16);
             assert_eq!(c.locate(x, y), (0, holder));
         }
@@ -537,8 +537,8 @@ fn meetings_and_pairs() {
             for b in &cb {
                 if a.start.max(b.start) < a.end.min(b.end) {
                     meetings += 1;
-                    for i in &a.tris {
-                        near.extend(b.tris.iter().map(|j| (*i, *j)));
+                    for i in &a.items {
+                        near.extend(b.items.iter().map(|j| (*i, *j)));
                     }
                 }
             }
@@ -547,7 +547,7 @@ fn meetings_and_pairs() {
         let want: Vec<(u16, u16)> =
             near.into_iter().filter(|p| share_by_lines(&ta[p.0 as usize], &tb[p.1 as usize])).collect();
         assert_eq!(list_pairs(&ta, &ca, &tb, &cb), want);
-        // In filed charts the cells lose no pair.
+        // In indexed charts the cells lose no pair.
         let all: usize = ta.iter().map(|s| tb.iter().filter(|t| share_by_lines(s, t)).count()).sum();
         assert_eq!(all, want.len());
     }

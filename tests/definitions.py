@@ -15,28 +15,26 @@ import collections
 import os
 import random
 import re
-import shutil
 import subprocess
 import sys
 
-ROOT = os.path.dirname(os.path.dirname(os.path.abspath(__file__)))
-MODEL = os.path.join(ROOT, "target", "model", "model")
+import crates
+import engines
+import streams
+from engines import ROOT
+from tables import corners, drawn, entries_of, inside, orientation, sides_shared, turned
+
 SCRATCH = os.path.join(ROOT, "target", "definitions")
 TRIALS = ["trial", "trial_worked"]  # the crates of the cases, checked side by side: the worked streams take as long as all others
-CRATES = ["theory_lists", "spec_plane", "laws_separation", "theory_orthtree", "spec_squares", "spec_charts", "spec_calls", "spec_log"]
-
-
-def model(mode, data):
-    return subprocess.run([MODEL, mode], input=data, stdout=subprocess.PIPE, check=True).stdout
 
 
 def numbers(values):
     return "(" + "".join(f"{v} ∷ " for v in values) + "[])"
 
 
-def orientation(t):
-    ax, ay, bx, by, cx, cy = t
-    return (bx - ax) * (cy - ay) - (by - ay) * (cx - ax)
+def flat(ts):
+    """The numbers of a table, or of entries."""
+    return [v for t in ts for v in t]
 
 
 # ---- what is drawn
@@ -50,21 +48,18 @@ def coordinate(rng, kind):
     return rng.randint(0, 65535)
 
 
+def drawn_point(rng, kind):
+    return (coordinate(rng, kind), coordinate(rng, kind))
+
+
 def triangle(rng, kind):
-    while True:
-        t = [coordinate(rng, kind) for _ in range(6)]
-        d = orientation(t)
-        if d < 0:
-            t = t[2:4] + t[0:2] + t[4:6]
-        if d != 0:
-            return t
+    return drawn(lambda: [drawn_point(rng, kind) for _ in "abc"])
 
 
-def entries_of(ts):
-    """Key, level and triangle of each entry of the table; none above 16,384."""
-    text = "".join(" ".join(map(str, t)) + "\n" for t in ts)
-    lines = model("entries", text.encode()).decode().split("\n")
-    return [int(w) for l in lines[1:] for w in l.split()] if lines[0].isdigit() else None
+def few(ts, entries):
+    """The entries of a table that has at most so many; else nothing."""
+    found = entries_of(ts)
+    return found if found is not None and len(found) <= entries else None
 
 
 def table(rng, most, entries):
@@ -73,19 +68,10 @@ def table(rng, most, entries):
         kind = rng.choice(["coarse", "coarse", "any", "fine"])
         ts = [triangle(rng, kind) for _ in range(rng.randint(1, most))]
         if rng.random() < 0.2:
-            ts.append(list(rng.choice(ts)))
-        found = entries_of(ts)
-        if found is not None and len(found) <= 3 * entries:
+            ts.append(rng.choice(ts))
+        found = few(ts, entries)
+        if found is not None:
             return ts, found
-
-
-def rotated(t, k):
-    return t[2 * k :] + t[: 2 * k]
-
-
-def strictly_inside(t, p):
-    corners = [t[0:2], t[2:4], t[4:6]]
-    return all(orientation(corners[k] + corners[(k + 1) % 3] + p) > 0 for k in range(3))
 
 
 def around(rng, kind):
@@ -93,16 +79,16 @@ def around(rng, kind):
     while True:
         t = triangle(rng, kind)
         w = [rng.randint(1, 5) for _ in range(3)]
-        p = [sum(w[k] * t[2 * k + c] for k in range(3)) // sum(w) for c in (0, 1)]
-        if strictly_inside(t, p):
+        p = tuple(sum(w[k] * t[2 * k + c] for k in range(3)) // sum(w) for c in (0, 1))
+        if inside(t, p):
             return p, [t[0:4] + p, t[2:6] + p, t[4:6] + t[0:2] + p]
 
 
 def sharing(rng, kind):
     """Two triangles (a,b,c) and (b,a,d) that can be flipped."""
     while True:
-        t, d = triangle(rng, kind), [coordinate(rng, kind), coordinate(rng, kind)]
-        a, b, c = t[0:2], t[2:4], t[4:6]
+        t, d = triangle(rng, kind), drawn_point(rng, kind)
+        a, b, c = corners(t)
         if orientation(b + a + d) > 0 and orientation(a + d + c) > 0 and orientation(d + b + c) > 0:
             return t, b + a + d
 
@@ -114,29 +100,25 @@ def mesh(rng, entries):
         kind = rng.choice(["coarse", "any"])
         p, three = around(rng, kind)
         two = list(sharing(rng, kind))
-        ts = [(rotated(t, rng.randrange(3)), k) for k, t in enumerate(three + two)]
+        ts = [(turned(t, rng.randrange(3)), k) for k, t in enumerate(three + two)]
         rng.shuffle(ts)
-        found = entries_of([t for t, _ in ts])
-        if found is not None and len(found) <= 3 * entries:
+        found = few([t for t, _ in ts], entries)
+        if found is not None:
             places = {k: n for n, (_, k) in enumerate(ts)}
             return [t for t, _ in ts], p, [places[3], places[4]], found
 
 
-def words(values):
-    return b"".join(v.to_bytes(2, "little") for v in values)
-
-
 def point(rng, ts):
     """A point that is often a corner, on a side or strictly inside a triangle of the table."""
-    t = rng.choice(ts) if ts else [0, 0, 9, 0, 0, 9]
+    t = rng.choice(ts) if ts else (0, 0, 9, 0, 0, 9)
     x, y = t[0::2], t[1::2]
     i, j = rng.randrange(3), rng.randrange(3)
     return rng.choice(
         [
-            [x[i], y[i]],
-            [(x[i] + x[j]) // 2, (y[i] + y[j]) // 2],
-            [sum(x) // 3, sum(y) // 3],
-            [rng.randint(0, 65535), rng.randint(0, 65535)],
+            (x[i], y[i]),
+            ((x[i] + x[j]) // 2, (y[i] + y[j]) // 2),
+            (sum(x) // 3, sum(y) // 3),
+            (rng.randint(0, 65535), rng.randint(0, 65535)),
         ]
     )
 
@@ -147,23 +129,22 @@ def stream(rng):
     for c in (0, 1):
         ts, _ = table(rng, 2, 30)
         if rng.random() < 0.15:
-            bad = [5, 5] + triangle(rng, "any")[2:4] + [5, 5]
-            ts = ts + [bad]
+            ts = ts + [(5, 5) + triangle(rng, "any")[2:4] + (5, 5)]
         charts.append(ts)
-        out += b"".join(b"\x01" + words(t) for t in ts) + bytes([2, c])
+        out += b"".join(b"\x01" + streams.words(t) for t in ts) + bytes([2, c])
     for _ in range(rng.randint(1, 3)):
         c = rng.randrange(2)
         code = rng.choice([3, 3, 4, 5, 6, 6])
         p = point(rng, charts[c])
         number = lambda: rng.randrange(len(charts[c]) + 2)
         if code == 3:
-            out += bytes([3, c]) + words([number()] + p)
+            out += bytes([3, c]) + streams.words((number(), *p))
             if rng.random() < 0.6:
-                out += bytes([4, c]) + words(p)
+                out += bytes([4, c]) + streams.words(p)
         elif code == 5:
-            out += bytes([5, c]) + words([number(), number()])
+            out += bytes([5, c]) + streams.words([number(), number()])
         else:
-            out += bytes([code, c]) + words(p)
+            out += bytes([code, c]) + streams.words(p)
     out += b"\x07"
     if rng.random() < 0.3:
         out += rng.choice([b"\x08", b"\x00", b"\x02\x02", b"\x03\x00\x01", b"\x01\x05", b"\x06\x01\x01\x01\x01"])
@@ -178,100 +159,92 @@ def entries_case(rng):
     given = "".join(
         f"triangle (at {t[0]} {t[1]}) (at {t[2]} {t[3]}) (at {t[4]} {t[5]}) ∷ " for t in ts
     )
-    return f"entryNumbers (entriesOf ({given}[]))", numbers(found)
+    return f"entryNumbers (entriesOf ({given}[]))", numbers(flat(found))
 
 
 def log_case(rng):
     data = stream(rng)
-    return f"logOf {numbers(data)}", numbers(model("log", data))
+    return f"logOf {numbers(data)}", numbers(engines.run([engines.MODEL, "log"], data).encode())
 
 
 DAMAGE = ["none", "none", "level", "key", "item", "mark", "count", "triangles", "short", "table", "swap", "behind"]
+LISTS = ("table", "keys", "levels", "items")
 met = collections.Counter()  # what the cases meet
 
 
 def calls_of(script):
     """The lines that the model prints for a script of calls, as words, without the hash."""
-    lines = model("calls", "\n".join(script).encode() + b"\n").decode().split("\n")
-    return [l.split()[: None if l.startswith("dump") else -1] for l in lines if l]
-
-
-def corner_of(t, p):
-    return [t[0:2], t[2:4], t[4:6]].index(p)
-
-
-def side_of(t, u):
-    """Which side of t is a side of u the other way round: 0 for ab, 1 for bc, 2 for ca."""
-    ends = lambda t: [(t[0:2], t[2:4]), (t[2:4], t[4:6]), (t[4:6], t[0:2])]
-    return next(k for k, (p, q) in enumerate(ends(t)) if (q, p) in ends(u))
+    lines = engines.model_lines("calls", "\n".join(script) + "\n")
+    return [l.split()[: None if l.startswith("dump") else -1] for l in lines]
 
 
 def noted(ts, event, number):
     """Counts what an event on the table meets."""
-    met[f"{event[0]} {number}"] += 1
-    if event[0] == "takeout" and number == 0:
+    what, *operands = event
+    met[f"{what} {number}"] += 1
+    if what == "take_out" and number == 0:
+        p = tuple(operands)
         for t in ts:
-            if event[1:] in (t[0:2], t[2:4], t[4:6]):
-                met[f"take-out at corner {'abc'[corner_of(t, event[1:])]}"] += 1
-    if event[0] == "flip" and number == 0:
-        t, u = ts[event[1]], ts[event[2]]
-        met[f"flip of sides {side_of(t, u)} {side_of(u, t)}" + (" back" if event[1] > event[2] else "")] += 1
+            if p in corners(t):
+                met[f"take-out at corner {'abc'[corners(t).index(p)]}"] += 1
+    if what == "flip" and number == 0:
+        i, j = operands
+        k, l = sides_shared(ts[i], ts[j])
+        met[f"flip of sides {k} {l}" + (" back" if i > j else "")] += 1
 
 
 def event_fact(ts, event):
     """The event on the plain table: refused with number and value, or the whole new table."""
-    flat = [v for t in ts for v in t]
-    plain = " ".join(map(str, event[1:]))
-    loaded, done, dump = calls_of([f"load 0 {' '.join(map(str, flat))}", f"{event[0]} {0} {plain}", "dump table0 0 3072"])
+    what, *e = event
+    plain = " ".join(map(str, e))
+    loaded, done, dump = calls_of([f"load 0 {' '.join(map(str, flat(ts)))}", f"{what} 0 {plain}", "dump table0 0 3072"])
     assert loaded[1] == "0", ts
     number, value, n = int(done[1]), int(done[2]), int(done[3])
     noted(ts, event, number)
     want = [0] + [int(v) for v in dump[3 : 3 + 6 * n]] if number == 0 else [number, value]
-    e = event[1:]
     written = {
         "load": lambda: f"load {numbers(e)}",
         "split": lambda: f"split {e[0]} (at {e[1]} {e[2]})",
-        "takeout": lambda: f"takeOut (at {e[0]} {e[1]})",
+        "take_out": lambda: f"takeOut (at {e[0]} {e[1]})",
         "flip": lambda: f"flip {e[0]} {e[1]}",
-    }[event[0]]()
-    return f"outcomeNumbers (eventOn ({written}) (givenTable {numbers(flat)}))", numbers(want)
+    }[what]()
+    return f"outcomeNumbers (eventOn ({written}) (givenTable {numbers(flat(ts))}))", numbers(want)
 
 
 def event_case(rng):
     ts, p, two, _ = mesh(rng, 60)
     i, j = rng.sample(two, 2) if rng.random() < 0.6 else (rng.randrange(6), rng.randrange(6))
     t = rng.randrange(6)
-    other = [v for t in (triangle(rng, "any"), triangle(rng, "any")) for v in t]
+    other = flat([triangle(rng, "any"), triangle(rng, "any")])
     if rng.random() < 0.5:
         other = rng.choice([other[:-1], other[:6] + other[8:10] + other[6:8] + other[10:]])
-    return event_fact(ts, rng.choice([["takeout"] + p, ["takeout"] + point(rng, ts), ["flip", i, j], ["split", t] + point(rng, ts), ["load"] + other]))
+    take_outs = [("take_out", *p), ("take_out", *point(rng, ts))]
+    return event_fact(ts, rng.choice([*take_outs, ("flip", i, j), ("split", t, *point(rng, ts)), ("load", *other)]))
 
 
 def fixed_events(rng):
     """Take-outs with the point at each corner of each of the three triangles, flips in the nine pairs of rotations, both ways,
     on a table of few entries."""
-    few = lambda ts: (found := entries_of(ts)) is not None and len(found) <= 3 * 60
     while True:
         (p, three), rest = around(rng, "coarse"), [triangle(rng, "coarse"), triangle(rng, "coarse")]
-        if few(three + rest):
+        if few(three + rest, 60) is not None:
             break
     while True:
         two = list(sharing(rng, "coarse"))
-        if few(rest[:1] + two):
+        if few(rest[:1] + two, 60) is not None:
             break
     for k in range(3):
-        turned = [rotated(t, (k + n) % 3) for n, t in enumerate(three)]
-        rng.shuffle(turned)
-        yield event_fact(rest[:1] + turned[:2] + rest[1:] + turned[2:], ["takeout"] + p)
+        three_turned = [turned(t, (k + n) % 3) for n, t in enumerate(three)]
+        rng.shuffle(three_turned)
+        yield event_fact(rest[:1] + three_turned[:2] + rest[1:] + three_turned[2:], ("take_out", *p))
     for k in range(3):
         for l in range(3):
-            ts = [rest[0], rotated(two[0], k), rotated(two[1], l)]
-            yield event_fact(ts, ["flip", 1, 2])
-            yield event_fact(ts, ["flip", 2, 1])
+            ts = [rest[0], turned(two[0], k), turned(two[1], l)]
+            yield event_fact(ts, ("flip", 1, 2))
+            yield event_fact(ts, ("flip", 2, 1))
 
 
 def overlay_fact(ss, ts):
-    flat = lambda ts: [v for t in ts for v in t]
     loads = [f"load {c} {' '.join(map(str, flat(x)))}" for c, x in ((0, ss), (1, ts))]
     _, _, done, dump = calls_of(loads + ["overlay 0 1", "dump pairs 0 8192"])
     count = int(done[2])
@@ -285,95 +258,94 @@ def overlay_case(rng):
     return overlay_fact(table(rng, 3, 40)[0], table(rng, 3, 40)[0])
 
 
+class Buffers:
+    """The buffers of a chart that has the entries of its table: what is used of them, their lengths with that of the pairs, what
+    unused places hold, and the counts."""
+
+    def __init__(self, ts, entries):
+        self.used = dict(zip(LISTS, (flat(ts), *map(list, zip(*entries)))))
+        self.length = {"table": 3072, "keys": 16384, "levels": 16384, "items": 16384, "pairs": 8192}
+        self.pad, self.triangles, self.entries = 0, len(ts), len(entries)
+
+    def damage(self, rng):
+        """Damages them at random, in one way or in none; tells whether it did."""
+        table, keys, levels, items = self.used.values()
+        i, n = rng.randrange(self.entries), self.entries
+        how = rng.choice(DAMAGE)
+        if how == "level":
+            levels[i] = rng.choice([17, levels[i] + 1, max(0, levels[i] - 1), 255])
+        elif how == "key":
+            keys[i] = rng.choice([keys[i] + 1, keys[(i + 1) % n], 0, 2**32 - 1])
+        elif how == "item":
+            items[i] = rng.choice([self.triangles, 0, 512, max(0, items[i] - 1)])
+        elif how == "mark":
+            items[i] = 65535
+        elif how == "count":
+            self.entries = rng.choice([0, n - 1, n + 1, 16385])
+        elif how == "triangles":
+            self.triangles = rng.choice([0, self.triangles - 1, self.triangles + 1, 513])
+        elif how == "short":
+            self.length[rng.choice(["keys", "levels", "pairs", "table", "items"])] -= 1
+        elif how == "table":
+            table[rng.randrange(len(table))] = rng.randint(0, 65535)
+        elif how == "swap" and n > 1:
+            items[i], items[(i + 1) % n] = items[(i + 1) % n], items[i]
+        elif how == "behind":
+            self.pad = 7
+        return how not in ("none", "behind")
+
+    def script(self, c):
+        """The model's commands that make them chart c."""
+        for b, used in self.used.items():
+            yield from (f"len {b}{c} 0", f"len {b}{c} {self.length[b]} {self.pad}", f"set {b}{c} 0 " + " ".join(map(str, used)))
+        yield f"counts {c} {self.triangles} {self.entries}"
+
+    def written(self):
+        """They as the cases write them."""
+        sizes, lists = " ".join(str(self.length[b]) for b in LISTS), " ".join(map(numbers, self.used.values()))
+        return f"(chart {self.pad} {sizes} {lists} {self.triangles} {self.entries})"
+
+
+def answered(lines):
+    """The numbers of the answers and dumps that the model prints."""
+    for what, *rest in lines:
+        if what == "locate":
+            yield from [int(rest[0])] + ([0] if rest[1] == "nowhere" else [1, int(rest[1])])
+        elif what == "listing":
+            yield from map(int, rest[1 : 1 + int(rest[0])])
+        elif what == "sound":
+            yield from (int(rest[0]), int(rest[1] == "yes"))
+        elif what == "dump":
+            yield from map(int, rest[2:])
+        else:
+            yield from map(int, rest)
+            met[f"call {what} {rest[0]}"] += 1
+
+
 def calls_case(rng):
     """Every public call on the buffers of two charts, the first often damaged; numbers, values, counts and the lists as far as
     they are used."""
-    ts, p, two, es = mesh(rng, 40)
-    us, fs = table(rng, 2, 24)
-    keys, levels, items = es[0::3], es[1::3], es[2::3]
-    flat = [v for t in ts for v in t]
-    count, n = len(ts), len(keys)
-    length = {"table": 3072, "keys": 16384, "levels": 16384, "tris": 16384, "pairs": 8192}
-    pad = 0
-    i = rng.randrange(n)
-    damage = rng.choice(DAMAGE)
-    if damage == "level":
-        levels[i] = rng.choice([17, levels[i] + 1, max(0, levels[i] - 1), 255])
-    elif damage == "key":
-        keys[i] = rng.choice([keys[i] + 1, keys[(i + 1) % n], 0, 2**32 - 1])
-    elif damage == "item":
-        items[i] = rng.choice([count, 0, 512, max(0, items[i] - 1)])
-    elif damage == "mark":
-        items[i] = 65535
-    elif damage == "count":
-        n = rng.choice([0, n - 1, n + 1, 16385])
-    elif damage == "triangles":
-        count = rng.choice([0, count - 1, count + 1, 513])
-    elif damage == "short":
-        b = rng.choice(sorted(length))
-        length[b] -= 1
-    elif damage == "table":
-        flat[rng.randrange(len(flat))] = rng.randint(0, 65535)
-    elif damage == "swap" and n > 1:
-        j = (i + 1) % n
-        items[i], items[j] = items[j], items[i]
-    elif damage == "behind":
-        pad = 7
-    met["calls on a chart that is " + ("sound" if damage in ("none", "behind") else "damaged")] += 1
+    ts, p, two, entries = mesh(rng, 40)
+    first, second = Buffers(ts, entries), Buffers(*table(rng, 2, 24))
+    met["calls on a chart that is " + ("damaged" if first.damage(rng) else "sound")] += 1
     q = point(rng, ts)
     t = rng.randrange(len(ts))
     r = point(rng, [ts[t]])
     i, j = rng.sample(two, 2)
-    script = []
-    for c, values, pads in ((0, (flat, keys, levels, items), pad), (1, ([v for u in us for v in u], fs[0::3], fs[1::3], fs[2::3]), 0)):
-        for b, l in zip(("table", "keys", "levels", "tris"), values):
-            long = length[b] if c == 0 else {"table": 3072}.get(b, 16384)
-            script += [f"len {b}{c} 0", f"len {b}{c} {long} {pads}", f"set {b}{c} 0 " + " ".join(map(str, l))]
-    script += ["len pairs 0", f"len pairs {length['pairs']} 9", f"counts 0 {count} {n}", f"counts 1 {len(us)} {len(fs) // 3}"]
-    head = len(script)
+    pairs = first.length["pairs"]
+    script = [*first.script(0), *second.script(1), "len pairs 0", f"len pairs {pairs} 9"]
     script += [f"locate 0 {q[0]} {q[1]}", f"listing 0 {q[0]} {q[1]}", "sound 0", "area 0", "overlay 0 1", "dump pairs 0 12", "overlay 1 0", "dump pairs 0 12"]
-    changes = [f"split 1 {t} {r[0]} {r[1]}", f"takeout 1 {p[0]} {p[1]}", f"flip 1 {i} {j}", f"load 1 {' '.join(map(str, ts[0]))}"]
+    changes = [f"split 1 {t} {r[0]} {r[1]}", f"take_out 1 {p[0]} {p[1]}", f"flip 1 {i} {j}", f"load 1 {' '.join(map(str, ts[0]))}"]
     for change in changes:
-        script += ["copy 0 1", change, "dump table1 0 44", "dump keys1 0 30", "dump levels1 0 30", "dump tris1 0 30"]
-    want = []
-    for l in calls_of(script):
-        if l[0] == "locate":
-            want += [int(l[1])] + ([0] if l[2] == "nowhere" else [1, int(l[2])])
-        elif l[0] == "listing":
-            want += [int(w) for w in l[2 : 2 + int(l[1])]]
-        elif l[0] == "sound":
-            want += [int(l[1]), int(l[2] == "yes")]
-        elif l[0] == "dump":
-            want += [int(w) for w in l[3:]]
-        else:
-            want += [int(w) for w in l[1:]]
-            met[f"call {l[0]} {l[1]}"] += 1
-    lists = " ".join(numbers(v) for v in (flat, keys, levels, items))
-    sizes = " ".join(str(length[b]) for b in ("table", "keys", "levels", "tris"))
-    second = " ".join(numbers(v) for v in ([v for u in us for v in u], fs[0::3], fs[1::3], fs[2::3]))
+        script += ["copy 0 1", change, "dump table1 0 44", "dump keys1 0 30", "dump levels1 0 30", "dump items1 0 30"]
     given = (
-        f"callNumbers (chart {pad} {sizes} {lists} {count} {n}) (chart 0 3072 16384 16384 16384 {second} {len(us)} {len(fs) // 3})"
-        f" (replicate {length['pairs']} 9) (at {q[0]} {q[1]}) {t} (at {r[0]} {r[1]}) (at {p[0]} {p[1]}) {i} {j} {numbers(ts[0])}"
+        f"callNumbers {first.written()} {second.written()}"
+        f" (replicate {pairs} 9) (at {q[0]} {q[1]}) {t} (at {r[0]} {r[1]}) (at {p[0]} {p[1]}) {i} {j} {numbers(ts[0])}"
     )
-    return given, numbers(want)
+    return given, numbers(answered(calls_of(script)))
 
 
 # ---- the worked streams of tests/cases.txt
-
-NAMED = {"U": "0,0 65535,0 0,65535", "V": "65535,65535 0,65535 65535,0"}
-
-
-def command(text):
-    """The bytes of one command, as tests/cases.txt writes it."""
-    head, *rest = text.split()
-    if head == "raw":
-        return bytes(int(w, 16) for w in rest)
-    if head.endswith("x"):
-        return int(head[:-1]) * command(" ".join(rest))
-    values = [int(w) for w in " ".join(NAMED.get(w, w) for w in rest).replace(",", " ").split()]
-    chart = [values.pop(0)] if head in "23456" else []
-    return bytes([int(head)] + chart) + words(values)
-
 
 MOST = 500  # a load of so many triangles, executed, is beyond the checker's memory
 
@@ -391,18 +363,16 @@ def largest_load(commands):
 
 
 def worked_cases():
-    parts = lambda text: [t.strip() for t in text.split(";") if t.strip()]
-    for block in open(os.path.join(ROOT, "tests", "cases.txt")).read().split("\n\n"):
-        fields = dict(re.findall(r"^(name|in|out): ?(.*)$", block, re.M))
-        if not fields:
-            continue
-        if largest_load(parts(fields["in"])) >= MOST:
-            print(f"not executed, a load of over {MOST} triangles: {fields['name']}")
+    faults = []
+    for name, given, wanted in streams.cases(faults):
+        commands = streams.parts(given)
+        if largest_load(commands) >= MOST:
+            print(f"not executed, a load of over {MOST} triangles: {name}")
             continue
         met["worked streams"] += 1
-        data = b"".join(command(t) for t in parts(fields["in"]))
-        want = "".join(t + "\n" for t in ["overlay log"] + parts(fields["out"])).encode()
-        yield f"logOf {numbers(data)}", numbers(want)
+        yield f"logOf {numbers(b''.join(map(streams.command, commands)))}", numbers(streams.log(wanted))
+    if faults:
+        sys.exit("\n".join(faults))
 
 
 HEADER = """use mathlib.Core.Path.{_≡_, refl}
@@ -452,10 +422,13 @@ callNumbers c d pairs q t r p i j ns =
 """
 
 
+# the crates that the cases name, and what they stand on
+CRATES = crates.below(re.findall(r"Rattle·(\w+)\.", HEADER))
+
 # one triangle that shares ground with both of two
 FIXED_OVERLAY = (
-    [[40000, 5000, 45000, 5000, 60000, 45000], [65535, 65535, 0, 40000, 60000, 45000]],
-    [[30000, 50000, 30000, 0, 65535, 30000]],
+    [(40000, 5000, 45000, 5000, 60000, 45000), (65535, 65535, 0, 40000, 60000, 45000)],
+    [(30000, 50000, 30000, 0, 65535, 30000)],
 )
 
 # what every run must meet
@@ -467,17 +440,6 @@ EXPECTED += ["overlay pairs with i and j different", "worked streams"]
 def main():
     seed, count = int(sys.argv[1]), int(sys.argv[2])
     rng = random.Random(seed)
-    shutil.rmtree(SCRATCH, ignore_errors=True)
-    for c in CRATES:
-        for part in (f"crates/{c}", f"target/rlib/{c}.rlib", f"target/stamp/{c}"):  # what is proved is not proved again
-            source, copy = os.path.join(ROOT, part), os.path.join(SCRATCH, part)
-            os.makedirs(os.path.dirname(copy), exist_ok=True)
-            if os.path.isdir(source):
-                shutil.copytree(source, copy)
-            elif os.path.isfile(source):
-                shutil.copyfile(source, copy)
-    lines = [l for l in open(os.path.join(ROOT, "crates.txt")) if l.split(":")[0] in CRATES]
-    open(os.path.join(SCRATCH, "crates.txt"), "w").write("".join(lines) + "".join(f"{t}: {' '.join(CRATES)}\n" for t in TRIALS))
     facts = {
         "entries": [entries_case(rng) for _ in range(count)],
         "log": [log_case(rng) for _ in range(count)],
@@ -488,22 +450,18 @@ def main():
         "worked": list(worked_cases()),
     }
     print("met: " + ", ".join(f"{n} {k}" for k, n in sorted(met.items())))
-    missing = [k for k in EXPECTED if not met[k]]
-    if missing:
-        print("not met:", ", ".join(missing))
+    if not engines.all_met(dict.fromkeys(EXPECTED, 1), met):
         sys.exit(1)
+    crates.copy(SCRATCH, CRATES, dict.fromkeys(TRIALS, CRATES))
     texts = dict.fromkeys(TRIALS, HEADER)
     for kind, fs in facts.items():
         for k, (given, want) in enumerate(fs):
             fact = f"\n{kind}-{k} : {given} ≡ {want}\nunfolding evaluate logging\n{kind}-{k} = refl\n"
             texts[TRIALS[kind == "worked"]] += fact
     for trial, text in texts.items():
-        for part in ("src", "proofs"):
-            os.makedirs(os.path.join(SCRATCH, "crates", trial, part))
-        write = lambda name, said: open(os.path.join(SCRATCH, "crates", trial, name), "w").write(said)
-        write("src/lib.rt", "// Facts to try.\n")
-        write("proofs/Lib.antt", "pub mod Cases\n")
-        write("proofs/Cases.antt", text)
+        files = {"src/lib.rt": "// Facts to try.\n", "proofs/Lib.antt": "pub mod Cases\n", "proofs/Cases.antt": text}
+        for file, said in files.items():
+            crates.write(os.path.join(SCRATCH, "crates", trial, file), said)
     cases = sum(map(len, facts.values()))
     print(f"checking {cases} cases, seed {seed}", flush=True)
     run = subprocess.run(["rt", "check", *TRIALS], cwd=SCRATCH, stdout=subprocess.PIPE, stderr=subprocess.STDOUT, text=True)

@@ -10,18 +10,17 @@ usage: log_cases.py PROGRAM [ARGUMENT ..]"""
 
 import hashlib
 import os
-import re
 import subprocess
 import sys
 
-HERE = os.path.dirname(os.path.abspath(__file__))
-VECTORS = os.path.join(HERE, "vectors")
+import streams
+
+VECTORS = os.path.join(os.path.dirname(os.path.abspath(__file__)), "vectors")
 PROGRAM = sys.argv[1:]
 # how many there are: a new case or stream is counted here
 CASES = 20
 STREAMS = 17
 SECONDS = 60
-NAMED = {"U": "0,0 65535,0 0,65535", "V": "65535,65535 0,65535 65535,0"}
 faults = []
 
 
@@ -30,47 +29,13 @@ def read(path):
         return f.read()
 
 
-def command(text):
-    """The bytes of one command."""
-    words = text.split()
-    if words[0] == "raw":
-        return bytes(int(w, 16) for w in words[1:])
-    if re.fullmatch(r"\d+x", words[0]):
-        return int(words[0][:-1]) * command(" ".join(words[1:]))
-    code = int(words[0])
-    rest = " ".join(NAMED.get(w, w) for w in words[1:]).replace(",", " ").split()
-    values = [int(w) for w in rest]
-    assert len(values) == {1: 6, 2: 1, 3: 4, 4: 3, 5: 3, 6: 3, 7: 0}[code], text
-    out = bytes([code])
-    if 2 <= code <= 6:
-        out += bytes([values.pop(0)])
-    return out + b"".join(v.to_bytes(2, "little") for v in values)
+def worked():
+    """The cases of cases.txt."""
+    for name, given, wanted in streams.cases(faults):
+        yield name, b"".join(map(streams.command, streams.parts(given))), streams.log(wanted)
 
 
-def parts(text):
-    return [t.strip() for t in text.split(";") if t.strip()]
-
-
-def cases():
-    """The blocks of cases.txt."""
-    names = set()
-    for block in read(os.path.join(HERE, "cases.txt")).decode().split("\n\n"):
-        lines = [l for l in block.split("\n") if l and not l.startswith("#")]
-        if not lines:
-            continue
-        fields = [re.fullmatch(r"(name|in|out):(?: (.*))?", l) for l in lines]
-        if [f and f.group(1) for f in fields] != ["name", "in", "out"]:
-            faults.append(f"cases.txt: not a name, an input and an output: {lines[:4]}")
-            continue
-        name, given, wanted = (f.group(2) or "" for f in fields)
-        if not name or name in names:
-            faults.append(f"cases.txt: a name that repeats or is none: {name!r}")
-        names.add(name)
-        data = b"".join(command(t) for t in parts(given))
-        yield name, data, "".join(t + "\n" for t in ["overlay log"] + parts(wanted)).encode()
-
-
-def streams():
+def stored():
     """The pairs of files of tests/vectors/, as its MANIFEST lists them."""
     listed = dict(reversed(l.split("  ")) for l in read(os.path.join(VECTORS, "MANIFEST")).decode().splitlines())
     there = set(os.listdir(VECTORS)) - {"MANIFEST"}
@@ -102,7 +67,7 @@ def run(name, data, want):
 
 
 def main():
-    blocks, pairs = list(cases()), list(streams())
+    blocks, pairs = list(worked()), list(stored())
     if len(blocks) != CASES:
         faults.append(f"cases.txt has {len(blocks)} cases, not {CASES}")
     if len(pairs) != STREAMS:

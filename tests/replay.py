@@ -10,25 +10,23 @@ overlay. It fails when the engines differ, when an overlay that is known gives s
 a number was not (see `WANTED`), and when either engine ends with a status other than 0, says something on its standard error or
 does not end."""
 
-import os
+import collections
 import random
 import struct
 import sys
 
-sys.path.insert(0, os.path.dirname(os.path.abspath(__file__)))
-import calls
-import quadtree
-from calls import FLAT, INNER, PARTS, U, V
+import engines
+import tables
+from call_cases import edits
+from call_cases.script import INNER, PARTS, Script
+from tables import FLAT, SLIVERS, U, V
 
-PROGRAM = os.path.join(quadtree.ROOT, "target", "bin", "test_replay")
-STORED = os.path.join(quadtree.ROOT, "crates", "test_replay")
-COMMANDS = {2: "load", 3: "split", 4: "takeout", 5: "flip"}
+PROGRAM = "test_replay"
+COMMANDS = {2: "load", 3: "split", 4: "take_out", 5: "flip"}
 # the program's buffers: places, and what each of them holds before a case
-BUFFERS = {"table0": (3080, 21), "keys0": (16390, 22), "levels0": (16390, 23), "tris0": (16390, 24)}
-BUFFERS |= {"table1": (3080, 31), "keys1": (16390, 32), "levels1": (16390, 33), "tris1": (16390, 34), "pairs": (8200, 41)}
+BUFFERS = {"table0": (3080, 21), "keys0": (16390, 22), "levels0": (16390, 23), "items0": (16390, 24)}
+BUFFERS |= {"table1": (3080, 31), "keys1": (16390, 32), "levels1": (16390, 33), "items1": (16390, 34), "pairs": (8200, 41)}
 COUNTS = [(513, 70000), (7, 20000)]
-# two slivers with far more entries than there may be
-SLIVERS = [(0, 0, 65535, 0, 65535, 1), (0, 0, 65535, 1, 0, 1)]
 
 
 # ---- lists of calls as numbers
@@ -67,10 +65,6 @@ def program_data(cases):
     return b"".join(struct.pack(f"<H{len(ns)}H", len(ns), *ns) for case in cases for ns in case)
 
 
-def program_lines(cases):
-    return quadtree.run([PROGRAM], program_data(cases)).split("\n")[:-1]
-
-
 def model_lines(cases):
     """The lines that the program is to print, and the calls that were made with the numbers that they gave."""
     text = [f"len {name} {places}" for name, (places, _) in BUFFERS.items()]
@@ -82,7 +76,7 @@ def model_lines(cases):
             text.append(f"echo {chart}")
         text += ["overlay 0 1", "sum"]
     lines, counts, gave = [], [], []
-    for line in quadtree.run([quadtree.MODEL, "calls"], "\n".join(text).encode()).split("\n")[:-1]:
+    for line in engines.model_lines("calls", "\n".join(text)):
         words = line.split()
         if words[0] == "sum":
             lines.append(" ".join(["replay"] + overlay + counts + words[1:]))
@@ -106,7 +100,7 @@ def stored():
     out = (65535, 65535)
     splits = load(U, V) + split(0, INNER) + split(1, (50000, 50000)) + flip(4, 2) + split(3, (3000, 30000)) + flip(7, 4)
     others = load(V, U) + split(0, (40000, 40000)) + flip(1, 2) + split(1, (30000, 10000)) + split(2, (10000, 30000)) + take_out((30000, 10000))
-    grid = quadtree.mesh(random.Random(4))
+    grid = tables.mesh(random.Random(4))
     return [
         ([], [], "0 0 1"),
         # marked cases 7, 8 and 9
@@ -144,9 +138,9 @@ def stored():
 
 def drawn(rng):
     """The numbers of a list of calls, most of which can be done; some lists are damaged."""
-    s = calls.Script(rng, short=True)
+    s = Script(rng, short=True)
     for _ in range(rng.choice([1, 1, 2])):
-        calls.drawn_edits(s, rng.choice(list(calls.STARTS)))
+        edits.drawn_edits(s, rng.choice(list(edits.STARTS)))
     codes = {name: code for code, name in COMMANDS.items()}
     made = [(step[0], step[2]) for step in s.steps if step[0] in codes]
     numbers = [n for name, ops in made for n in [codes[name]] + [len(ops)] * (name == "load") + ops]
@@ -157,16 +151,19 @@ def drawn(rng):
     return numbers
 
 
-WANTED = [f"load {n}" for n in (0, 4, 5, 11)] + [f"split {n}" for n in (0, 6, 7, 10)] + ["takeout 0", "takeout 8"]
+WANTED = [f"load {n}" for n in (0, 4, 5, 11)] + [f"split {n}" for n in (0, 6, 7, 10)] + ["take_out 0", "take_out 8"]
 WANTED += [f"flip {n}" for n in (0, 6, 9)] + ["overlay 0", "overlay 12"]
+
+
+def is_known(case, line):
+    """Whether the overlay answers what is known of it."""
+    known = case[2]
+    return not known or f"{line} ".startswith(f"replay {known} ")
 
 
 def store():
     cases = [case[:2] for case in stored()]
-    with open(os.path.join(STORED, "stdin"), "wb") as f:
-        f.write(program_data(cases))
-    with open(os.path.join(STORED, "stdout"), "w") as f:
-        f.writelines(line + "\n" for line in model_lines(cases)[0])
+    engines.store(PROGRAM, program_data(cases), model_lines(cases)[0])
     print(f"{len(cases)} cases stored")
     return 0
 
@@ -176,20 +173,13 @@ def main():
         return store()
     rng = random.Random(int(sys.argv[1]))
     cases = stored() + [(drawn(rng), drawn(rng), None) for _ in range(int(sys.argv[2]))]
-    ours = program_lines([case[:2] for case in cases])
-    theirs, gave = model_lines([case[:2] for case in cases])
-    if not len(ours) == len(theirs) == len(cases):
-        print(f"{len(cases)} cases, {len(ours)} lines of the program, {len(theirs)} of the model")
+    lists = [case[:2] for case in cases]
+    theirs, gave = model_lines(lists)
+    if not engines.agree("case", cases, engines.program_lines(PROGRAM, program_data(lists)), theirs, is_known):
         return 1
-    for k, (a, b, (first, second, known)) in enumerate(zip(ours, theirs, cases)):
-        if a != b or known and not f"{b} ".startswith(f"replay {known} "):
-            print(f"case {k}, {first[:20]} .. and {second[:20]} .., to give {known}\n  program {a}\n  model   {b}")
-            return 1
-    lacking = [what for what in WANTED if what not in gave]
-    if lacking:
-        print("not met: " + "; ".join(lacking))
+    if not engines.all_met(dict.fromkeys(WANTED, 1), collections.Counter(gave)):
         return 1
-    print(f"{len(cases)} cases of {len(gave)} calls, all agree; " + ", ".join(f"{gave.count(g)} × {g}" for g in sorted(set(gave))))
+    print(f"{len(cases)} cases of {len(gave)} calls, all agree; " + engines.tally(gave))
     return 0
 
 

@@ -20,26 +20,12 @@ check() {
     fi
 }
 
-build_model() {
-    mkdir -p target/model &&
-        rustc --edition 2021 -O -o target/model/model model/main.rs &&
-        rustc --edition 2021 -O --test -o target/model/tests model/main.rs
-}
-
-# the model's own tests: all pass, none is passed over, and there are as many as there were
-test_model() {
-    local said
-    said=$(target/model/tests -q 2>&1) || { echo "$said"; return 1; }
-    echo "$said" | grep '^test result:'
-    [[ $said =~ test\ result:\ ok\.\ 23\ passed\;\ 0\ failed\;\ 0\ ignored ]]
-}
-
 # rt starts crates and edits in groups and waits for the slowest of each; groups of four leave a processor idle less often
 export RT_JOBS=${RT_JOBS:-4}
 
 echo "== rt ci: prove every crate, try the must-fail edits, run the programs"
-rt ci 2>&1 | tee "$log"
-verdict=${PIPESTATUS[0]}
+bash tests/prove.sh "$log" ci
+verdict=$?
 last=$(tail -n 1 "$log")
 wanted=$(($(grep -c '^[^#[:space:]]' crates.txt) + $(find crates -path '*/must-fail/*' -type f | wc -l)))
 if [[ $last =~ ^([0-9]+)\ passed,\ ([0-9]+)\ failed$ ]]; then
@@ -61,8 +47,9 @@ fi
 check "layout of the sources (rt fmt --check)" rt fmt --check
 check "every crate proved with no hole and no axiom, every must-fail edit refused at a fact" python3 tests/verdicts.py "$log"
 check "every sentence of document 01 has its row and what carries it (docs/CLAIMS.md)" python3 tests/claims.py
-check "the reference model builds" build_model
-check "the reference model's own tests" test_model
+check "the storeys stand on earlier ones, and docs/MAP.md shows them" python3 tests/map.py --check
+check "the reference model builds" bash tests/model.sh build
+check "the reference model's own tests" bash tests/model.sh test
 check "the reference model on the stored command streams" python3 tests/log_cases.py target/model/model log
 check "the definitions, executed, against the reference model" python3 tests/definitions.py 7 4
 check "entries built by the program and by the reference model" python3 tests/quadtree.py 7 10

@@ -26,7 +26,9 @@ import os
 import re
 import sys
 
-ROOT = os.path.dirname(os.path.dirname(os.path.abspath(__file__)))
+import crates
+from crates import ROOT, is_program
+
 LEFT = os.path.join(ROOT, "target", "must-fail")
 # the words of a `logic=proved` line
 WORDS = r"functions=\d+|axioms=2|target=x86_64-unknown-linux-gnu|sum=[0-9a-f]+|native=nat,char,string|(logic|libraries)-built=trusted"
@@ -55,16 +57,6 @@ def read(path):
 # ---- crates
 
 
-def listed():
-    """The crates of crates.txt, in their order."""
-    lines = [l for l in read(os.path.join(ROOT, "crates.txt")).split("\n") if l.strip() and not l.startswith("#")]
-    return [l.split(":")[0].strip() for l in lines]
-
-
-def is_program(name):
-    return os.path.isfile(os.path.join(ROOT, "crates", name, "src", "main.rt"))
-
-
 def judge_crate(name, lines):
     """What was printed for a crate before its verdict."""
     verdicts = [l for l in lines if l.startswith("logic=")]
@@ -84,7 +76,7 @@ def judge_crate(name, lines):
 
 
 def judge_crates(text):
-    names, lines, seen, ran = listed(), [], [], []
+    names, lines, seen, ran = list(crates.needs()), [], [], []
     for line in text.split("\n"):
         done = re.fullmatch(r"rt: (\S+) proved \((.*)\)", line)
         if done:
@@ -112,7 +104,7 @@ def judge_crates(text):
 
 def edits():
     """The edits that rt tries, as NAME/LABEL, from all files below must-fail/ folders."""
-    names = listed()
+    names = list(crates.needs())
     for folder, folders, files in os.walk(ROOT):
         folders[:] = sorted(f for f in folders if f not in (".git", "target"))
         where = os.path.relpath(folder, ROOT).split(os.sep)
@@ -236,13 +228,13 @@ def judge_edits(text):
 
 def main():
     text = read(sys.argv[1])
-    crates, tried = judge_crates(text), judge_edits(text)
-    if not crates or not tried:
-        faults.append(f"{crates} crates, {tried} must-fail edits")
-    wanted = [f"rt: ok, {crates} crates proved, {tried} must-fail edits refused", f"{crates + tried} passed, 0 failed"]
+    proved, tried = judge_crates(text), judge_edits(text)
+    if not proved or not tried:
+        faults.append(f"{proved} crates, {tried} must-fail edits")
+    wanted = [f"rt: ok, {proved} crates proved, {tried} must-fail edits refused", f"{proved + tried} passed, 0 failed"]
     if text.rstrip("\n").split("\n")[-2:] != wanted:
         faults.append(f"the log does not end with {wanted}")
-    print("\n".join(faults) if faults else f"{crates} crates, {tried} must-fail edits, each refused at a fact")
+    print("\n".join(faults) if faults else f"{proved} crates, {tried} must-fail edits, each refused at a fact")
     sys.exit(1 if faults else 0)
 
 

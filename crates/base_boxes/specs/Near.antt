@@ -2,10 +2,11 @@
 -- Assumes nothing.
 use mathlib.Core.Path.{_≡_}
 use mathlib.Core.List.{List}
-use Prim.Native.Nat.{ℕ, _≤_, _<_}
+use Prim.Native.Nat.{ℕ, _+_, _*_, _≤_, _<_}
 use lib.ListN.{length, getD}
 use Rattle.theory_lists.specs.Lists.{Compacted}
 use Rattle.spec_plane.specs.Box.{Box}
+use Rattle.spec_charts.specs.Table.{numbersPerTriangle}
 use Rattle.base_boxes.specs.Boxes.{boxesOverlap, Places}
 
 -- how many boxes are tested at a time
@@ -29,3 +30,9 @@ pub record Collected (b : Box) (box : ℕ → Box) (list₀ list : List ℕ) (j 
 -- the first c numbers of a list are below i
 abbrev pub EachBelow : List ℕ → ℕ → ℕ → Type 0
 EachBelow near i c = (k : ℕ) → k < c → getD near k 0 < i
+
+-- row i of a table is there, and so is each that the first c numbers of a list say, which come before it
+pub record ListedRows (table near : List ℕ) (i c : ℕ) : Type 0 where
+  pub row : numbersPerTriangle * (i + 1) ≤ length table
+  pub room : c ≤ length near
+  pub below : EachBelow near i c

@@ -2,36 +2,16 @@
 -- Assumes nothing.
 use mathlib.Core.Path.{_≡_, refl, ap₂}
 use mathlib.Core.List.{List, [], _∷_, map}
-use mathlib.Core.Logic.{_⊎_, inl, inr}
-use Prim.Native.Nat.{ℕ, _+_, _≤_, _<_}
+use Prim.Native.Nat.{ℕ, _+_, _<_}
 use native.Mathlib.Omega.{arith}
-use lib.ListN.{length}
 use Rattle.theory_lists.proofs.ListsLaws.{Every, every-uncons}
-use Rattle.theory_lists.proofs.EveryLaws.{every-imp}
-use Rattle.theory_orthtree.specs.Entries.{Entry, emptyMark}
-use Rattle.spec_charts.specs.Table.{tableOf, maxTriangles}
-use Rattle.spec_charts.specs.Cells.{entriesOf}
-use Rattle.laws_charts.proofs.ChainOfTable.{entries-bounds}
-use Rattle.laws_charts.proofs.TableLaws.{tableOf-length}
+use Rattle.theory_orthtree.specs.Entries.{Entry}
 use Rattle.base_entries.specs.Packed.{levelWeight, levelPlaces, headOf, packed, keyOf, levelOf, itemOf}
 
 -- level and item are within their places of a packed entry
 pub record Packable (e : Entry) : Type 0 where
   pub level : e .level < levelPlaces
   pub item : e .item < levelWeight
-
-small-item : (count i : ℕ) → count ≤ maxTriangles → (i < count) ⊎ (i ≡ emptyMark) → i < levelWeight
-unfolding emptyMark
-small-item count i h (inl l) = omega arith
-small-item count i h (inr e) = omega arith
-
--- the entries of a table are packable
-pub entries-packable : (ns : List ℕ) (n : ℕ) → n ≤ maxTriangles → Every (λ e. Packable e) (entriesOf (tableOf ns n))
-entries-packable ns n h =
-    let few : length (tableOf ns n) ≤ maxTriangles = rw (tableOf-length ns n) h in
-    every-imp
-    (λ e b. record { level = omega (arith, b .level); item = small-item (length (tableOf ns n)) (e .item) few (b .item) })
-    (entries-bounds (tableOf ns n))
 
 -- ---- the parts of a packed entry
 

@@ -1,3 +1,2 @@
 pub mod ZeroLaws
 pub mod CopyLaws
-pub mod PaddedLaws

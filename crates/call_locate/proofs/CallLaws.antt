@@ -4,8 +4,7 @@ use mathlib.Core.Path.{_≡_, refl, sym, _∙_, ap}
 use mathlib.Core.Bool.{true, false}
 use mathlib.Core.List.{List, []}
 use mathlib.Core.Option.{Option, none, some}
-use Prim.Native.Nat.{ℕ, _≤_, _<_}
-use lib.ListN.{length, getD}
+use Prim.Native.Nat.{ℕ}
 use Rattle.theory_lists.specs.Lists.{first}
 use Rattle.spec_squares.specs.Square.{arity, depth}
 use Rattle.spec_plane.specs.declared.Point.{Point}
@@ -19,10 +18,10 @@ use Rattle.spec_calls.specs.Calls as Calls
 use Rattle.spec_calls.specs.Calls.{ifChained, locateCall}
 use Rattle.laws_calls.proofs.BufferLaws.{searchable}
 use Rattle.laws_calls.proofs.ReaderLaws.{reading-refused, reading-done, located-done, located-first}
-use Rattle.read_cells.specs.Passes.{Rises}
+use Rattle.read_cells.specs.Keys.{Listable}
 use Rattle.read_cells.specs.Place.{listedPlaces}
 use Rattle.read_cells.proofs.ListingLaws.{ChainLists}
-use Rattle.read_cells.proofs.PointLaws.{keys-rise, first-key}
+use Rattle.read_cells.proofs.PointLaws.{chain-listable}
 use Rattle.base_answers.specs.declared.Located.{Located}
 use Rattle.base_answers.specs.Outcomes.{locatedOf}
 use Rattle.call_locate.specs.Holding.{foundOf}
@@ -46,15 +45,12 @@ module _ (c : Chart) (p : Point) where
     places-done = ap (doneOr []) (reading-done c s r (listedPlaces (chartEntries c) p))
 
     -- its lists have entries, which satisfy the chain rule
-    chained : ChainLists arity depth (c .triangleCount) (c .keys) (c .levels) (c .items) (c .entryCount)
-    chained =
-        let h = searchable c s r in record { keys = h .0 .forKeys; levels = h .0 .forLevels; items = h .0 .forItems; rule = rw (h .1) tt }
+    pub lists-chained : ChainLists arity depth (c .triangleCount) (c .keys) (c .levels) (c .items) (c .entryCount)
+    lists-chained = let h = searchable c s r in record { room = h .0; rule = h .1 }
 
     -- they can be searched
-    pub lists-searchable : ((c .entryCount ≤ length (c .keys)) × (c .entryCount ≤ length (c .items)))
-        × ((0 < c .entryCount) × ((getD (c .keys) 0 0 ≡ 0) × Rises (c .keys) (c .entryCount)))
-    lists-searchable =
-        let h = chained in ((h .keys, h .items), (first-key h .0, (first-key h .1, keys-rise h)))
+    pub lists-searchable : Listable (c .keys) (c .items) (c .entryCount)
+    lists-searchable = chain-listable lists-chained
 
     -- locate is the first listed triangle that holds the point
     pub locate-done : {l : List ℕ} → l ≡ listing (chartEntries c) p → {a : Located} → a ≡ foundOf (first (λ i. holds (triangleAt (c .table) i) p) l)

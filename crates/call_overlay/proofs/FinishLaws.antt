@@ -15,7 +15,7 @@ use Rattle.spec_calls.specs.Calls.{pairsRefused, overlaidBy}
 use Rattle.base_answers.specs.declared.Verdict.the-variants.{Accepted, Refused}
 use Rattle.base_answers.specs.declared.Overlaid.{Overlaid}
 use Rattle.base_answers.specs.Outcomes.{overlaidOf}
-use Rattle.base_lists.proofs.PaddedLaws.{padded-sets}
+use Rattle.laws_calls.proofs.PaddedLaws.{padded-sets}
 use Rattle.overlay_pairs.specs.Pairs.{Wrote}
 use Rattle.overlay_pairs.proofs.WroteLaws.{numbers-length}
 

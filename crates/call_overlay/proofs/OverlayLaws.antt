@@ -91,7 +91,7 @@ module _ (c d : Chart) (pairs : List ℕ) where
 
 -- ---- the marked pairs are those of the overlay
 
-module _ (first : List ℕ) (n : ℕ) (second : List ℕ) (m : ℕ) {es fs : List Entry} {rows : List ℕ} {r : ℕ} (o : Overlapping es fs rows r)
+module _ (first : List ℕ) (n : ℕ) (second : List ℕ) (m : ℕ) {es fs : List Entry} {rows : List ℕ} {r : ℕ} (o : Overlapping arity depth es fs rows r)
     (few : n ≤ maxTriangles) (few′ : m ≤ maxTriangles) where
   same-test : (i j : ℕ) → i < n → j < m
       → meetsAt first second i j && markedAt rows i j ≡ pairListed (tableOf first n) es (tableOf second m) fs i j

@@ -9,6 +9,9 @@ ghost use Rattle.spec_calls.specs.Calls.{overlayCall};
 ghost use Rattle.spec_calls.specs.Lent.{given};
 ghost use Rattle.base_answers.specs.Outcomes.{leftPairs};
 
+// The end of the keys of the tree of squares.
+const TREE_END: u64 = 4294967296;
+
 // Overlay: the pairs ascending by the first number, then the second, and how many cells of the one overlap cells of the other.
 pub fn overlay(
     table0: &[u16],
@@ -47,6 +50,7 @@ pub fn overlay(
         items1,
         entries1,
         &mut rows,
+        TREE_END,
     );
     let found = overlay_pairs::put_pairs(table0, triangles0, table1, triangles1, &rows, pairs);
     overlay_answers::finish(found, meetings, pairs)

@@ -1,6 +1,6 @@
 // Soundness of a chart.
 
-mod apart;
+mod disjoint;
 
 use base_answers::Soundness;
 use base_answers::Verdict;
@@ -22,7 +22,7 @@ pub fn soundness(
 {
     match chart_rule::judge(table, keys, levels, items, triangles, entries) {
         Verdict::Accepted => {
-            if apart::all_apart(table, triangles) {
+            if disjoint::all_disjoint(table, triangles) {
                 Soundness::Sound
             } else {
                 Soundness::Unsound

@@ -74,7 +74,8 @@ fn list_all(
 }
 
 // Builds a table into the three lists: the number of its entries, or one more than the most where they are too many and the lists stay as
-// they were. A small table mostly has few entries, so this is tried first.
+// they were. A small table mostly has few entries, so this is tried first, in small scratch; the large one stands in the frame of
+// `list_all`, which is called from two places and so not made a part of this function's.
 pub fn build_into(
     table: &[u16],
     n: usize,
@@ -86,7 +87,7 @@ pub fn build_into(
     requires { ⌜ Roomy maxEntries (now keys) (now levels) (now items) ⌝ }
     ensures { λ r. ⌜ ListedIn maxEntries (entriesOf (tableOf (now (table .entry)) n)) r keys levels items ⌝ }
 {
-    if n > quadtree_build::SMALL_TABLE {
+    if n > quadtree_build::FEW_TRIANGLES {
         return list_all(table, n, keys, levels, items);
     }
     let m = list_few(table, n, keys, levels, items);

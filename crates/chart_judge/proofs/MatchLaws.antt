@@ -21,9 +21,10 @@ use Rattle.spec_charts.specs.Cells.{entriesOf}
 use Rattle.spec_calls.specs.Buffers.{Chart, Roomy, zipEntries, chartTable, chartEntries, sameEntries, indexed}
 use Rattle.laws_calls.proofs.EntriesLaws.{sameEntries-reflects, first-count, first-at}
 use Rattle.base_entries.specs.Packed.{levelWeight, levelPlaces, packed}
-use Rattle.base_entries.proofs.PackLaws.{Packable, entries-packable, packed-injective}
+use Rattle.base_entries.proofs.PackLaws.{Packable, packed-injective}
 use Rattle.chart_links.specs.Links.{entryAt}
 use Rattle.quadtree_build.specs.Packed.{Packed}
+use Rattle.quadtree_build.proofs.PackableLaws.{entries-packable}
 use Rattle.quadtree_build.proofs.PackedLaws.{packed-count, packed-take}
 use Rattle.chart_judge.specs.Places.{samePlace, samePlaces}
 

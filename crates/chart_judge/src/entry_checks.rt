@@ -66,7 +66,8 @@ fn match_all(table: &[u16], n: usize, keys: &[u32], levels: &[u8], items: &[u16]
     same_entries(&entries, r, keys, levels, items, m)
 }
 
-// The first m entries of the three lists are those of the table.
+// The first m entries of the three lists are those of the table. A small table with few entries is compared in small scratch; the large
+// one stands in the frame of `match_all`, which is called from two places and so not made a part of this function's.
 pub fn entries_match(
     table: &[u16],
     n: usize,
@@ -79,6 +80,9 @@ pub fn entries_match(
     requires { ⌜ (m ≤ maxEntries) × Roomy m (now keys) (now levels) (now items) ⌝ }
     ensures { λ o. ⌜ o ≡ indexed (given table keys levels items n m) ⌝ }
 {
+    if n > quadtree_build::SMALL_TABLE {
+        return match_all(table, n, keys, levels, items, m);
+    }
     if m <= quadtree_build::FEW_ENTRIES {
         return match_few(table, n, keys, levels, items, m);
     }

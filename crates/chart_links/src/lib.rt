@@ -1,6 +1,7 @@
 // The chain rule between an entry and the next, without a branch: an `if` between two numbers makes none. A fault is a number that is 0
 // where nothing is wrong, so that faults are joined by `|`.
 
+use base_entries::MARK;
 ghost use mathlib.Core.Path.{_≡_};
 ghost use mathlib.Core.Bool.{_||_};
 ghost use Prim.Native.Nat.{ℕ, _+_, _*_, _≤_};
@@ -8,9 +9,6 @@ ghost use lib.Dec.{leb, eqb};
 ghost use Rattle.theory_orthtree.specs.Entries.{span, entry};
 ghost use Rattle.spec_squares.specs.Square.{arity, depth};
 ghost use Rattle.chart_links.specs.Links.{itemFits, linked, endsTree};
-
-// The mark: the item of a cell that lists no triangle.
-const MARK: u16 = 65535;
 
 // The last key of the tree.
 const LAST_KEY: u32 = 4294967295;

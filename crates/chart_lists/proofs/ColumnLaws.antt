@@ -7,9 +7,9 @@ use native.Mathlib.Nat.{zero-add}
 use lib.ListN.{length, getD, take, set}
 use Rattle.spec_charts.specs.Cells.{maxEntries}
 use Rattle.spec_calls.specs.Buffers.{Roomy}
+use Rattle.laws_calls.proofs.PaddedLaws.{padded-stored}
 use Rattle.base_entries.specs.Packed.{keyOf, levelOf, itemOf}
 use Rattle.base_lists.proofs.CopyLaws.{Copying, copying-start, copying-next, copying-end, images-count}
-use Rattle.base_lists.proofs.PaddedLaws.{padded-stored}
 use Rattle.chart_lists.specs.Columns.{Columns, unpacked, zeros, Stored, Filled}
 
 -- the first i packed entries, of the first n, are stored by column

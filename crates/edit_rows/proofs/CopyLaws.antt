@@ -18,7 +18,7 @@ use Rattle.edit_rows.proofs.RowLaws.{withRow, withRow-length, rows-appe
 pub record Appending (ns : List ℕ) (first end : ℕ) (o : List ℕ) (m : ℕ) (o′ : List ℕ) (i : ℕ) : Type 0 where
   pub low : first ≤ i
   pub high : i ≤ end
-  pub same : length o′ ≡ length o
+  pub length-same : length o′ ≡ length o
   pub made : tableOf o′ (m + (i - first)) ≡ tableOf o m ++ drop first (tableOf ns i)
 
 -- none yet
@@ -28,7 +28,7 @@ appending-start ns first end o m h =
     record {
       low = omega arith;
       high = h;
-      same = refl;
+      length-same = refl;
       made =
           ap (tableOf o) e ∙ sym (append-nil (tableOf o m))
           ∙ ap (λ l. tableOf o m ++ l) (sym (drop-of-length-le (tableOf ns first) {i = first} (omega (arith, tableOf-length ns first))));
@@ -52,9 +52,9 @@ appending-next {ns} {o} {o′} {o″} {first} {end} {m} {i} {s} a h room read wr
     record {
       low = omega (arith, a .low);
       high = omega arith;
-      same = ap length here ∙ withRow-length o′ k t ∙ a .same;
+      length-same = ap length here ∙ withRow-length o′ k t ∙ a .length-same;
       made =
-          ap₂ tableOf here next ∙ rows-append o′ k t (omega (arith, a .same, a .low))
+          ap₂ tableOf here next ∙ rows-append o′ k t (omega (arith, a .length-same, a .low))
           ∙ ap (λ l. l ++ (t ∷ [])) (a .made) ∙ append-assoc (tableOf o m) (drop first (tableOf ns i)) (t ∷ [])
           ∙ ap (λ l. tableOf o m ++ l)
           (sym (drop-append-le first (tableOf ns i) (t ∷ []) (omega (arith, a .low, tableOf-length ns i)))

@@ -30,14 +30,14 @@ module _ (p : Point) (table : Table) (n : ℕ) where
 
   module _ {i j k l : ℕ} (star : Star i j k l) where
     -- the numbers of those around p, where so many are found
-    one-more : i < n → aroundFrom p table 0 ≡ i ∷ aroundFrom p table (i + 1)
-    one-more h = star .first .found h
+    found-one : i < n → aroundFrom p table 0 ≡ i ∷ aroundFrom p table (i + 1)
+    found-one h = star .first .found h
 
-    two-more : i < n → j < n → aroundFrom p table 0 ≡ i ∷ j ∷ aroundFrom p table (j + 1)
-    two-more hi hj = one-more hi ∙ ap (λ r. i ∷ r) (star .second .found hj)
+    found-two : i < n → j < n → aroundFrom p table 0 ≡ i ∷ j ∷ aroundFrom p table (j + 1)
+    found-two hi hj = found-one hi ∙ ap (λ r. i ∷ r) (star .second .found hj)
 
-    three-more : i < n → j < n → k < n → aroundFrom p table 0 ≡ i ∷ j ∷ k ∷ aroundFrom p table (k + 1)
-    three-more hi hj hk = two-more hi hj ∙ ap (λ r. i ∷ j ∷ r) (star .third .found hk)
+    found-three : i < n → j < n → k < n → aroundFrom p table 0 ≡ i ∷ j ∷ k ∷ aroundFrom p table (k + 1)
+    found-three hi hj hk = found-two hi hj ∙ ap (λ r. i ∷ j ∷ r) (star .third .found hk)
 
     -- at most two
     around-few : n ≤ k → takeOutTable p table ≡ refused NotThreeAround
@@ -46,9 +46,9 @@ module _ (p : Point) (table : Table) (n : ℕ) where
       where
         go : Dec (n ≤ i) → Dec (n ≤ j) → takeOutThree p table (aroundFrom p table 0) ≡ refused NotThreeAround
         go (yes x) e = ap (takeOutThree p table) (star .first .absent x)
-        go (no x) (yes y) = ap (takeOutThree p table) (one-more (omega arith) ∙ ap (λ r. i ∷ r) (star .second .absent y))
+        go (no x) (yes y) = ap (takeOutThree p table) (found-one (omega arith) ∙ ap (λ r. i ∷ r) (star .second .absent y))
         go (no x) (no y) =
-            ap (takeOutThree p table) (two-more (omega arith) (omega arith) ∙ ap (λ r. i ∷ j ∷ r) (star .third .absent h))
+            ap (takeOutThree p table) (found-two (omega arith) (omega arith) ∙ ap (λ r. i ∷ j ∷ r) (star .third .absent h))
 
     -- at least four
     around-many : l < n → takeOutTable p table ≡ refused NotThreeAround
@@ -57,7 +57,7 @@ module _ (p : Point) (table : Table) (n : ℕ) where
         let hk : k < n = omega (arith, star .fourth .low) in
         let hj : j < n = omega (arith, star .third .low) in
         let hi : i < n = omega (arith, star .second .low) in
-        ap (takeOutThree p table) (three-more hi hj hk ∙ ap (λ r. i ∷ j ∷ k ∷ r) (star .fourth .found h))
+        ap (takeOutThree p table) (found-three hi hj hk ∙ ap (λ r. i ∷ j ∷ k ∷ r) (star .fourth .found h))
 
     -- refusal 8: not three
     pub around-refused : leb n k || ltb l n ≡ true → takeOutTable p table ≡ refused NotThreeAround
@@ -83,7 +83,7 @@ module _ (p : Point) (table : Table) (n : ℕ) where
         let o = three-ascend e in
         let hi : i < n = omega (arith, o .ij, o .jk, o .below) in
         let hj : j < n = omega (arith, o .jk, o .below) in
-        ap (takeOutThree p table) (three-more hi hj (o .below) ∙ ap (λ r. i ∷ j ∷ k ∷ r) (star .fourth .absent (omega arith)))
+        ap (takeOutThree p table) (found-three hi hj (o .below) ∙ ap (λ r. i ∷ j ∷ k ∷ r) (star .fourth .absent (omega arith)))
 
 -- triangle i rotated, as code reads it from its row
 pub row-ending : (ns : List ℕ) (n i : ℕ) (p : Point) {s : Triangle} → i < n → s ≡ endingIn p (triangleAt ns i) → s ≡ endingIn p (numbered (tableOf ns n) i)

@@ -10,3 +10,4 @@ pub mod AcceptedLaws
 pub mod HistoryLaws
 pub mod HistoryExamples
 pub mod LongBufferExamples
+pub mod PaddedLaws

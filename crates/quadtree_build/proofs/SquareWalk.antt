@@ -1,90 +1,143 @@
--- One square of the recursion: its triangles among the candidates, its entries as a leaf, and its quarters.
--- The idea: a triangle that meets a quarter meets the square, so the square's triangles are candidates enough for its quarters.
+-- One square of the recursion: the candidates that pass are its triangles, and as a leaf it leaves their entries.
 -- Assumes nothing.
 use mathlib.Core.Path.{_≡_, refl, sym, _∙_, ap}
-use mathlib.Core.Bool.{true, false, _||_, true≢false}
-use mathlib.Core.List.{List, [], _∷_, _++_, map, flatMap, append-nil, List·Memᴰ}
+use mathlib.Core.Bool.{true}
+use mathlib.Core.List.{List, [], _∷_, map}
 use Prim.Native.Nat.{ℕ, zero, suc, _+_, _*_, _-_, _≤_, _<_}
 use native.Mathlib.Nat.{suc-mul}
-use native.Mathlib.Numerals.{add-one}
 use native.Mathlib.Decide.{decLe}
 use native.Mathlib.Omega.{arith}
-use borrow.Author.Tests.{eq-eqb}
-use lib.ListN.{length, getD, take, length-map}
-use lib.Seq.{sets, take-suc}
-use Rattle.theory_lists.specs.Lists.{filter}
-use Rattle.theory_lists.proofs.ListsLaws.{Every, getD-member, sets-length}
-use Rattle.theory_lists.proofs.FlatMapLaws.{flatMap-append}
+use lib.ListN.{length, take, length-map}
+use lib.Seq.{sets}
+use Rattle.theory_lists.specs.Lists.{filter, part}
+use Rattle.theory_lists.proofs.ListsLaws.{Every, sets-length}
+use Rattle.theory_lists.proofs.FilterLaws.{filter-agree, filter-length}
 use Rattle.theory_lists.proofs.PartLaws.{part-length, part-every}
-use Rattle.theory_orthtree.specs.Entries.{Entry}
-use Rattle.spec_plane.specs.Box.{Box, triangleMeets}
-use Rattle.spec_squares.specs.declared.Square.{Square}
-use Rattle.spec_squares.specs.Square.{quarters, topLeft, topRight, bottomLeft, bottomRight, squareKey, squareBox, Aligned}
-use Rattle.spec_squares.proofs.SquareLaws.{quarters-aligned, quarters-level}
-use Rattle.spec_charts.specs.Table.{tableOf, numbered}
-use Rattle.spec_charts.specs.Cells.{commonEnd, sidesMeeting, stopped, trianglesMeeting, orMark, entryOf, cellEntries, entriesIn}
-use Rattle.laws_charts.proofs.EntriesOfTable.{entriesIn-stopped, entriesIn-split, meeting-narrow, quarter-within}
-use Rattle.laws_charts.proofs.TableLaws.{tableOf-length}
-use Rattle.quadtree_shapes.specs.Shape.{triangleMeetsAt}
-use Rattle.quadtree_shapes.proofs.ShapeLaws.{triangle-meets-at}
-use Rattle.quadtree_cells.specs.Stack.{part, Ready, Prepared}
-use Rattle.base_entries.specs.Packed.{packed}
-use Rattle.quadtree_build.specs.Build.{Candidates, Built}
-use Rattle.quadtree_cells.proofs.StackLaws.{filter-length}
-use Rattle.quadtree_stopping.proofs.StopLaws.{framed, corners-small, meeting-below}
-use Rattle.theory_lists.proofs.FilterLaws.{filter-agree}
 use Rattle.theory_lists.proofs.StoredLaws.{part-stored, take-before}
-use Rattle.quadtree_cells.proofs.ReadyLaws.{ready-stored}
+use Rattle.theory_orthtree.specs.Entries.{Entry}
+use Rattle.spec_plane.specs.Box.{triangleMeets}
+use Rattle.spec_squares.specs.declared.Square.{Square}
+use Rattle.spec_squares.specs.Square.{depth, squareKey, squareBox}
+use Rattle.spec_squares.proofs.SquareLaws.{squareBox-framed}
+use Rattle.spec_charts.specs.Table.{Table, numbered}
+use Rattle.spec_charts.specs.Cells.{stopped, trianglesMeeting, orMark, entryOf, cellEntries, entriesIn}
+use Rattle.laws_charts.proofs.EntriesOfTable.{entriesIn-stopped}
+use Rattle.laws_charts.proofs.TableLaws.{tableOf-length}
+use Rattle.base_entries.specs.Packed.{headOf, packed}
+use Rattle.quadtree_shapes.specs.declared.shapes.Frame.{Frame}
+use Rattle.quadtree_shapes.specs.Shape.{coordinates, frameBox, triangleMeetsAt}
+use Rattle.quadtree_shapes.proofs.ShapeLaws.{triangle-meets-at}
+use Rattle.quadtree_cells.specs.declared.quarters.KeyedSquare.{KeyedSquare}
+use Rattle.quadtree_cells.specs.Stack.{Ready, Narrowable, Narrowing}
+use Rattle.quadtree_cells.specs.Quarters.{FrameOf}
+use Rattle.quadtree_cells.proofs.ReadyLaws.{ready-fits, ready-stored}
+use Rattle.quadtree_stopping.specs.Stopping.{triangleTotal, cornerTable}
+use Rattle.quadtree_stopping.proofs.StopLaws.{corners-small, meeting-below}
+use Rattle.quadtree_build.specs.Build.{levelsFrom, Buildable, Built}
 
-quarters-four : (s : Square) → length (quarters s) ≡ 4
-unfolding quarters
-quarters-four s = refl
+-- ---- the candidates, narrowed
 
-module _ (n : ℕ) (ns sh o : List ℕ) (h : Prepared n ns sh o) (s : Square) (p : Aligned s) where
-  pub below : Every (λ i. i < n) (trianglesMeeting (tableOf ns n) s)
-  below i m = rw (tableOf-length ns n) at (meeting-below (tableOf ns n) s i m)
+-- room for one list of the levels
+room-one : (m n d t l : ℕ) → 1 ≤ m → d ≤ n → t + m * n ≤ l → t + d ≤ l
+room-one (suc m) n d t l h e r = omega (arith, suc-mul m n)
+room-one zero n d t l h e r = absurd (omega arith)
+
+-- and for the others after it
+room-less : (m n d t l : ℕ) → d ≤ n → t + suc m * n ≤ l → (t + d) + m * n ≤ l
+room-less m n d t l e r = omega (arith, suc-mul m n)
+
+-- the triangles of the square stand on the stack from t up to top, with room for the lists of its quarters; what is below t is kept
+pub record Narrowed (t top : ℕ) (corners shape offsets stack stack′ : List ℕ) (s : Square) : Type 0 where
+  pub ready : Ready (triangleTotal corners) t top (coordinates corners) shape offsets stack′
+  pub triangles : part t top stack′ ≡ trianglesMeeting (cornerTable corners) s
+  pub kept : take t stack′ ≡ take t stack
+  pub same : length stack′ ≡ length stack
+  pub few : top - t ≤ triangleTotal corners
+  pub room : top + (depth - s .level) * triangleTotal corners ≤ length stack′
+
+module _ {f t : ℕ} {cs sh o l : List ℕ} {s : KeyedSquare} (b : Buildable f t cs sh o l s) where
+  abbrev n : ℕ
+  n = triangleTotal cs
+
+  abbrev ns : List ℕ
+  ns = coordinates cs
+
+  below : Every (λ i. i < n) (trianglesMeeting (cornerTable cs) (s .square))
+  below i m = rw (tableOf-length ns n) at (meeting-below (cornerTable cs) (s .square) i m)
 
   -- the candidates that pass are the triangles that meet the square
-  pub narrowed : (f t : ℕ) (l : List ℕ) (b : Box) → Ready n f t ns sh o l → Candidates n f t ns l s → b ≡ squareBox s
-      → filter (λ i. triangleMeetsAt sh o i b) (part f t l) ≡ trianglesMeeting (tableOf ns n) s
-  narrowed f t l b r c e =
-      ap (λ x. filter (λ i. triangleMeetsAt sh o i x) (part f t l)) e
-      ∙ filter-agree (λ i. triangleMeetsAt sh o i (squareBox s)) (λ i. triangleMeets (numbered (tableOf ns n) i) (squareBox s)) (part f t l)
+  passing : {fr : Frame} → FrameOf (s .square) fr
+      → filter (λ i. triangleMeetsAt sh o i (frameBox fr)) (part f t l) ≡ trianglesMeeting (cornerTable cs) (s .square)
+  passing e =
+      let r = b .ready in
+      ap (λ x. filter (λ i. triangleMeetsAt sh o i x) (part f t l)) (e .box)
+      ∙ filter-agree (λ i. triangleMeetsAt sh o i (squareBox (s .square))) (λ i. triangleMeets (numbered (cornerTable cs) i) (squareBox (s .square))) (part f t l)
       (λ i m.
-      triangle-meets-at (tableOf ns n) sh o (h .shaped) i
+      triangle-meets-at (cornerTable cs) sh o (b .prepared .shaped) i
       (rw (tableOf-length ns n) (part-every l f t (r .order) (r .within) (λ k. k < n) 0 (r .held) i m))
-      (corners-small ns n (h .small)) (squareBox s) (framed s p))
-      ∙ c .among
+      (corners-small ns n (b .prepared .small)) (squareBox (s .square)) (squareBox-framed (s .square) (b .keyed .aligned)))
+      ∙ b .candidates .among
 
+  -- there is room to narrow them
+  pub narrowable : {fr : Frame} → FrameOf (s .square) fr → Narrowable f t sh o l (frameBox fr)
+  narrowable e = record {
+    fits = ready-fits (b .ready);
+    room = room-one (levelsFrom (s .square .level)) n (t - f) t (length l) (omega (arith, b .keyed .aligned .deep)) (b .candidates .few) (b .room);
+    framed = e .framed;
+  }
+
+  pub after-narrow : {fr : Frame} {l′ : List ℕ} {top : ℕ} → FrameOf (s .square) fr
+      → Narrowing (λ i. triangleMeetsAt sh o i (frameBox fr)) l l′ f t t top → Narrowed t top cs sh o l l′ (s .square)
+  after-narrow {fr} e w =
+      let deep = b .keyed .aligned .deep in
+      let v = filter (λ i. triangleMeetsAt sh o i (frameBox fr)) (part f t l) in
+      let p = passing e in
+      let few : length v ≤ n =
+      omega (arith, filter-length (λ i. triangleMeetsAt sh o i (frameBox fr)) (part f t l), part-length f t l (b .ready .within), b .candidates .few) in
+      let fit : t + length v ≤ length l = room-one (levelsFrom (s .square .level)) n (length v) t (length l) (omega (arith, deep)) few (b .room) in
+      let same = sets-length l t v (w .stored) in
+      let m : levelsFrom (s .square .level) ≡ suc (depth - s .square .level) = omega (arith, deep) in
+      record {
+        ready = rw (w .stored, w .end) (ready-stored v (b .ready) fit (λ i k. below i (rw p at k)));
+        triangles = rw (w .stored, w .end) (part-stored l v t fit ∙ p);
+        kept = rw (w .stored) (take-before l t v t (omega arith));
+        same = same;
+        few = omega (arith, w .end);
+        room = rw (same, w .end) (room-less (depth - s .square .level) n (length v) t (length l) few (rw m at (b .room)));
+      }
+
+-- ---- a leaf
+
+module _ (table : Table) (s : Square) where
   -- the packed entries of the square as a cell
-  pub packed-cell : (head : ℕ) → head ≡ squareKey s * 4294967296 + s .level * 65536
-      → map (λ i. head + i) (orMark (trianglesMeeting (tableOf ns n) s)) ≡ map (λ e. packed e) (cellEntries (tableOf ns n) s)
+  packed-cell : (head : ℕ) → head ≡ headOf (squareKey s) (s .level)
+      → map (λ i. head + i) (orMark (trianglesMeeting table s)) ≡ map (λ e. packed e) (cellEntries table s)
   unfolding cellEntries entryOf packed
-  packed-cell head e = rw e (go (orMark (trianglesMeeting (tableOf ns n) s)))
+  packed-cell head e = rw e (go (orMark (trianglesMeeting table s)))
     where
-      go : (is : List ℕ) → map (λ i. squareKey s * 4294967296 + s .level * 65536 + i) is
-          ≡ map (λ (x : Entry). x .key * 4294967296 + x .level * 65536 + x .item) (map {B = Entry} (λ i. record { key = squareKey s; level = s .level; item = i }) is)
+      go : (is : List ℕ) → map (λ i. headOf (squareKey s) (s .level) + i) is
+          ≡ map (λ (x : Entry). headOf (x .key) (x .level) + x .item) (map {B = Entry} (λ i. record { key = squareKey s; level = s .level; item = i }) is)
       go [] = refl
-      go (i ∷ is) = ap (λ r. (squareKey s * 4294967296 + s .level * 65536 + i) ∷ r) (go is)
+      go (i ∷ is) = ap (λ r. (headOf (squareKey s) (s .level) + i) ∷ r) (go is)
 
   -- what a leaf leaves
-  pub built-leaf : (most at r t : ℕ) (out out′ l l′ is : List ℕ) (head : ℕ)
-      → stopped (tableOf ns n) s ≡ true
-      → is ≡ trianglesMeeting (tableOf ns n) s
-      → head ≡ squareKey s * 4294967296 + s .level * 65536
+  pub built-leaf : {most at r t : ℕ} {out out′ l l′ is : List ℕ} {head : ℕ}
+      → stopped table s ≡ true
+      → is ≡ trianglesMeeting table s
+      → head ≡ headOf (squareKey s) (s .level)
       → (at + length (orMark is) ≤ most → (r ≡ at + length (orMark is)) × (out′ ≡ sets out at (map (λ i. head + i) (orMark is))))
       → (most < at + length (orMark is) → r ≡ most + 1)
       → take t l′ ≡ take t l → length out′ ≡ length out → length l′ ≡ length l
-      → Built (entriesIn (tableOf ns n) s) most at r t out out′ l l′
-  built-leaf most at r t out out′ l l′ is head st ei eh fits over kept outs stacks =
+      → Built (entriesIn table s) most at r t out out′ l l′
+  built-leaf {most} {at} {out = out} {is = is} {head = head} st ei eh fits over kept outs stacks =
       let pc = packed-cell head eh in
-      let len : length (orMark is) ≡ length (cellEntries (tableOf ns n) s) =
+      let len : length (orMark is) ≡ length (cellEntries table s) =
       ap (λ x. length (orMark x)) ei
-      ∙ sym (length-map (orMark (trianglesMeeting (tableOf ns n) s)) (λ i. head + i))
+      ∙ sym (length-map (orMark (trianglesMeeting table s)) (λ i. head + i))
       ∙ ap length pc
-      ∙ length-map (cellEntries (tableOf ns n) s) (λ e. packed e)
+      ∙ length-map (cellEntries table s) (λ e. packed e)
       in
-      rw (entriesIn-stopped (tableOf ns n) s st)
+      rw (entriesIn-stopped table s st)
       (record {
         fits = λ g.
             let x = fits (omega arith) in
@@ -98,99 +151,3 @@ module _ (n : ℕ) (ns sh o : List ℕ) (h : Prepared n ns sh o) (s : Square) (p
           | no g ↦ let x = over (omega arith) in omega arith
         ];
       })
-
-  -- ---- quarters
-
-  module _ (lev : s .level < 16) where
-    abbrev q : ℕ → Square
-    q k = getD (quarters s) k s
-
-    in-quarters : (k : ℕ) → k < 4 → List·Memᴰ (q k) (quarters s)
-    in-quarters k lt = getD-member (quarters s) k s (four k lt)
-      where
-        four : (k : ℕ) → k < 4 → k < length (quarters s)
-        four k lt = rw (quarters-four s) lt
-
-    pub quarter-tree : (k : ℕ) → k < 4 → Aligned (q k)
-    quarter-tree k lt = quarters-aligned s p lev (q k) (in-quarters k lt)
-
-    pub quarter-level : (k : ℕ) → k < 4 → q k .level ≡ suc (s .level)
-    quarter-level k lt = quarters-level s (q k) (in-quarters k lt)
-
-    pub quarter-candidates : (f t : ℕ) (l : List ℕ) (k : ℕ) → k < 4 → t - f ≤ n → part f t l ≡ trianglesMeeting (tableOf ns n) s → Candidates n f t ns l (q k)
-    quarter-candidates f t l k lt few e = record {
-      few = few;
-      among =
-          ap (filter (λ i. triangleMeets (numbered (tableOf ns n) i) (squareBox (q k)))) e
-          ∙ meeting-narrow (tableOf ns n) s (q k) (quarter-within s lev (q k) (in-quarters k lt));
-    }
-
-    -- the entries of the first quarters, one more
-    pub quarters-more : (k : ℕ) → k < 4
-        → flatMap (λ x. entriesIn (tableOf ns n) x) (take (k + 1) (quarters s))
-        ≡ flatMap (λ x. entriesIn (tableOf ns n) x) (take k (quarters s)) ++ entriesIn (tableOf ns n) (q k)
-    unfolding flatMap
-    quarters-more k lt =
-        ap (λ m. flatMap (λ x. entriesIn (tableOf ns n) x) (take m (quarters s))) (add-one k)
-        ∙ ap (flatMap (λ x. entriesIn (tableOf ns n) x)) (take-suc (quarters s) k s (rw (quarters-four s) lt))
-        ∙ flatMap-append (λ x. entriesIn (tableOf ns n) x) (take k (quarters s)) (q k ∷ [])
-        ∙ ap (λ r. flatMap (λ x. entriesIn (tableOf ns n) x) (take k (quarters s)) ++ r) (append-nil (entriesIn (tableOf ns n) (q k)))
-
-    -- all four are the square's
-    pub quarters-all : stopped (tableOf ns n) s ≡ false → flatMap (λ x. entriesIn (tableOf ns n) x) (take 4 (quarters s)) ≡ entriesIn (tableOf ns n) s
-    unfolding flatMap quarters
-    quarters-all st =
-        ap (λ r. entriesIn (tableOf ns n) (topLeft s) ++ (entriesIn (tableOf ns n) (topRight s) ++ (entriesIn (tableOf ns n) (bottomLeft s) ++ r))) (append-nil (entriesIn (tableOf ns n) (bottomRight s)))
-        ∙ sym (entriesIn-split (tableOf ns n) s lev st)
-
--- ---- after the candidates are narrowed
-
-room-one : (m n d t l : ℕ) → 1 ≤ m → d ≤ n → t + m * n ≤ l → t + d ≤ l
-room-one (suc m) n d t l h e r = omega (arith, suc-mul m n)
-room-one zero n d t l h e r = absurd (omega arith)
-
-room-less : (m n d t l : ℕ) → d ≤ n → t + suc m * n ≤ l → (t + d) + m * n ≤ l
-room-less m n d t l e r = omega (arith, suc-mul m n)
-
--- the triangles of the square stand on the stack from t up to top
-pub record Narrowed (n t top : ℕ) (ns sh o l l₁ : List ℕ) (s : Square) : Type 0 where
-  pub ready : Ready n t top ns sh o l₁
-  pub triangles : part t top l₁ ≡ trianglesMeeting (tableOf ns n) s
-  pub kept : take t l₁ ≡ take t l
-  pub same : length l₁ ≡ length l
-  pub few : top - t ≤ n
-  pub room : top + (16 - s .level) * n ≤ length l₁
-
-module _ (n : ℕ) (ns sh o : List ℕ) (h : Prepared n ns sh o) (s : Square) (p : Aligned s) where
-  pub narrow-room : (f t : ℕ) (l : List ℕ) → Candidates n f t ns l s → t + (17 - s .level) * n ≤ length l → t + (t - f) ≤ length l
-  narrow-room f t l c r = room-one (17 - s .level) n (t - f) t (length l) (omega (arith, p .deep)) (c .few) r
-
-  pub after-narrow : (f t top : ℕ) (l l₁ : List ℕ) (b : Box) → Ready n f t ns sh o l → Candidates n f t ns l s → b ≡ squareBox s
-      → t + (17 - s .level) * n ≤ length l
-      → l₁ ≡ sets l t (filter (λ i. triangleMeetsAt sh o i b) (part f t l))
-      → top ≡ t + length (filter (λ i. triangleMeetsAt sh o i b) (part f t l))
-      → Narrowed n t top ns sh o l l₁ s
-  after-narrow f t top l l₁ b r c e room el et =
-      let v = filter (λ i. triangleMeetsAt sh o i b) (part f t l) in
-      let w = narrowed n ns sh o h s p f t l b r c e in
-      let few : length v ≤ n = omega (arith, filter-length (λ i. triangleMeetsAt sh o i b) (part f t l), part-length f t l (r .within), c .few) in
-      let fit : t + length v ≤ length l = room-one (17 - s .level) n (length v) t (length l) (omega (arith, p .deep)) few room in
-      let same : length l₁ ≡ length l = sets-length l t v el in
-      let m : 17 - s .level ≡ suc (16 - s .level) = omega (arith, p .deep) in
-      record {
-        ready = rw (el, et) (ready-stored v r fit (λ i k. below n ns sh o h s p i (rw w at k)));
-        triangles = rw (el, et) (part-stored l v t fit ∙ w);
-        kept = rw el (take-before l t v t (omega arith));
-        same = same;
-        few = omega (arith, et);
-        room = rw (same, et) (room-less (16 - s .level) n (length v) t (length l) few (rw m at room));
-      }
-
-  pub level-below : stopped (tableOf ns n) s ≡ false → s .level < 16
-  unfolding stopped
-  level-below st = elim (decLe (suc (s .level)) 16) [
-    | yes g ↦ g
-    | no g ↦
-        let e : s .level ≡ 16 = omega (arith, p .deep) in
-        absurd (true≢false (sym (ap (λ b. b || commonEnd (sidesMeeting (tableOf ns n) s)) (eq-eqb (s .level) 16 e)) ∙ st))
-  ]

@@ -2,31 +2,33 @@
 
 mod quadtree;
 
-ghost use mathlib.Core.Path.{_≡_};
-ghost use mathlib.Core.Bool.{true};
-ghost use Prim.Native.Nat.{_*_, _≤_};
-ghost use lib.ListN.{length};
-ghost use Rattle.theory_lists.specs.Lists.{all};
-ghost use Rattle.spec_plane.specs.Triangle.{proper};
-ghost use Rattle.spec_charts.specs.Table.{maxTriangles, numbersPerTriangle, tableOf};
-ghost use Rattle.spec_charts.specs.Cells.{entriesOf, maxEntries};
-ghost use Rattle.quadtree_build.specs.Packed.{Packed};
+use base_tables::MOST_TRIANGLES;
+use quadtree_shapes::shapes;
+ghost use Prim.Native.Nat.{_≤_};
+ghost use Rattle.spec_charts.specs.Table.{tableOf, Drawn};
+ghost use Rattle.spec_charts.specs.Cells.{entriesOf};
+ghost use Rattle.quadtree_build.specs.Packed.{fewTriangles, EntryRoom, Packed};
 
 // The most triangles of a small table, and the entries that it mostly does not exceed.
-pub const SMALL_TABLE: usize = 32;
+pub const FEW_TRIANGLES: usize = 32;
 
 pub const FEW_ENTRIES: usize = 1024;
 
+// The deepest level of a square.
+const DEPTH: usize = 16;
+
+// The lists of candidates that the stack may hold: that of the whole table, and one for each level from 0 on.
+const STACK_LEVELS: usize = DEPTH + 2;
+
 // The entries of a small table.
 fn build_small(table: &[u16], n: usize, out: &mut [u64], most: usize) -> usize
-    requires { ⌜ ((n ≤ 32) × (numbersPerTriangle * n ≤ length (now table))) × (all (λ t. proper t) (tableOf (now table) n) ≡ true) ⌝ }
-    requires { ⌜ (most ≤ length (now out)) × (most ≤ maxEntries) ⌝ }
+    requires { ⌜ Drawn (now table) n × ((n ≤ fewTriangles) × EntryRoom most (now out)) ⌝ }
     ensures { λ r. ⌜ Packed most (entriesOf (tableOf (now (table .entry)) n)) r (now (out .entry)) (now (out .exit)) ⌝ }
 {
-    let mut shape = [0u16; 896];
-    let mut offsets = [0u64; 96];
-    let mut corners = [0u32; 96];
-    let mut stack = [0u16; 576];
+    let mut shape = [0u16; shapes::SHAPE_NUMBERS * FEW_TRIANGLES];
+    let mut offsets = [0u64; shapes::TRIANGLE_SIDES * FEW_TRIANGLES];
+    let mut corners = [0u32; shapes::TRIANGLE_CORNERS * FEW_TRIANGLES];
+    let mut stack = [0u16; STACK_LEVELS * FEW_TRIANGLES];
     quadtree::build(
         table,
         n,
@@ -41,14 +43,13 @@ fn build_small(table: &[u16], n: usize, out: &mut [u64], most: usize) -> usize
 
 // The entries of any table.
 fn build_large(table: &[u16], n: usize, out: &mut [u64], most: usize) -> usize
-    requires { ⌜ ((n ≤ maxTriangles) × (numbersPerTriangle * n ≤ length (now table))) × (all (λ t. proper t) (tableOf (now table) n) ≡ true) ⌝ }
-    requires { ⌜ (most ≤ length (now out)) × (most ≤ maxEntries) ⌝ }
+    requires { ⌜ Drawn (now table) n × EntryRoom most (now out) ⌝ }
     ensures { λ r. ⌜ Packed most (entriesOf (tableOf (now (table .entry)) n)) r (now (out .entry)) (now (out .exit)) ⌝ }
 {
-    let mut shape = [0u16; 14336];
-    let mut offsets = [0u64; 1536];
-    let mut corners = [0u32; 1536];
-    let mut stack = [0u16; 9216];
+    let mut shape = [0u16; shapes::SHAPE_NUMBERS * MOST_TRIANGLES];
+    let mut offsets = [0u64; shapes::TRIANGLE_SIDES * MOST_TRIANGLES];
+    let mut corners = [0u32; shapes::TRIANGLE_CORNERS * MOST_TRIANGLES];
+    let mut stack = [0u16; STACK_LEVELS * MOST_TRIANGLES];
     quadtree::build(
         table,
         n,
@@ -63,11 +64,10 @@ fn build_large(table: &[u16], n: usize, out: &mut [u64], most: usize) -> usize
 
 // The entries of a table, packed, from place 0 on, or most + 1 where they are more than `most`.
 pub fn build_packed(table: &[u16], n: usize, out: &mut [u64], most: usize) -> usize
-    requires { ⌜ ((n ≤ maxTriangles) × (numbersPerTriangle * n ≤ length (now table))) × (all (λ t. proper t) (tableOf (now table) n) ≡ true) ⌝ }
-    requires { ⌜ (most ≤ length (now out)) × (most ≤ maxEntries) ⌝ }
+    requires { ⌜ Drawn (now table) n × EntryRoom most (now out) ⌝ }
     ensures { λ r. ⌜ Packed most (entriesOf (tableOf (now (table .entry)) n)) r (now (out .entry)) (now (out .exit)) ⌝ }
 {
-    if n <= SMALL_TABLE {
+    if n <= FEW_TRIANGLES {
         return build_small(table, n, out, most);
     }
     build_large(table, n, out, most)

@@ -5,23 +5,14 @@ use quadtree_cells::candidates;
 use quadtree_cells::leaves;
 use quadtree_cells::quarters;
 use quadtree_cells::quarters::KeyedSquare;
+use quadtree_shapes::shapes;
 use spec_squares::Square;
-ghost use mathlib.Core.Path.{_≡_};
-ghost use mathlib.Core.Bool.{true};
-ghost use mathlib.Core.List.{map};
-ghost use Prim.Native.Nat.{_+_, _*_, _-_, _≤_, _<_};
-ghost use lib.ListN.{length};
-ghost use lib.Seq.{sets};
-ghost use Rattle.theory_lists.specs.Lists.{all};
-ghost use Rattle.spec_plane.specs.Triangle.{proper};
-ghost use Rattle.spec_squares.specs.Square.{squareKey, quarters, Aligned};
-ghost use Rattle.spec_charts.specs.Table.{maxTriangles, numbersPerTriangle, tableOf};
-ghost use Rattle.spec_charts.specs.Cells.{entriesIn, entriesOf, maxEntries};
-ghost use Rattle.quadtree_shapes.specs.Shape.{coordinates};
-ghost use Rattle.quadtree_stopping.specs.Stopping.{triangleTotal};
-ghost use Rattle.base_entries.specs.Packed.{packed};
-ghost use Rattle.quadtree_cells.specs.Stack.{Ready, Prepared};
-ghost use Rattle.quadtree_build.specs.Build.{Candidates, Built};
+ghost use Prim.Native.Nat.{_+_, _≤_};
+ghost use Rattle.spec_charts.specs.Table.{tableOf, Drawn};
+ghost use Rattle.spec_charts.specs.Cells.{entriesIn, entriesOf};
+ghost use Rattle.quadtree_stopping.specs.Stopping.{cornerTable};
+ghost use Rattle.quadtree_build.specs.Build.{Buildable, BuildRoom, Built};
+ghost use Rattle.quadtree_build.specs.Packed.{EntryRoom, Packed};
 
 // Builds a square: its entries from `at` on, or most + 1 where they do not fit below place `most`. Its triangles are among the
 // candidates from `from` up to `to` of the stack.
@@ -37,9 +28,9 @@ fn build_square(
     at: usize,
     most: usize,
 ) -> usize
-    requires { ⌜ Ready (triangleTotal (now corners)) from to (coordinates (now corners)) (now shape) (now offsets) (now stack) × (Prepared (triangleTotal (now corners)) (coordinates (now corners)) (now shape) (now offsets) × (Candidates (triangleTotal (now corners)) from to (coordinates (now corners)) (now stack) (s .square) × Aligned (s .square))) ⌝ }
-    requires { ⌜ (s .key ≡ squareKey (s .square)) × ((to + (17 - s .square .level) * triangleTotal (now corners) ≤ length (now stack)) × ((most ≤ length (now out)) × ((most ≤ maxEntries) × (at ≤ most + 1)))) ⌝ }
-    ensures { λ r. ⌜ Built (entriesIn (tableOf (coordinates (now (corners .entry))) (triangleTotal (now (corners .entry)))) (s .square)) most at r to (now (out .entry)) (now (out .exit)) (now (stack .entry)) (now (stack .exit)) ⌝ }
+    requires { ⌜ Buildable from to (now corners) (now shape) (now offsets) (now stack) s ⌝ }
+    requires { ⌜ EntryRoom most (now out) × (at ≤ most + 1) ⌝ }
+    ensures { λ r. ⌜ Built (entriesIn (cornerTable (now (corners .entry))) (s .square)) most at r to (now (out .entry)) (now (out .exit)) (now (stack .entry)) (now (stack .exit)) ⌝ }
 {
     if most < at {
         return most + 1;
@@ -70,10 +61,8 @@ pub fn build(
     out: &mut [u64],
     most: usize,
 ) -> usize
-    requires { ⌜ ((n ≤ maxTriangles) × (numbersPerTriangle * n ≤ length (now table))) × (all (λ t. proper t) (tableOf (now table) n) ≡ true) ⌝ }
-    requires { ⌜ ((28 * n ≤ length (now shape)) × ((3 * n ≤ length (now offsets)) × (3 * n ≤ length (now corners)))) × ((18 * n ≤ length (now stack)) × ((most ≤ length (now out)) × (most ≤ maxEntries))) ⌝ }
-    ensures { λ r. ⌜ (length (entriesOf (tableOf (now (table .entry)) n)) ≤ most → (r ≡ length (entriesOf (tableOf (now (table .entry)) n))) × (now (out .exit) ≡ sets (now (out .entry)) 0 (map (λ e. packed e) (entriesOf (tableOf (now (table .entry)) n))))) ⌝ }
-    ensures { λ r. ⌜ (most < length (entriesOf (tableOf (now (table .entry)) n)) → r ≡ most + 1) ⌝ }
+    requires { ⌜ Drawn (now table) n × (BuildRoom n (now shape) (now offsets) (now corners) (now stack) × EntryRoom most (now out)) ⌝ }
+    ensures { λ r. ⌜ Packed most (entriesOf (tableOf (now (table .entry)) n)) r (now (out .entry)) (now (out .exit)) ⌝ }
 {
     quadtree_prepare::prepare(table, n, shape, offsets, corners);
     candidates::put_numbers(stack, n);
@@ -82,7 +71,7 @@ pub fn build(
         key: 0,
     };
     build_square(
-        &corners[0..3 * n],
+        &corners[0..shapes::TRIANGLE_CORNERS * n],
         shape,
         offsets,
         stack,

@@ -42,7 +42,7 @@ y-at (p ∷ ps) (suc j) =
     ap (λ k. getD (p % 65536 ∷ p / 65536 ∷ coordinates ps) k 0) e ∙ y-at ps j
 
 -- point j
-point-kept : (ps : List ℕ) (j k : ℕ) → k ≡ 2 * j → unpacked (getD ps j 0) ≡ pointAt (coordinates ps) k
+pub point-kept : (ps : List ℕ) (j k : ℕ) → k ≡ 2 * j → unpacked (getD ps j 0) ≡ pointAt (coordinates ps) k
 unfolding unpacked pointAt
 point-kept ps j k e =
     let p : _≡_ {A = Point} (record { x = getD ps j 0 % 65536; y = getD ps j 0 / 65536 }) (record { x = getD (coordinates ps) (2 * j) 0; y = getD (coordinates ps) (2 * j + 1) 0 }) =

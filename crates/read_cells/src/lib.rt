@@ -3,13 +3,11 @@
 mod morton;
 mod search;
 
+use base_entries::MARK;
 use spec_plane::Point;
 ghost use Rattle.spec_squares.specs.Square.{zOrder};
 ghost use Rattle.read_cells.specs.Keys.{Listable};
 ghost use Rattle.read_cells.specs.Place.{CellListed};
-
-// The mark: the item of a cell that lists no triangle.
-const MARK: u16 = 65535;
 
 // The items of the last cell at or below Z(p), as a part of the caller's own list; an empty part for the mark. Levels are not needed, as a
 // cell ends where the next key begins: in a chain it is the cell whose key range has Z(p).

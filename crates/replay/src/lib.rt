@@ -2,6 +2,7 @@
 
 use base_answers::Overlaid;
 use replay_lists::Counts;
+use replay_lists::run_history;
 ghost use mathlib.Core.Path.{_≡_};
 ghost use Rattle.spec_calls.specs.Lent.{given, leftChart};
 ghost use Rattle.base_answers.specs.Outcomes.{leftPairs};
@@ -44,24 +45,8 @@ pub fn replay(
 ) -> ReplayAnswer
     ensures { λ r. ⌜ Replayed (given table0 keys0 levels0 items0 triangles0 entries0) (given table1 keys1 levels1 items1 triangles1 entries1) (now (pairs .entry)) (now (calls0 .entry)) (now (calls1 .entry)) (leftChart table0 keys0 levels0 items0 (r .first .triangles) (r .first .entries)) (leftChart table1 keys1 levels1 items1 (r .second .triangles) (r .second .entries)) (leftPairs pairs (r .overlaid)) ⌝ }
 {
-    let first = replay_lists::run_history(
-        calls0,
-        table0,
-        keys0,
-        levels0,
-        items0,
-        triangles0,
-        entries0,
-    );
-    let second = replay_lists::run_history(
-        calls1,
-        table1,
-        keys1,
-        levels1,
-        items1,
-        triangles1,
-        entries1,
-    );
+    let first = run_history(calls0, table0, keys0, levels0, items0, triangles0, entries0);
+    let second = run_history(calls1, table1, keys1, levels1, items1, triangles1, entries1);
     let overlaid = call_overlay::overlay(
         table0,
         keys0,

@@ -2,7 +2,7 @@
 -- Assumes nothing.
 use mathlib.Core.Path.{_≡_, refl}
 use mathlib.Core.Bool.{true, false}
-use mathlib.Core.List.{[], _∷_, map, flatMap}
+use mathlib.Core.List.{[], _∷_, _++_, map, flatMap}
 use lib.ListN.{replicate}
 use Rattle.theory_lists.specs.Lists.{all}
 use Rattle.spec_charts.specs.Table.{pointAt, sixteenBit}
@@ -10,46 +10,69 @@ use Rattle.spec_charts.specs.Edits.{load, split, takeOut, flip}
 use Rattle.spec_charts.proofs.Written.{at}
 use Rattle.replay_calls.specs.Encoding.{callLength, wholeCall, callEvent, decodeUpTo, decode, callNumbers, encode, expressible, shortened, pointFits, clipped}
 
--- for the commands 0 to 7, where 9 comes next
-callLength-example : map (λ k. callLength k 9) (0 ∷ 1 ∷ 2 ∷ 3 ∷ 4 ∷ 5 ∷ 6 ∷ 7 ∷ []) ≡ 0 ∷ 0 ∷ 11 ∷ 4 ∷ 3 ∷ 3 ∷ 0 ∷ 0 ∷ []
+-- for the commands 0 to 7, where 5000000009 comes next; a number beyond 2^32 is no command, whatever its low bits are
+callLength-example :
+    map (λ k. callLength k 5000000009)
+    (0 ∷ 1 ∷ 2 ∷ 3 ∷ 4 ∷ 5 ∷ 6 ∷ 7 ∷ 4294967298 ∷ 4294967299 ∷ 4294967300 ∷ 4294967301 ∷ [])
+    ≡ 0 ∷ 0 ∷ 5000000011 ∷ 4 ∷ 3 ∷ 3 ∷ replicate 6 0
 unfolding callLength
 callLength-example = refl
 
--- whole calls with a number after them, then calls that are cut
+-- whole calls with a number after them, then a load of 65,536 numbers, then calls that are cut
 wholeCall-example :
     map (λ ns. wholeCall ns)
-    ((2 ∷ 1 ∷ 9 ∷ 9 ∷ []) ∷ (2 ∷ 0 ∷ 9 ∷ []) ∷ (3 ∷ 6 ∷ 7 ∷ 8 ∷ 9 ∷ []) ∷ (4 ∷ 6 ∷ 7 ∷ 9 ∷ []) ∷ (5 ∷ 6 ∷ 7 ∷ 9 ∷ []) ∷ []
-    ) ≡ 3 ∷ 2 ∷ 4 ∷ 3 ∷ 3 ∷ []
+    ((2 ∷ 1 ∷ 9 ∷ 9 ∷ []) ∷ (2 ∷ 0 ∷ 9 ∷ []) ∷ (3 ∷ 6 ∷ 7 ∷ 8 ∷ 9 ∷ []) ∷ (4 ∷ 6 ∷ 7 ∷ 9 ∷ []) ∷ (5 ∷ 6 ∷ 7 ∷ 9 ∷ []) ∷ (2 ∷ 65536 ∷ replicate 65536 9) ∷ []
+    ) ≡ 3 ∷ 2 ∷ 4 ∷ 3 ∷ 3 ∷ 65538 ∷ []
 unfolding wholeCall callLength
 wholeCall-example = refl
 
 cut-example :
     map (λ ns. wholeCall ns)
-    ([] ∷ (2 ∷ []) ∷ (2 ∷ 2 ∷ 9 ∷ []) ∷ (3 ∷ 6 ∷ 7 ∷ []) ∷ (4 ∷ 6 ∷ []) ∷ (5 ∷ 6 ∷ []) ∷ (6 ∷ 7 ∷ 8 ∷ 9 ∷ []) ∷ []
-    ) ≡ 0 ∷ 0 ∷ 0 ∷ 0 ∷ 0 ∷ 0 ∷ 0 ∷ []
+    ([] ∷ (2 ∷ []) ∷ (2 ∷ 2 ∷ 9 ∷ []) ∷ (2 ∷ 4294967296 ∷ 9 ∷ []) ∷ (3 ∷ 6 ∷ 7 ∷ []) ∷ (4 ∷ 6 ∷ []) ∷ (5 ∷ 6 ∷ []) ∷ (6 ∷ 7 ∷ 8 ∷ 9 ∷ []) ∷ (4294967298 ∷ 0 ∷ 9 ∷ []) ∷ []
+    ) ≡ replicate 9 0
 unfolding wholeCall callLength
 cut-example = refl
 
-callEvent-example : map (λ ns. callEvent ns) ((2 ∷ 2 ∷ 8 ∷ 9 ∷ []) ∷ (3 ∷ 6 ∷ 7 ∷ 8 ∷ []) ∷ (4 ∷ 6 ∷ 7 ∷ []) ∷ (5 ∷ 6 ∷ 7 ∷ []) ∷ [])
-    ≡ load (8 ∷ 9 ∷ []) ∷ split 6 (at 7 8) ∷ takeOut (at 6 7) ∷ flip 6 7 ∷ []
+-- the numbers of a call, whole; any command but 2, 3 and 4 is a flip here
+callEvent-example :
+    map (λ k. callEvent (k ∷ 5000000006 ∷ 6000000007 ∷ 7000000008 ∷ []))
+    (2 ∷ 3 ∷ 4 ∷ 5 ∷ 4294967298 ∷ 4294967299 ∷ 4294967300 ∷ [])
+    ≡ load (6000000007 ∷ 7000000008 ∷ [])
+    ∷ split 5000000006 (at 6000000007 7000000008)
+    ∷ takeOut (at 5000000006 6000000007)
+    ∷ replicate 4 (flip 5000000006 6000000007)
 unfolding callEvent pointAt
 callEvent-example = refl
 
--- at most two calls
-decodeUpTo-example : decodeUpTo 2 (4 ∷ 1 ∷ 2 ∷ 5 ∷ 3 ∷ 4 ∷ 5 ∷ 6 ∷ 7 ∷ []) ≡ takeOut (at 1 2) ∷ flip 3 4 ∷ []
+-- at most two calls; a load of 65,534 numbers, which with its command takes 65,536, and a flip after it
+decodeUpTo-example :
+    decodeUpTo 2 (4 ∷ 1 ∷ 2 ∷ 5 ∷ 3 ∷ 4 ∷ 5 ∷ 6 ∷ 7 ∷ []) ∷ decodeUpTo 2 (2 ∷ 65534 ∷ replicate 65534 9 ++ (5 ∷ 3 ∷ 4 ∷ [])) ∷ []
+    ≡ (takeOut (at 1 2) ∷ flip 3 4 ∷ []) ∷ (load (replicate 65534 9) ∷ flip 3 4 ∷ []) ∷ []
 unfolding decodeUpTo callEvent wholeCall callLength pointAt
 decodeUpTo-example = refl
 
--- all calls; an unknown command ends the list, and so does a call that is cut
+-- all calls; an unknown command ends the list, and so does a call that is cut; 65,536 numbers
 decode-example :
     map (λ ns. decode ns)
-    ((5 ∷ 3 ∷ 4 ∷ 2 ∷ 0 ∷ 3 ∷ 5 ∷ 6 ∷ 7 ∷ []) ∷ (2 ∷ 1 ∷ 3 ∷ 4 ∷ 1 ∷ 2 ∷ 6 ∷ 5 ∷ 8 ∷ 9 ∷ []) ∷ (4 ∷ 1 ∷ 2 ∷ 5 ∷ 3 ∷ []) ∷ []
-    ) ≡ (flip 3 4 ∷ load [] ∷ split 5 (at 6 7) ∷ []) ∷ (load (3 ∷ []) ∷ takeOut (at 1 2) ∷ []) ∷ (takeOut (at 1 2) ∷ []) ∷ []
+    ((5 ∷ 3 ∷ 4 ∷ 2 ∷ 0 ∷ 3 ∷ 5 ∷ 6 ∷ 7 ∷ []) ∷ (2 ∷ 1 ∷ 3 ∷ 4 ∷ 1 ∷ 2 ∷ 6 ∷ 5 ∷ 8 ∷ 9 ∷ []) ∷ (4 ∷ 1 ∷ 2 ∷ 5 ∷ 3 ∷ []) ∷ (2 ∷ 65534 ∷ replicate 65534 9) ∷ []
+    ) ≡ (flip 3 4 ∷ load [] ∷ split 5 (at 6 7) ∷ []) ∷ (load (3 ∷ []) ∷ takeOut (at 1 2) ∷ []) ∷ (takeOut (at 1 2) ∷ []) ∷ (load (replicate 65534 9) ∷ []) ∷ []
 unfolding decode decodeUpTo callEvent wholeCall callLength pointAt
 decode-example = refl
 
-callNumbers-example : map (λ e. callNumbers e) (load (8 ∷ 9 ∷ []) ∷ split 6 (at 7 8) ∷ takeOut (at 6 7) ∷ flip 6 7 ∷ [])
-    ≡ (2 ∷ 2 ∷ 8 ∷ 9 ∷ []) ∷ (3 ∷ 6 ∷ 7 ∷ 8 ∷ []) ∷ (4 ∷ 6 ∷ 7 ∷ []) ∷ (5 ∷ 6 ∷ 7 ∷ []) ∷ []
+callNumbers-example :
+    map (λ e. callNumbers e)
+    (load (5000000008 ∷ 9 ∷ [])
+    ∷ load (replicate 65536 9)
+    ∷ split 5000000006 (at 6000000007 7000000008)
+    ∷ takeOut (at 5000000006 6000000007)
+    ∷ flip 5000000006 6000000007
+    ∷ [])
+    ≡ (2 ∷ 2 ∷ 5000000008 ∷ 9 ∷ [])
+    ∷ (2 ∷ 65536 ∷ replicate 65536 9)
+    ∷ (3 ∷ 5000000006 ∷ 6000000007 ∷ 7000000008 ∷ [])
+    ∷ (4 ∷ 5000000006 ∷ 6000000007 ∷ [])
+    ∷ (5 ∷ 5000000006 ∷ 6000000007 ∷ [])
+    ∷ []
 unfolding callNumbers
 callNumbers-example = refl
 

@@ -28,11 +28,17 @@ chart-example : logOf (2 ∷ 2 ∷ []) ++ logOf (7 ∷ 6 ∷ 1 ∷ 1 ∷ 2 ∷ 3
 unfolding evaluate
 chart-example = refl
 
--- the 512th waiting triangle is kept, a 513th is dropped
+-- 65,536 bytes, of which the first is no command
+long-example : logOf (replicate 65536 9) ≡ 111 ∷ 118 ∷ 101 ∷ 114 ∷ 108 ∷ 97 ∷ 121 ∷ 32 ∷ 108 ∷ 111 ∷ 103 ∷ 10 ∷ 98 ∷ 97 ∷ 100 ∷ 32 ∷ 48 ∷ 10 ∷ []
+unfolding evaluate
+long-example = refl
+
+-- the 512th waiting triangle is kept, a 513th is dropped, and any later one
 waiting-example :
-    map (λ n. waitStep (1 ∷ 2 ∷ 3 ∷ 4 ∷ 5 ∷ 6 ∷ []) (record { chart0 = []; chart1 = []; waiting = replicate n 9 })) (3066 ∷ 3072 ∷ [])
+    map (λ n. waitStep (1 ∷ 2 ∷ 3 ∷ 4 ∷ 5 ∷ 6 ∷ []) (record { chart0 = []; chart1 = []; waiting = replicate n 9 })) (3066 ∷ 3072 ∷ 65542 ∷ [])
     ≡ record { printed = []; after = record { chart0 = []; chart1 = []; waiting = replicate 3066 9 ++ (1 ∷ 2 ∷ 3 ∷ 4 ∷ 5 ∷ 6 ∷ []) } }
     ∷ record { printed = 49 ∷ 32 ∷ 52 ∷ 10 ∷ []; after = record { chart0 = []; chart1 = []; waiting = replicate 3072 9 } }
+    ∷ record { printed = 49 ∷ 32 ∷ 52 ∷ 10 ∷ []; after = record { chart0 = []; chart1 = []; waiting = replicate 65542 9 } }
     ∷ []
 unfolding evaluate
 waiting-example = refl

@@ -8,7 +8,7 @@ use Prim.Native.Nat.{ℕ, zero, suc, _+_, _*_, _/_, _%_}
 use lib.Dec.{leb, ltb, eqb}
 use lib.ListN.{length, drop, getD}
 use Rattle.spec_plane.specs.declared.Point.{Point}
-use Rattle.spec_charts.specs.Table.{Table, tableLength}
+use Rattle.spec_charts.specs.Table.{Table, numbersPerTriangle, tableLength}
 use Rattle.spec_charts.specs.Cells.{entriesOf}
 use Rattle.spec_charts.specs.declared.Refusal.{Refusal}
 use Rattle.spec_charts.specs.declared.Refusal.the-variants.{BadLength, FaultyTriangle}
@@ -100,15 +100,15 @@ waitStep ns s =
 unfoldable pub loadStep : ℕ → State → Step
 loadStep c s = eventStep 2 c (eventOn (load (s .waiting)) (tableIn c s)) (withWaiting [] s)
 
--- command 6: "the triangle or 65535"
-unfoldable pub foundNumber : Option ℕ → ℕ
-foundNumber none = 65535
-foundNumber (some i) = i
+-- the numbers that command 6 prints after its number and the number returned: "the triangle or 65535"
+unfoldable pub locatedNumbers : Option ℕ → List ℕ
+locatedNumbers none = 65535 ∷ []
+locatedNumbers (some i) = i ∷ []
 
 unfoldable pub locateStep : ℕ → Point → State → Step
 locateStep c p s =
     let t : Table = tableIn c s in
-    record { printed = line 6 (0 ∷ foundNumber (located t (entriesOf t) p) ∷ []); after = s }
+    record { printed = line 6 (0 ∷ locatedNumbers (located t (entriesOf t) p)); after = s }
 
 -- command 7: "pairs and meetings, then a line `i j` for each pair"
 unfoldable pub overlayLines : Outcome OverlayAnswer → List ℕ
@@ -148,7 +148,7 @@ takesChart b = leb 2 b && leb b 6
 
 -- how many 16-bit operands a command has: six for a triangle, three for t x y, two for x y or i j
 unfoldable pub wordCount : ℕ → ℕ
-wordCount b = cond (eqb b 1) 6 (cond (eqb b 3) 3 (cond (leb 4 b && leb b 6) 2 0))
+wordCount b = cond (eqb b 1) numbersPerTriangle (cond (eqb b 3) 3 (cond (leb 4 b && leb b 6) 2 0))
 
 -- how many bytes c is
 unfoldable pub chartBytes : ℕ → ℕ

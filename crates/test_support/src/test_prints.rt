@@ -27,7 +27,7 @@ fn print_name(what: u8) {
         return;
     }
     if what == 11 {
-        say(b"takeout");
+        say(b"take_out");
         return;
     }
     say(b"flip");

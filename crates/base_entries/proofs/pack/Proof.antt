@@ -9,4 +9,5 @@ unfolding packed
 returns c = refl
 
 pub pack-spec : {M : Type 1} → statement M
-pack-spec = tie.close (tie.spec (λ c. search needs) (λ c. search needs) (λ c. search needs) (λ c. search needs) returns)
+pack-spec =
+    tie.close (tie.spec (λ c. search needs) (λ c. search needs) (λ c. search needs) (λ c. search needs) returns)

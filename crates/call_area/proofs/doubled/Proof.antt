@@ -5,18 +5,6 @@ use Rattle.call_area.proofs.AreaLaws.{doubledArea-value}
 use Rattle.call_area.proofs.doubled.Statement.{statement}
 use Rattle.call_area.proofs.doubled.Tie as tie
 
-array-copy-out-orientation : tie.Need-array-copy-out-orientation
-array-copy-out-orientation c = search needs
-
-array-copy-out-orientation-2 : tie.Need-array-copy-out-orientation-2
-array-copy-out-orientation-2 c = search needs
-
-array-copy-out-orientation-3 : tie.Need-array-copy-out-orientation-3
-array-copy-out-orientation-3 c = search needs
-
-orientation-requires : tie.Need-orientation-requires
-orientation-requires c κs = search needs
-
 sub-result : tie.Need-sub-result
 unfolding triangleOf cornerAt
 sub-result c =
@@ -37,11 +25,4 @@ returns c =
 
 pub doubled-spec : {M : Type 1} → statement M
 doubled-spec =
-    tie.close
-    (tie.spec
-    array-copy-out-orientation
-    array-copy-out-orientation-2
-    array-copy-out-orientation-3
-    orientation-requires
-    sub-result
-    returns)
+    tie.close (tie.spec (λ c. search needs) (λ c. search needs) (λ c. search needs) (λ c κs. search needs) sub-result returns)

@@ -15,12 +15,6 @@ abbrev chart : tie.Start → Chart
 chart c =
     let a = c .args in held (a .table) (a .keys) (a .levels) (a .items) (a .triangles) (a .entries)
 
-judge-requires : tie.Need-judge-requires
-judge-requires c κs = search needs
-
-enum-told : tie.Need-enum-told
-enum-told c = search needs
-
 -- where nothing is against the chart
 fine : (c : tie.After-enum-told) →
     let top : tie.Start = search needs in
@@ -34,9 +28,6 @@ sum-requires : tie.Need-sum-requires
 sum-requires c κs =
     let top : tie.Start = search needs in
     rule-drawn (chart top) (fine c .0) (fine c .1)
-
-enum-known-r : tie.Need-enum-known-r
-enum-known-r c = search needs
 
 returns : tie.Need-returns
 unfolding chartTable
@@ -54,4 +45,5 @@ returns-2 c =
     area-refused (chart top) (sym (ap verdictOutcome (told .r .given .1)) ∙ j .judge .ensures)
 
 pub doubled-area-spec : {M : Type 1} → statement M
-doubled-area-spec = tie.close (tie.spec judge-requires enum-told sum-requires enum-known-r returns returns-2)
+doubled-area-spec =
+    tie.close (tie.spec (λ c κs. search needs) (λ c. search needs) sum-requires (λ c. search needs) returns returns-2)

@@ -22,9 +22,6 @@ loop-holds c =
     let top : tie.Start Inv-loop μ-loop = search needs in
     (search needs, totalArea-none (top .args .table .now))
 
-triangle-at-requires : tie.Need-triangle-at-requires Inv-loop μ-loop
-triangle-at-requires c κs = omega arith
-
 doubled-requires : tie.Need-doubled-requires Inv-loop μ-loop
 unfolding triangleOf cornerAt
 doubled-requires c κs =
@@ -33,15 +30,6 @@ doubled-requires c κs =
     let a = top .args in
     let i = loop .loop .i in
     ap (λ t. proper (triangleOf t)) (c .triangle-at .ensures) ∙ proper-at (a .table .now) (a .n) i (top .pre .oriented) (omega arith)
-
-add-s : tie.Need-add-s Inv-loop μ-loop
-add-s c = omega arith
-
-add-i : tie.Need-add-i Inv-loop μ-loop
-add-i c = search needs
-
-loop-less : tie.Need-loop-less Inv-loop μ-loop
-loop-less c = search needs
 
 loop-again : tie.Need-loop-again Inv-loop μ-loop
 unfolding triangleOf cornerAt
@@ -63,15 +51,5 @@ returns c =
 
 pub sum-spec : {M : Type 1} → statement M
 sum-spec =
-    tie.close
-    (tie.spec
-    Inv-loop
-    μ-loop
-    loop-holds
-    triangle-at-requires
-    doubled-requires
-    add-s
-    add-i
-    loop-less
-    loop-again
-    returns)
+    tie.close (tie.spec Inv-loop μ-loop loop-holds (λ c κs. omega arith) doubled-requires (λ c. omega arith) (λ c. search needs) (λ c. search needs)
+    loop-again returns)

@@ -34,12 +34,6 @@ judged c =
     let top = judge-load-to-top judge-load in
     sym (ap verdictOutcome (c .enum-told .given .1)) ∙ judge-load .judge-load .ensures (top .args .triangles) (top .args .entries)
 
-judge-load-requires : tie.Need-judge-load-requires
-judge-load-requires c κs = search needs
-
-enum-told : tie.Need-enum-told
-enum-told c = search needs
-
 store-requires : tie.Need-store-requires
 unfolding givenTable
 store-requires c κs =
@@ -48,18 +42,6 @@ store-requires c κs =
     let given = load-accepted (top .args .numbers .now) (chart top) (judged e) in
     (record { few = omega (arith, given .few); room = omega arith; oriented = given .oriented }, load-judged (top .args .numbers .now) (chart top) (judged e) .0)
 
-same-length : tie.Need-same-length
-same-length c = search needs
-
-same-length-2 : tie.Need-same-length-2
-same-length-2 c = search needs
-
-same-length-3 : tie.Need-same-length-3
-same-length-3 c = search needs
-
-same-length-4 : tie.Need-same-length-4
-same-length-4 c = search needs
-
 returns : tie.Need-returns
 unfolding givenTable
 returns c =
@@ -67,21 +49,6 @@ returns c =
     let e : tie.After-enum-told = search needs in
     let top = enum-told-to-top e in
     store .store .ensures ∙ load-rest (top .args .numbers .now) (chart top) (judged e)
-
-enum-told-2 : tie.Need-enum-told-2
-enum-told-2 c = search needs
-
-same-length-5 : tie.Need-same-length-5
-same-length-5 c = search needs
-
-same-length-6 : tie.Need-same-length-6
-same-length-6 c = search needs
-
-same-length-7 : tie.Need-same-length-7
-same-length-7 c = search needs
-
-same-length-8 : tie.Need-same-length-8
-same-length-8 c = search needs
 
 returns-2 : tie.Need-returns-2
 unfolding changedBy
@@ -95,19 +62,5 @@ returns-2 c =
 
 pub load-spec : {M : Type 1} → statement M
 load-spec =
-    tie.close
-    (tie.spec
-    judge-load-requires
-    enum-told
-    store-requires
-    same-length
-    same-length-2
-    same-length-3
-    same-length-4
-    returns
-    enum-told-2
-    same-length-5
-    same-length-6
-    same-length-7
-    same-length-8
-    returns-2)
+    tie.close (tie.spec (λ c κs. search needs) (λ c. search needs) store-requires (λ c. search needs) (λ c. search needs) (λ c. search needs)
+    (λ c. search needs) returns (λ c. search needs) (λ c. search needs) (λ c. search needs) (λ c. search needs) (λ c. search needs) returns-2)

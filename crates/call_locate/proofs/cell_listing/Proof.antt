@@ -4,14 +4,14 @@ use native.Mathlib.Omega.{arith}
 use borrow.Author.Needs.{needs}
 use Rattle.theory_lists.specs.Lists.{countFrom}
 use Rattle.spec_calls.specs.Buffers.{Chart, chartEntries, tooShort, chainRule}
-use Rattle.laws_calls.proofs.BufferLaws.{searchable}
 use Rattle.laws_calls.proofs.JudgeLaws.{chained-passed}
 use Rattle.laws_calls.proofs.ReaderLaws.{listing-refused, listing-done}
 use Rattle.spec_calls.specs.Lent.{held}
 use Rattle.base_answers.specs.Outcomes.{verdictOutcome}
 use Rattle.read_cells.specs.Place.{OwnPart}
 use Rattle.read_cells.proofs.PlaceLaws.{own-part}
-use Rattle.call_locate.proofs.CallLaws.{lists-searchable, places-refused, places-done}
+use Rattle.read_cells.proofs.PointLaws.{part-listed, part-placed}
+use Rattle.call_locate.proofs.CallLaws.{lists-chained, lists-searchable, places-refused, places-done}
 use Rattle.call_locate.proofs.cell_listing.Statement.{statement}
 use Rattle.call_locate.proofs.cell_listing.Tie as tie
 
@@ -20,23 +20,8 @@ abbrev chart : tie.Start → Chart
 chart c =
     let a = c .args in held (a .table) (a .keys) (a .levels) (a .items) (a .triangles) (a .entries)
 
-judge-requires : tie.Need-judge-requires
-judge-requires c κs = search needs
-
 enum-told : tie.Need-enum-told
 enum-told c = search needs
-
-enum-told-2 : tie.Need-enum-told-2
-enum-told-2 c = search needs
-
-sub-result : tie.Need-sub-result
-sub-result c = search needs
-
-part-result-start : tie.Need-part-result-start
-part-result-start c = search needs
-
-part-result-end : tie.Need-part-result-end
-part-result-end c = search needs
 
 -- an earlier place, found from a later one
 abbrev judge-to-top : tie.After-judge → tie.Start
@@ -74,24 +59,13 @@ returns-2 c =
     let top : tie.Start = search needs in
     let s = fine enum-told .0 in
     let r = fine enum-told .1 in
-    let h = searchable (chart top) s r in
-    let n = top .args .triangles in
-    let levels = top .args .levels .now in (
-      c .listing .ensures .0 n levels (h .0 .forLevels) (h .1) ∙ listing-done (chart top) s r (top .args .p),
-      subst (OwnPart (top .args .items) (c .listing .result)) (places-done (chart top) (top .args .p) s r)
-          (c .listing .ensures .1 n levels (h .0 .forLevels) (h .1)),
+    let p = top .args .p in
+    let h = lists-chained (chart top) p s r in (
+      part-listed h p (c .listing .ensures) ∙ listing-done (chart top) s r p,
+      subst (OwnPart (top .args .items) (c .listing .result)) (places-done (chart top) p s r) (part-placed h p (c .listing .ensures)),
     )
 
 pub cell-listing-spec : {M : Type 1} → statement M
 cell-listing-spec =
-    tie.close
-    (tie.spec
-    judge-requires
-    enum-told
-    enum-told-2
-    sub-result
-    part-result-start
-    part-result-end
-    returns
-    listing-requires
-    returns-2)
+    tie.close (tie.spec (λ c κs. search needs) enum-told (λ c. search needs) (λ c. search needs) (λ c. search needs) (λ c. search needs) returns
+    listing-requires returns-2)

@@ -22,24 +22,12 @@ abbrev μ-loop : tie.MeasureT-loop
 loop-holds : tie.Need-loop-holds Inv-loop μ-loop
 loop-holds c = (omega arith, refl)
 
-mul-i : tie.Need-mul-i Inv-loop μ-loop
-mul-i c = search needs
-
-shared-slice-read-i : tie.Need-shared-slice-read-i Inv-loop μ-loop
-shared-slice-read-i c = search needs
-
-index-requires : tie.Need-index-requires Inv-loop μ-loop
-index-requires c κs = search needs
-
 triangle-at-requires : tie.Need-triangle-at-requires Inv-loop μ-loop
 triangle-at-requires c κs =
     let in-loop : tie.In-loop Inv-loop μ-loop = search needs in
     let loop : tie.At-loop Inv-loop μ-loop = search needs in
     let top : tie.Start Inv-loop μ-loop = search needs in
     omega (arith, top .pre (loop .loop .k) (in-loop .loop-test .taken))
-
-holds-requires : tie.Need-holds-requires Inv-loop μ-loop
-holds-requires c κs = search needs
 
 -- an earlier place, found from a later one
 abbrev index-to-top : tie.After-index Inv-loop μ-loop → tie.Start Inv-loop μ-loop
@@ -70,12 +58,6 @@ returns c =
     let l = loop .loop in
     sym (ap (λ o. foundOf o) (l .inv .1 ∙ first-here (λ i. holds (triangleAt (a .table .now) i) (a .p)) (a .list .now) (l .k) (omega arith) (sym (tested holds-2) ∙ c .if1 .taken)))
 
-add-k : tie.Need-add-k Inv-loop μ-loop
-add-k c = search needs
-
-loop-less : tie.Need-loop-less Inv-loop μ-loop
-loop-less c = search needs
-
 loop-again : tie.Need-loop-again Inv-loop μ-loop
 loop-again c =
     let holds-2 : tie.After-holds Inv-loop μ-loop = search needs in
@@ -97,18 +79,5 @@ returns-2 c =
 
 pub first-holding-spec : {M : Type 1} → statement M
 first-holding-spec =
-    tie.close
-    (tie.spec
-    Inv-loop
-    μ-loop
-    loop-holds
-    mul-i
-    shared-slice-read-i
-    index-requires
-    triangle-at-requires
-    holds-requires
-    returns
-    add-k
-    loop-less
-    loop-again
-    returns-2)
+    tie.close (tie.spec Inv-loop μ-loop loop-holds (λ c. search needs) (λ c. search needs) (λ c κs. search needs) triangle-at-requires
+    (λ c κs. search needs) returns (λ c. search needs) (λ c. search needs) loop-again returns-2)

@@ -3,12 +3,12 @@ use mathlib.Core.Bool.{true, false}
 use borrow.Author.Needs.{needs}
 use Rattle.spec_charts.specs.Reading.{listing}
 use Rattle.spec_calls.specs.Buffers.{Chart, chartEntries, tooShort, chainRule}
-use Rattle.laws_calls.proofs.BufferLaws.{searchable}
 use Rattle.laws_calls.proofs.JudgeLaws.{chained-passed}
 use Rattle.laws_calls.proofs.ReaderLaws.{locate-refused, table-holds}
 use Rattle.spec_calls.specs.Lent.{held}
 use Rattle.base_answers.specs.Outcomes.{verdictOutcome}
-use Rattle.call_locate.proofs.CallLaws.{lists-searchable, locate-done}
+use Rattle.read_cells.proofs.PointLaws.{part-listed}
+use Rattle.call_locate.proofs.CallLaws.{lists-chained, lists-searchable, locate-done}
 use Rattle.call_locate.proofs.locate.Statement.{statement}
 use Rattle.call_locate.proofs.locate.Tie as tie
 
@@ -16,9 +16,6 @@ use Rattle.call_locate.proofs.locate.Tie as tie
 abbrev chart : tie.Start → Chart
 chart c =
     let a = c .args in held (a .table) (a .keys) (a .levels) (a .items) (a .triangles) (a .entries)
-
-judge-requires : tie.Need-judge-requires
-judge-requires c κs = search needs
 
 enum-told : tie.Need-enum-told
 enum-told c = search needs
@@ -45,17 +42,14 @@ unfolding chartEntries
 listed c =
     let enum-told : tie.After-enum-told = search needs in
     let top : tie.Start = search needs in
-    let h = searchable (chart top) (fine enum-told .0) (fine enum-told .1) in
-    c .listing .ensures .0 (top .args .triangles) (top .args .levels .now) (h .0 .forLevels) (h .1)
+    let h = lists-chained (chart top) (top .args .p) (fine enum-told .0) (fine enum-told .1) in
+    part-listed h (top .args .p) (c .listing .ensures)
 
 first-holding-requires : tie.Need-first-holding-requires
 first-holding-requires c κs =
     let b : tie.After-enum-told = search needs in
     let top : tie.Start = search needs in
     table-holds (chart top) (fine b .0) (fine b .1) (top .args .p) (listed c)
-
-enum-known-r : tie.Need-enum-known-r
-enum-known-r c = search needs
 
 -- an earlier place, found from a later one
 abbrev enum-told-to-top : tie.After-enum-told → tie.Start
@@ -77,12 +71,4 @@ returns-2 c =
 
 pub locate-spec : {M : Type 1} → statement M
 locate-spec =
-    tie.close
-    (tie.spec
-    judge-requires
-    enum-told
-    listing-requires
-    first-holding-requires
-    enum-known-r
-    returns
-    returns-2)
+    tie.close (tie.spec (λ c κs. search needs) enum-told listing-requires first-holding-requires (λ c. search needs) returns returns-2)

@@ -1,11 +1,14 @@
 -- Refusal 1 of all buffers, then 2 of both charts, then the pairs: each return is a case of `overlayCall`. What the merge marks is
 -- what is listed together, so the marked pairs that have a common interior point are the pairs listed.
-use mathlib.Core.Path.{_≡_, sym, _∙_, ap₂}
+use mathlib.Core.Path.{_≡_, refl, sym, _∙_, ap₂}
 use mathlib.Core.Bool.{Bool, true, false, _&&_, _||_}
+use native.Mathlib.Omega.{arith}
 use borrow.Author.Needs.{needs}
 use borrow.Author.Tests.{not-true, not-false}
 use lib.Dec.{ltb}
 use lib.ListN.{length}
+use Rattle.theory_orthtree.specs.Entries.{span}
+use Rattle.spec_squares.specs.Square.{arity, depth}
 use Rattle.spec_calls.specs.Buffers.{Chart, tooShort, chainRule, chartTable, chartEntries, pairsLength}
 use Rattle.spec_calls.specs.Lent.{held}
 use Rattle.overlay_marks.specs.PairMarks.{rowsLength}
@@ -13,6 +16,11 @@ use Rattle.overlay_marks.proofs.BitLaws.{zeros-empty}
 use Rattle.call_overlay.proofs.OverlayLaws.{overlay-short, first-long, second-long, pairs-long, overlay-broken, first-passed, second-passed, overlay-passed, overlay-same}
 use Rattle.call_overlay.proofs.overlay.Statement.{statement}
 use Rattle.call_overlay.proofs.overlay.Tie as tie
+
+-- the keys of the tree of squares end at 2^32
+tree-end : span arity depth 0 ≡ 4294967296
+unfolding span
+tree-end = refl
 
 -- the two charts
 abbrev first : tie.Start → Chart
@@ -85,15 +93,6 @@ rules c =
     let chain-rule : tie.After-chain-rule = search needs in
     sym (judged-chains d) ∙ not-false (chain-rule .chain-rule .result && d .chain-rule2 .result) (c .if2 .left)
 
-too-short-requires : tie.Need-too-short-requires
-too-short-requires c κs = search needs
-
-too-short-requires-2 : tie.Need-too-short-requires-2
-too-short-requires-2 c κs = search needs
-
-refused-requires : tie.Need-refused-requires
-refused-requires c κs = search needs
-
 returns : tie.Need-returns
 returns c =
     let then1 : tie.Then1 = search needs in
@@ -112,9 +111,6 @@ chain-rule-requires-2 c κs =
     let top = else1-to-top else1 in
     second-long (first top) (second top) (top .args .pairs .now) (long else1)
 
-refused-requires-2 : tie.Need-refused-requires-2
-refused-requires-2 c κs = search needs
-
 returns-2 : tie.Need-returns-2
 returns-2 c =
     let then2 : tie.Then2 = search needs in
@@ -123,9 +119,6 @@ returns-2 c =
     let else1 : tie.Else1 = search needs in
     let top = else1-to-top else1 in
     overlay-broken (first top) (second top) (top .args .pairs .now) (long else1) (sym (judged-chains d) ∙ not-true (chain-rule .chain-rule .result && d .chain-rule2 .result) (then2 .if2 .taken)) (c .refused2 .ensures)
-
-slice-aggregate-mark-pairs : tie.Need-slice-aggregate-mark-pairs
-slice-aggregate-mark-pairs c = search needs
 
 mark-pairs-requires : tie.Need-mark-pairs-requires
 mark-pairs-requires c κs =
@@ -136,11 +129,13 @@ mark-pairs-requires c κs =
     let s = long else1 in
     let r = rules else2 in
     let p = first-passed (first top) (second top) l s r in
-    let q = second-passed (first top) (second top) l s r in
-    ((p .entries, (p .lists .forKeys, p .lists .forItems)), ((q .entries, (q .lists .forKeys, q .lists .forItems)), (search needs, λ k h. zeros-empty rowsLength k)))
-
-slice-aggregate-put-pairs : tie.Need-slice-aggregate-put-pairs
-slice-aggregate-put-pairs c = search needs
+    let q = second-passed (first top) (second top) l s r in (
+      record { few = p .entries; forKeys = p .lists .forKeys; forItems = p .lists .forItems },
+      (
+        record { few = q .entries; forKeys = q .lists .forKeys; forItems = q .lists .forItems },
+        record { room = search needs; unmarked = λ k h. zeros-empty rowsLength k },
+      ),
+    )
 
 put-pairs-requires : tie.Need-put-pairs-requires
 put-pairs-requires c κs =
@@ -152,9 +147,7 @@ put-pairs-requires c κs =
     let r = rules else2 in
     let p = first-passed (first top) (second top) l s r in
     let q = second-passed (first top) (second top) l s r in
-    let x = p .drawn in
-    let y = q .drawn in
-    (((x .few, x .room), x .oriented), (((y .few, y .room), y .oriented), (search needs, pairs-long (first top) (second top) l s)))
+    ((p .drawn, q .drawn), (search needs, pairs-long (first top) (second top) l s))
 
 finish-requires : tie.Need-finish-requires
 finish-requires c κs =
@@ -162,9 +155,6 @@ finish-requires c κs =
     let top = else1-to-top else1 in
     let room = pairs-long (first top) (second top) (top .args .pairs .now) (long else1) in
     search needs
-
-same-length : tie.Need-same-length
-same-length c = search needs
 
 returns-3 : tie.Need-returns-3
 unfolding chartTable chartEntries
@@ -181,27 +171,13 @@ returns-3 c =
     let r = rules else2 in
     let p = first-passed (first top) (second top) l s r in
     let q = second-passed (first top) (second top) l s r in
-    let o = mark-pairs .mark-pairs .ensures .overlapping (a .levels0 .now) (a .levels1 .now) (p .lists .forLevels) (q .lists .forLevels) (a .triangles0) (a .triangles1) (p .chained) (q .chained) in
+    let o = mark-pairs .mark-pairs .ensures .overlapping arity depth (omega arith) tree-end (a .levels0 .now) (a .levels1 .now) (p .lists .forLevels) (q .lists .forLevels) (a .triangles0) (a .triangles1) (p .chained) (q .chained) in
     finish .finish .ensures _ l (put-pairs .put-pairs .ensures)
     ∙ overlay-same (a .table0 .now) (a .triangles0) (a .table1 .now) (a .triangles1) o (p .drawn .few) (q .drawn .few) l
     ∙ overlay-passed (first top) (second top) l s r
 
 pub overlay-spec : {M : Type 1} → statement M
 overlay-spec =
-    tie.close
-    (tie.spec
-    too-short-requires
-    too-short-requires-2
-    refused-requires
-    returns
-    chain-rule-requires
-    chain-rule-requires-2
-    refused-requires-2
-    returns-2
-    slice-aggregate-mark-pairs
-    mark-pairs-requires
-    slice-aggregate-put-pairs
-    put-pairs-requires
-    finish-requires
-    same-length
-    returns-3)
+    tie.close (tie.spec (λ c κs. search needs) (λ c κs. search needs) (λ c κs. search needs) returns chain-rule-requires chain-rule-requires-2
+    (λ c κs. search needs) returns-2 (λ c. search needs) mark-pairs-requires (λ c. search needs) put-pairs-requires finish-requires
+    (λ c. search needs) returns-3)

@@ -15,12 +15,6 @@ abbrev chart : tie.Start → Chart
 chart c =
     let a = c .args in held (a .table) (a .keys) (a .levels) (a .items) (a .triangles) (a .entries)
 
-judge-requires : tie.Need-judge-requires
-judge-requires c κs = search needs
-
-enum-told : tie.Need-enum-told
-enum-told c = search needs
-
 -- where nothing is against the chart
 fine : (c : tie.After-enum-told) →
     let top : tie.Start = search needs in
@@ -30,13 +24,10 @@ fine c =
     let top : tie.Start = search needs in
     chained-passed (chart top) (sym (ap verdictOutcome (c .enum-told .given .1)) ∙ j .judge .ensures)
 
-all-apart-requires : tie.Need-all-apart-requires
-all-apart-requires c κs =
+all-disjoint-requires : tie.Need-all-disjoint-requires
+all-disjoint-requires c κs =
     let top : tie.Start = search needs in
-    let h = rule-drawn (chart top) (fine c .0) (fine c .1) in ((h .few, h .room), h .oriented)
-
-enum-known-r : tie.Need-enum-known-r
-enum-known-r c = search needs
+    rule-drawn (chart top) (fine c .0) (fine c .1)
 
 -- an earlier place, found from a later one
 abbrev enum-told-to-top : tie.After-enum-told → tie.Start
@@ -45,19 +36,19 @@ enum-told-to-top c = search needs
 returns : tie.Need-returns
 unfolding chartTable
 returns c =
-    let all-apart : tie.After-all-apart = search needs in
+    let all-disjoint : tie.After-all-disjoint = search needs in
     let b : tie.After-enum-told = search needs in
     let top = enum-told-to-top b in
-    let e = sym (c .if1 .taken) ∙ all-apart .all-apart .ensures in
+    let e = sym (c .if1 .taken) ∙ all-disjoint .all-disjoint .ensures in
     (λ i. record { number = 0; isSound = e i }) ∙ sound-done (chart top) (fine b .0) (fine b .1)
 
 returns-2 : tie.Need-returns-2
 unfolding chartTable
 returns-2 c =
-    let all-apart : tie.After-all-apart = search needs in
+    let all-disjoint : tie.After-all-disjoint = search needs in
     let b : tie.After-enum-told = search needs in
     let top = enum-told-to-top b in
-    let e = sym (c .if1 .left) ∙ all-apart .all-apart .ensures in
+    let e = sym (c .if1 .left) ∙ all-disjoint .all-disjoint .ensures in
     (λ i. record { number = 0; isSound = e i }) ∙ sound-done (chart top) (fine b .0) (fine b .1)
 
 returns-3 : tie.Need-returns-3
@@ -69,5 +60,4 @@ returns-3 c =
 
 pub soundness-spec : {M : Type 1} → statement M
 soundness-spec =
-    tie.close
-    (tie.spec judge-requires enum-told all-apart-requires enum-known-r returns returns-2 returns-3)
+    tie.close (tie.spec (λ c κs. search needs) (λ c. search needs) all-disjoint-requires (λ c. search needs) returns returns-2 returns-3)

@@ -1,5 +1,5 @@
 use borrow.Author.Needs.{needs}
-use Rattle.base_entries.proofs.PackLaws.{entries-packable}
+use Rattle.quadtree_build.proofs.PackableLaws.{entries-packable}
 use Rattle.chart_index.proofs.ListedLaws.{listed-within}
 use Rattle.chart_index.proofs.list_few.Statement.{statement}
 use Rattle.chart_index.proofs.list_few.Tie as tie
@@ -17,13 +17,5 @@ returns c =
 
 pub list-few-spec : {M : Type 1} → statement M
 list-few-spec =
-    tie.close
-    (tie.spec
-    (λ c. search needs)
-    (λ c κs. search needs)
-    (λ c. search needs)
-    (λ c κs. search needs)
-    (λ c. search needs)
-    (λ c. search needs)
-    (λ c. search needs)
-    returns)
+    tie.close (tie.spec (λ c. search needs) (λ c κs. search needs) (λ c. search needs) (λ c κs. search needs) (λ c. search needs) (λ c. search needs)
+    (λ c. search needs) returns)

@@ -18,12 +18,6 @@ abbrev chart : tie.Start → Chart
 chart c =
     let a = c .args in held (a .table) (a .keys) (a .levels) (a .items) (a .triangles) (a .entries)
 
-judge-requires : tie.Need-judge-requires
-judge-requires c κs = search needs
-
-enum-told : tie.Need-enum-told
-enum-told c = search needs
-
 -- where neither 1 nor 2 is against the chart
 fine : (c : tie.After-enum-told) →
     let top : tie.Start = search needs in
@@ -40,9 +34,6 @@ entries-match-requires c κs =
     let h = rule-drawn lent (fine c .0) (fine c .1) in
     let l = searchable lent (fine c .0) (fine c .1) .0 in
     (((h .few, h .room), h .oriented), ((ruled lent (fine c .1) .entries, l .forKeys), (l .forLevels, l .forItems)))
-
-enum-known-r : tie.Need-enum-known-r
-enum-known-r c = search needs
 
 -- an earlier place, found from a later one
 abbrev enum-told-to-top : tie.After-enum-told → tie.Start
@@ -77,5 +68,4 @@ returns-3 c =
 
 pub judge-edit-spec : {M : Type 1} → statement M
 judge-edit-spec =
-    tie.close
-    (tie.spec judge-requires enum-told entries-match-requires enum-known-r returns returns-2 returns-3)
+    tie.close (tie.spec (λ c κs. search needs) (λ c. search needs) entries-match-requires (λ c. search needs) returns returns-2 returns-3)

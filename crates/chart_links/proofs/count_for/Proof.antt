@@ -5,9 +5,6 @@ use borrow.Author.Needs.{needs}
 use Rattle.chart_links.proofs.count_for.Statement.{statement}
 use Rattle.chart_links.proofs.count_for.Tie as tie
 
-add-result : tie.Need-add-result
-add-result c = search needs
-
 returns : tie.Need-returns
 returns c =
     let top : tie.Start = search needs in
@@ -19,4 +16,4 @@ returns-2 c =
     λ count. item-count (top .args .item) _ count (c .if1 .left) (omega arith)
 
 pub count-for-spec : {M : Type 1} → statement M
-count-for-spec = tie.close (tie.spec add-result returns returns-2)
+count-for-spec = tie.close (tie.spec (λ c. search needs) returns returns-2)

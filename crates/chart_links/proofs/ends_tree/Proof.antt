@@ -13,4 +13,5 @@ returns c =
     λ item. last-ends (a .key) (a .level) item (m .result) (top .pre) (m .ensures)
 
 pub ends-tree-spec : {M : Type 1} → statement M
-ends-tree-spec = tie.close (tie.spec (λ c κs. search needs) (λ c. search needs) (λ c. search needs) (λ c. search needs) returns)
+ends-tree-spec =
+    tie.close (tie.spec (λ c κs. search needs) (λ c. search needs) (λ c. search needs) (λ c. search needs) returns)

@@ -9,9 +9,6 @@ use borrow.Author.Needs.{needs}
 use Rattle.chart_links.proofs.gap_fault.Statement.{statement}
 use Rattle.chart_links.proofs.gap_fault.Tie as tie
 
-sub-result : tie.Need-sub-result
-sub-result c = search needs
-
 returns : tie.Need-returns
 returns c =
     let top : tie.Start = search needs in
@@ -25,4 +22,4 @@ returns-2 c =
     xor-zero (next - 1) last ∙ eqb-same (next - 1) last next (last + 1) (λ e. omega arith) (λ e. omega arith)
 
 pub gap-fault-spec : {M : Type 1} → statement M
-gap-fault-spec = tie.close (tie.spec sub-result returns returns-2)
+gap-fault-spec = tie.close (tie.spec (λ c. search needs) returns returns-2)

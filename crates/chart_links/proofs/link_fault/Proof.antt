@@ -16,4 +16,5 @@ returns c =
     (top .pre) (search needs) (m .ensures) (c .fault-unless .ensures) (g .ensures)
 
 pub link-fault-spec : {M : Type 1} → statement M
-link-fault-spec = tie.close (tie.spec (λ c κs. search needs) (λ c κs. search needs) (λ c κs. search needs) returns)
+link-fault-spec =
+    tie.close (tie.spec (λ c κs. search needs) (λ c κs. search needs) (λ c κs. search needs) returns)

@@ -6,18 +6,6 @@ use borrow.Author.Needs.{needs}
 use Rattle.chart_links.proofs.low_bits.Statement.{statement}
 use Rattle.chart_links.proofs.low_bits.Tie as tie
 
-mul-half : tie.Need-mul-half
-mul-half c = search needs
-
-sub-half : tie.Need-sub-half
-sub-half c = search needs
-
-cast-half : tie.Need-cast-half
-cast-half c = search needs
-
-shl-half : tie.Need-shl-half
-shl-half c = search needs
-
 sub-result : tie.Need-sub-result
 sub-result c =
     let top : tie.Start = search needs in
@@ -37,4 +25,4 @@ returns-2 c =
 
 pub low-bits-spec : {M : Type 1} → statement M
 low-bits-spec =
-    tie.close (tie.spec mul-half sub-half cast-half shl-half sub-result returns returns-2)
+    tie.close (tie.spec (λ c. search needs) (λ c. search needs) (λ c. search needs) (λ c. search needs) sub-result returns returns-2)

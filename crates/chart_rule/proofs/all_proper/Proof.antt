@@ -47,14 +47,5 @@ returns c =
 
 pub all-proper-spec : {M : Type 1} → statement M
 all-proper-spec =
-    tie.close
-    (tie.spec
-    Inv-loop
-    μ-loop
-    loop-holds
-    (λ c κs. omega arith)
-    (λ c κs. search needs)
-    (λ c. search needs)
-    (λ c. search needs)
-    loop-again
+    tie.close (tie.spec Inv-loop μ-loop loop-holds (λ c κs. omega arith) (λ c κs. search needs) (λ c. search needs) (λ c. search needs) loop-again
     returns)

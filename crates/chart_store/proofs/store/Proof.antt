@@ -20,15 +20,6 @@ build-into-requires c κs =
     let d = top .pre .0 in
     let l = long-enough (chart top) (top .pre .1) .lists in (((d .few, d .room), d .oriented), (l .forKeys, (l .forLevels, l .forItems)))
 
-same-length : tie.Need-same-length
-same-length c = search needs
-
-same-length-2 : tie.Need-same-length-2
-same-length-2 c = search needs
-
-same-length-3 : tie.Need-same-length-3
-same-length-3 c = search needs
-
 -- an earlier place, found from a later one
 abbrev build-into-to-top : tie.After-build-into → tie.Start
 build-into-to-top c = search needs
@@ -43,26 +34,11 @@ returns c =
     let top = build-into-to-top build-into in
     store-many (top .args .proposed .now) (top .args .n) (top .pre .0 .room) (chart top) (build-into .build-into .ensures) (omega (arith, c .if1 .taken))
 
-mul-put-table : tie.Need-mul-put-table
-mul-put-table c = search needs
-
 put-table-requires : tie.Need-put-table-requires
 put-table-requires c κs =
     let build-into-arg : tie.After-build-into-arg = search needs in
     let top : tie.Start = search needs in
     (omega (arith, top .pre .0 .room), (omega (arith, top .pre .0 .few), long-enough (chart top) (top .pre .1) .table))
-
-same-length-4 : tie.Need-same-length-4
-same-length-4 c = search needs
-
-same-length-5 : tie.Need-same-length-5
-same-length-5 c = search needs
-
-same-length-6 : tie.Need-same-length-6
-same-length-6 c = search needs
-
-same-length-7 : tie.Need-same-length-7
-same-length-7 c = search needs
 
 returns-2 : tie.Need-returns-2
 unfolding changedBy
@@ -76,17 +52,5 @@ returns-2 c =
 
 pub store-spec : {M : Type 1} → statement M
 store-spec =
-    tie.close
-    (tie.spec
-    build-into-requires
-    same-length
-    same-length-2
-    same-length-3
-    returns
-    mul-put-table
-    put-table-requires
-    same-length-4
-    same-length-5
-    same-length-6
-    same-length-7
-    returns-2)
+    tie.close (tie.spec build-into-requires (λ c. search needs) (λ c. search needs) (λ c. search needs) returns (λ c. search needs) put-table-requires
+    (λ c. search needs) (λ c. search needs) (λ c. search needs) (λ c. search needs) returns-2)

@@ -130,22 +130,5 @@ returns-3 c =
 
 pub flip-table-spec : {M : Type 1} → statement M
 flip-table-spec =
-    tie.close
-    (tie.spec
-    Inv-loop
-    μ-loop
-    returns
-    triangle-at-requires
-    triangle-at-requires-2
-    loop-holds
-    (λ c κs. search needs)
-    (λ c κs. search needs)
-    (λ c κs. search needs)
-    flip-as-requires
-    same-length
-    returns-2
-    (λ c. search needs)
-    (λ c. search needs)
-    loop-again
-    same-length-2
-    returns-3)
+    tie.close (tie.spec Inv-loop μ-loop returns triangle-at-requires triangle-at-requires-2 loop-holds (λ c κs. search needs) (λ c κs. search needs)
+    (λ c κs. search needs) flip-as-requires same-length returns-2 (λ c. search needs) (λ c. search needs) loop-again same-length-2 returns-3)

@@ -41,7 +41,7 @@ put-triangle-requires c κs =
     let in-loop : tie.In-loop Inv-loop μ-loop = search needs in
     let loop : tie.At-loop Inv-loop μ-loop = search needs in
     let top : tie.Start Inv-loop μ-loop = search needs in
-    omega (arith, loop .loop .inv .low, loop .loop .inv .same, in-loop .loop-test .taken, top .pre)
+    omega (arith, loop .loop .inv .low, loop .loop .inv .length-same, in-loop .loop-test .taken, top .pre)
 
 loop-less : tie.Need-loop-less Inv-loop μ-loop
 loop-less c =
@@ -65,7 +65,7 @@ loop-again c =
 same-length : tie.Need-same-length Inv-loop μ-loop
 same-length c =
     let loop : tie.At-loop Inv-loop μ-loop = search needs in
-    loop .loop .inv .same
+    loop .loop .inv .length-same
 
 returns : tie.Need-returns Inv-loop μ-loop
 returns c =
@@ -74,17 +74,5 @@ returns c =
 
 pub append-rows-spec : {M : Type 1} → statement M
 append-rows-spec =
-    tie.close
-    (tie.spec
-    Inv-loop
-    μ-loop
-    loop-holds
-    sub-put-triangle
-    add-put-triangle
-    triangle-at-requires
-    put-triangle-requires
-    (λ c. search needs)
-    loop-less
-    loop-again
-    same-length
-    returns)
+    tie.close (tie.spec Inv-loop μ-loop loop-holds sub-put-triangle add-put-triangle triangle-at-requires put-triangle-requires (λ c. search needs)
+    loop-less loop-again same-length returns)

@@ -67,15 +67,5 @@ returns-2 c =
 
 pub next-around-spec : {M : Type 1} → statement M
 next-around-spec =
-    tie.close
-    (tie.spec
-    Inv-loop
-    μ-loop
-    loop-holds
-    triangle-at-requires
-    (λ c κs. search needs)
-    returns
-    (λ c. search needs)
-    (λ c. search needs)
-    loop-again
-    returns-2)
+    tie.close (tie.spec Inv-loop μ-loop loop-holds triangle-at-requires (λ c κs. search needs) returns (λ c. search needs) (λ c. search needs)
+    loop-again returns-2)

@@ -106,19 +106,6 @@ returns-2 c =
 
 pub take-out-table-spec : {M : Type 1} → statement M
 take-out-table-spec =
-    tie.close
-    (tie.spec
-    (λ c κs. search needs)
-    (λ c. search needs)
-    (λ c κs. search needs)
-    (λ c. search needs)
-    (λ c κs. search needs)
-    (λ c. search needs)
-    (λ c κs. search needs)
-    returns
-    row-ending-in-requires
-    row-ending-in-requires-2
-    row-ending-in-requires-3
-    merge-three-requires
-    (λ c. search needs)
-    returns-2)
+    tie.close (tie.spec (λ c κs. search needs) (λ c. search needs) (λ c κs. search needs) (λ c. search needs) (λ c κs. search needs)
+    (λ c. search needs) (λ c κs. search needs) returns row-ending-in-requires row-ending-in-requires-2 row-ending-in-requires-3 merge-three-requires
+    (λ c. search needs) returns-2)

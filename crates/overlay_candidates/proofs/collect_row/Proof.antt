@@ -44,12 +44,6 @@ collect-word-requires c κs =
       done .near,
     )
 
-add-q : tie.Need-add-q Inv-loop μ-loop
-add-q c = search needs
-
-loop-less : tie.Need-loop-less Inv-loop μ-loop
-loop-less c = search needs
-
 loop-again : tie.Need-loop-again Inv-loop μ-loop
 loop-again c =
     let collect-word : tie.After-collect-word Inv-loop μ-loop = search needs in
@@ -76,14 +70,4 @@ returns c =
 
 pub collect-row-spec : {M : Type 1} → statement M
 collect-row-spec =
-    tie.close
-    (tie.spec
-    Inv-loop
-    μ-loop
-    loop-holds
-    collect-word-requires
-    add-q
-    loop-less
-    loop-again
-    same-length
-    returns)
+    tie.close (tie.spec Inv-loop μ-loop loop-holds collect-word-requires (λ c. search needs) (λ c. search needs) loop-again same-length returns)

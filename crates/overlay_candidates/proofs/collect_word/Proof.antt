@@ -63,21 +63,6 @@ within c =
     let l = loop .loop in
     mark-within (a .rows .now) (a .i) (l .j) (a .q) (l .w) (fits c) (l .inv .low) (l .inv .left) _ (mark c)
 
-mul-w : tie.Need-mul-w Inv-loop μ-loop
-mul-w c = search needs
-
-add-w : tie.Need-add-w Inv-loop μ-loop
-add-w c = search needs
-
-mul-w-2 : tie.Need-mul-w-2 Inv-loop μ-loop
-mul-w-2 c = search needs
-
-shared-slice-read-w : tie.Need-shared-slice-read-w Inv-loop μ-loop
-shared-slice-read-w c = omega arith
-
-mul-j : tie.Need-mul-j Inv-loop μ-loop
-mul-j c = search needs
-
 loop-holds : tie.Need-loop-holds Inv-loop μ-loop
 loop-holds c =
     let top : tie.Start Inv-loop μ-loop = search needs in
@@ -183,23 +168,5 @@ returns c =
 
 pub collect-word-spec : {M : Type 1} → statement M
 collect-word-spec =
-    tie.close
-    (tie.spec
-    Inv-loop
-    μ-loop
-    mul-w
-    add-w
-    mul-w-2
-    shared-slice-read-w
-    mul-j
-    loop-holds
-    cast-j
-    add-j
-    append-if-near-requires
-    cast-w
-    shr-w
-    add-j-2
-    loop-less
-    loop-again
-    same-length
-    returns)
+    tie.close (tie.spec Inv-loop μ-loop (λ c. search needs) (λ c. search needs) (λ c. search needs) (λ c. omega arith) (λ c. search needs) loop-holds
+    cast-j add-j append-if-near-requires cast-w shr-w add-j-2 loop-less loop-again same-length returns)

@@ -20,12 +20,6 @@ loop-holds c =
     let a = top .args in
     record { low = omega arith; high = top .pre .0 .ordered; inserted = insert-start (a .set .now) (a .items .now) (a .from) }
 
-mul-place : tie.Need-mul-place Inv-loop μ-loop
-mul-place c = search needs
-
-shared-slice-read-place : tie.Need-shared-slice-read-place Inv-loop μ-loop
-shared-slice-read-place c = search needs
-
 place-requires : tie.Need-place-requires Inv-loop μ-loop
 place-requires c κs = tt
 
@@ -33,12 +27,6 @@ insert-requires : tie.Need-insert-requires Inv-loop μ-loop
 insert-requires c κs =
     let loop : tie.At-loop Inv-loop μ-loop = search needs in
     omega (arith, loop .loop .inv .inserted .kept, c .place .ensures)
-
-add-i : tie.Need-add-i Inv-loop μ-loop
-add-i c = search needs
-
-loop-less : tie.Need-loop-less Inv-loop μ-loop
-loop-less c = search needs
 
 loop-again : tie.Need-loop-again Inv-loop μ-loop
 loop-again c =
@@ -68,17 +56,5 @@ returns c =
 
 pub insert-all-spec : {M : Type 1} → statement M
 insert-all-spec =
-    tie.close
-    (tie.spec
-    Inv-loop
-    μ-loop
-    loop-holds
-    mul-place
-    shared-slice-read-place
-    place-requires
-    insert-requires
-    add-i
-    loop-less
-    loop-again
-    same-length
-    returns)
+    tie.close (tie.spec Inv-loop μ-loop loop-holds (λ c. search needs) (λ c. search needs) place-requires insert-requires (λ c. search needs)
+    (λ c. search needs) loop-again same-length returns)

@@ -20,12 +20,6 @@ loop-holds c =
     let a = top .args in
     record { low = omega arith; high = top .pre .0 .ordered; joined = join-start (a .rows .now) (a .items .now) (a .from) (a .set .now) }
 
-mul-place : tie.Need-mul-place Inv-loop μ-loop
-mul-place c = search needs
-
-shared-slice-read-place : tie.Need-shared-slice-read-place Inv-loop μ-loop
-shared-slice-read-place c = search needs
-
 place-requires : tie.Need-place-requires Inv-loop μ-loop
 place-requires c κs = tt
 
@@ -36,12 +30,6 @@ join-requires : tie.Need-join-requires Inv-loop μ-loop
 join-requires c κs =
     let loop : tie.At-loop Inv-loop μ-loop = search needs in
     (omega (arith, loop .loop .inv .joined .kept, c .place .ensures), search needs)
-
-add-i : tie.Need-add-i Inv-loop μ-loop
-add-i c = search needs
-
-loop-less : tie.Need-loop-less Inv-loop μ-loop
-loop-less c = search needs
 
 loop-again : tie.Need-loop-again Inv-loop μ-loop
 loop-again c =
@@ -71,18 +59,5 @@ returns c =
 
 pub join-all-spec : {M : Type 1} → statement M
 join-all-spec =
-    tie.close
-    (tie.spec
-    Inv-loop
-    μ-loop
-    loop-holds
-    mul-place
-    shared-slice-read-place
-    place-requires
-    mul-join
-    join-requires
-    add-i
-    loop-less
-    loop-again
-    same-length
-    returns)
+    tie.close (tie.spec Inv-loop μ-loop loop-holds (λ c. search needs) (λ c. search needs) place-requires mul-join join-requires (λ c. search needs)
+    (λ c. search needs) loop-again same-length returns)

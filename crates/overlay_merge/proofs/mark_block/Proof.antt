@@ -7,18 +7,6 @@ use borrow.Author.Needs.{needs}
 use Rattle.overlay_merge.proofs.mark_block.Statement.{statement}
 use Rattle.overlay_merge.proofs.mark_block.Tie as tie
 
-block-end-requires : tie.Need-block-end-requires
-block-end-requires c κs = search needs
-
-run-end-requires : tie.Need-run-end-requires
-run-end-requires c κs = search needs
-
-run-end-requires-2 : tie.Need-run-end-requires-2
-run-end-requires-2 c κs = search needs
-
-mark-parts-requires : tie.Need-mark-parts-requires
-mark-parts-requires c κs = search needs
-
 -- an earlier place, found from a later one
 abbrev run-end-to-top : tie.After-run-end → tie.Start
 run-end-to-top c = search needs
@@ -31,9 +19,6 @@ mul-t17 c =
     let s = run-end .run-end in
     let t = run-end2 .run-end2 in
     omega (arith, cells-fit (s .ensures) (t .ensures) (top .pre .0 .0 .few) (top .pre .1 .0 .0 .few))
-
-same-length : tie.Need-same-length
-same-length c = search needs
 
 returns : tie.Need-returns
 returns c =
@@ -54,12 +39,5 @@ returns c =
 
 pub mark-block-spec : {M : Type 1} → statement M
 mark-block-spec =
-    tie.close
-    (tie.spec
-    block-end-requires
-    run-end-requires
-    run-end-requires-2
-    mark-parts-requires
-    mul-t17
-    same-length
+    tie.close (tie.spec (λ c κs. search needs) (λ c κs. search needs) (λ c κs. search needs) (λ c κs. search needs) mul-t17 (λ c. search needs)
     returns)

@@ -82,14 +82,4 @@ returns c =
 
 pub mark-pairs-spec : {M : Type 1} → statement M
 mark-pairs-spec =
-    tie.close
-    (tie.spec
-    Inv-loop
-    μ-loop
-    loop-holds
-    mark-block-requires
-    add-meetings
-    loop-less
-    loop-again
-    same-length
-    returns)
+    tie.close (tie.spec Inv-loop μ-loop loop-holds mark-block-requires add-meetings loop-less loop-again same-length returns)

@@ -32,12 +32,6 @@ prepare-triangle-requires c κs =
     let l = loop .loop in
     record { rows = omega (arith, top .pre .rows); room = shapes-room (l .i + 1) (top .args .n) (omega arith) (l .inv .1) (top .pre .room) }
 
-add-i : tie.Need-add-i Inv-loop μ-loop
-add-i c = omega arith
-
-loop-less : tie.Need-loop-less Inv-loop μ-loop
-loop-less c = omega arith
-
 -- an earlier place, found from a later one
 abbrev loop-to-top : tie.At-loop Inv-loop μ-loop → tie.Start Inv-loop μ-loop
 loop-to-top c = search needs
@@ -79,16 +73,5 @@ returns c =
 
 pub prepare-spec : {M : Type 1} → statement M
 prepare-spec =
-    tie.close
-    (tie.spec
-    Inv-loop
-    μ-loop
-    loop-holds
-    prepare-triangle-requires
-    add-i
-    loop-less
-    loop-again
-    same-length
-    same-length-2
-    same-length-3
-    returns)
+    tie.close (tie.spec Inv-loop μ-loop loop-holds prepare-triangle-requires (λ c. omega arith) (λ c. omega arith) loop-again same-length
+    same-length-2 same-length-3 returns)

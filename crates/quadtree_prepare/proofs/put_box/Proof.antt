@@ -22,18 +22,5 @@ returns c =
 
 pub put-box-spec : {M : Type 1} → statement M
 put-box-spec =
-    tie.close
-    (tie.spec
-    (λ c. search needs)
-    (λ c. search needs)
-    (λ c. search needs)
-    (λ c. search needs)
-    slice-write-shape-2
-    (λ c. search needs)
-    (λ c. search needs)
-    slice-write-shape-3
-    (λ c. search needs)
-    (λ c. search needs)
-    slice-write-shape-4
-    (λ c. search needs)
-    returns)
+    tie.close (tie.spec (λ c. search needs) (λ c. search needs) (λ c. search needs) (λ c. search needs) slice-write-shape-2 (λ c. search needs)
+    (λ c. search needs) slice-write-shape-3 (λ c. search needs) (λ c. search needs) slice-write-shape-4 (λ c. search needs) returns)

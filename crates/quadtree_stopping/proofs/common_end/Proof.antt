@@ -115,17 +115,5 @@ returns-2 c =
 
 pub common-end-spec : {M : Type 1} → statement M
 common-end-spec =
-    tie.close
-    (tie.spec
-    (λ c κs. search needs)
-    (λ c. search needs)
-    (λ c. search needs)
-    (λ c κs. search needs)
-    corners-at-requires
-    (λ c κs. search needs)
-    (λ c κs. search needs)
-    missed-requires
-    missed-requires-2
-    either-end-requires
-    returns
-    returns-2)
+    tie.close (tie.spec (λ c κs. search needs) (λ c. search needs) (λ c. search needs) (λ c κs. search needs) corners-at-requires
+    (λ c κs. search needs) (λ c κs. search needs) missed-requires missed-requires-2 either-end-requires returns returns-2)

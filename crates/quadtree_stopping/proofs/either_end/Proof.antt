@@ -37,9 +37,6 @@ loop-holds c =
     let top : tie.Start Inv-loop μ-loop = search needs in
     top .pre .1
 
-mul-index : tie.Need-mul-index Inv-loop μ-loop
-mul-index c = omega arith
-
 shared-slice-read-index : tie.Need-shared-slice-read-index Inv-loop μ-loop
 shared-slice-read-index c =
     let top : tie.Start Inv-loop μ-loop = search needs in
@@ -109,12 +106,6 @@ returns c =
     let a = top .args in
     tested-out (sidesOf top) (a .stack .now) (unpacked (a .p)) (unpacked (a .q)) (a .from) (a .to) (loop .loop .k + 1) _ _ (tested missed2) (c .if1 .taken)
 
-add-k-2 : tie.Need-add-k-2 Inv-loop μ-loop
-add-k-2 c = omega arith
-
-loop-less : tie.Need-loop-less Inv-loop μ-loop
-loop-less c = omega arith
-
 loop-again : tie.Need-loop-again Inv-loop μ-loop
 loop-again c =
     let missed2 : tie.After-missed2 Inv-loop μ-loop = search needs in
@@ -130,21 +121,5 @@ returns-2 c =
 
 pub either-end-spec : {M : Type 1} → statement M
 either-end-spec =
-    tie.close
-    (tie.spec
-    Inv-loop
-    μ-loop
-    add-k
-    loop-holds
-    mul-index
-    shared-slice-read-index
-    index-requires
-    sides-met-requires
-    corners-at-requires
-    missed-requires
-    missed-requires-2
-    returns
-    add-k-2
-    loop-less
-    loop-again
-    returns-2)
+    tie.close (tie.spec Inv-loop μ-loop add-k loop-holds (λ c. omega arith) shared-slice-read-index index-requires sides-met-requires
+    corners-at-requires missed-requires missed-requires-2 returns (λ c. omega arith) (λ c. omega arith) loop-again returns-2)

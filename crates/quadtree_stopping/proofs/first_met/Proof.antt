@@ -26,9 +26,6 @@ loop-holds c =
     let a = top .args in
     λ table. skipped-start (sidesAt table (a .shape .now) (a .offsets .now) (frameBox (a .f))) (a .stack .now) (a .from) (a .to) (top .pre .fits .order)
 
-mul-index : tie.Need-mul-index Inv-loop μ-loop
-mul-index c = omega arith
-
 shared-slice-read-index : tie.Need-shared-slice-read-index Inv-loop μ-loop
 shared-slice-read-index c =
     let top : tie.Start Inv-loop μ-loop = search needs in
@@ -75,12 +72,6 @@ returns c =
       met = λ h. record { mask = mask sides-met; some = omega arith; below = sides-met .sides-met .ensures .1 };
     }
 
-add-k : tie.Need-add-k Inv-loop μ-loop
-add-k c = omega arith
-
-loop-less : tie.Need-loop-less Inv-loop μ-loop
-loop-less c = omega arith
-
 loop-again : tie.Need-loop-again Inv-loop μ-loop
 loop-again c =
     let sides-met : tie.After-sides-met Inv-loop μ-loop = search needs in
@@ -103,17 +94,5 @@ returns-2 c =
 
 pub first-met-spec : {M : Type 1} → statement M
 first-met-spec =
-    tie.close
-    (tie.spec
-    Inv-loop
-    μ-loop
-    loop-holds
-    mul-index
-    shared-slice-read-index
-    index-requires
-    sides-met-requires
-    returns
-    add-k
-    loop-less
-    loop-again
-    returns-2)
+    tie.close (tie.spec Inv-loop μ-loop loop-holds (λ c. omega arith) shared-slice-read-index index-requires sides-met-requires returns
+    (λ c. omega arith) (λ c. omega arith) loop-again returns-2)

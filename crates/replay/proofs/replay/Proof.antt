@@ -4,18 +4,6 @@ use Rattle.replay.proofs.ReplayLaws.{replayed}
 use Rattle.replay.proofs.replay.Statement.{statement}
 use Rattle.replay.proofs.replay.Tie as tie
 
-run-history-requires : tie.Need-run-history-requires
-run-history-requires c κs = search needs
-
-run-history-requires-2 : tie.Need-run-history-requires-2
-run-history-requires-2 c κs = search needs
-
-overlay-requires : tie.Need-overlay-requires
-overlay-requires c κs = search needs
-
-answer-of-requires : tie.Need-answer-of-requires
-answer-of-requires c κs = search needs
-
 -- an earlier place, found from a later one
 abbrev overlay-arg-to-run-history-arg6 : tie.After-overlay-arg → tie.After-run-history-arg6
 overlay-arg-to-run-history-arg6 c = search needs
@@ -118,19 +106,5 @@ returns c =
 
 pub replay-spec : {M : Type 1} → statement M
 replay-spec =
-    tie.close
-    (tie.spec
-    run-history-requires
-    run-history-requires-2
-    overlay-requires
-    answer-of-requires
-    same-length
-    same-length-2
-    same-length-3
-    same-length-4
-    same-length-5
-    same-length-6
-    same-length-7
-    same-length-8
-    same-length-9
-    returns)
+    tie.close (tie.spec (λ c κs. search needs) (λ c κs. search needs) (λ c κs. search needs) (λ c κs. search needs) same-length same-length-2
+    same-length-3 same-length-4 same-length-5 same-length-6 same-length-7 same-length-8 same-length-9 returns)

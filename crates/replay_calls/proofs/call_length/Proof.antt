@@ -5,12 +5,6 @@ use Rattle.replay_calls.proofs.EncodingLaws.{length-load, length-split,
 use Rattle.replay_calls.proofs.call_length.Statement.{statement}
 use Rattle.replay_calls.proofs.call_length.Tie as tie
 
-index-requires : tie.Need-index-requires
-index-requires c κs = search needs
-
-add-result : tie.Need-add-result
-add-result c = search needs
-
 returns : tie.Need-returns
 returns c =
     let then1 : tie.Then1 = search needs in
@@ -40,4 +34,4 @@ returns-4 c =
 
 pub call-length-spec : {M : Type 1} → statement M
 call-length-spec =
-    tie.close (tie.spec index-requires add-result returns returns-2 returns-3 returns-4)
+    tie.close (tie.spec (λ c κs. search needs) (λ c. search needs) returns returns-2 returns-3 returns-4)

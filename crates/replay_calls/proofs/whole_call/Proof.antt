@@ -5,32 +5,11 @@ use Rattle.replay_calls.proofs.EncodingLaws.{whole-short, whole-at, cut
 use Rattle.replay_calls.proofs.whole_call.Statement.{statement}
 use Rattle.replay_calls.proofs.whole_call.Tie as tie
 
-sub-left : tie.Need-sub-left
-sub-left c = search needs
-
 returns : tie.Need-returns
 returns c =
     let top : tie.Start = search needs in
     let a = top .args in
     whole-short (drop (a .at) (a .calls .now)) (omega (arith, length-drop (a .at) (a .calls .now), c .if1 .taken))
-
-mul-call-length : tie.Need-mul-call-length
-mul-call-length c = search needs
-
-shared-slice-read-call-length : tie.Need-shared-slice-read-call-length
-shared-slice-read-call-length c = search needs
-
-add-call-length : tie.Need-add-call-length
-add-call-length c = search needs
-
-mul-call-length-2 : tie.Need-mul-call-length-2
-mul-call-length-2 c = search needs
-
-shared-slice-read-call-length-2 : tie.Need-shared-slice-read-call-length-2
-shared-slice-read-call-length-2 c = search needs
-
-call-length-requires : tie.Need-call-length-requires
-call-length-requires c κs = search needs
 
 returns-2 : tie.Need-returns-2
 returns-2 c =
@@ -46,15 +25,5 @@ returns-3 c =
 
 pub whole-call-spec : {M : Type 1} → statement M
 whole-call-spec =
-    tie.close
-    (tie.spec
-    sub-left
-    returns
-    mul-call-length
-    shared-slice-read-call-length
-    add-call-length
-    mul-call-length-2
-    shared-slice-read-call-length-2
-    call-length-requires
-    returns-2
-    returns-3)
+    tie.close (tie.spec (λ c. search needs) returns (λ c. search needs) (λ c. search needs) (λ c. search needs) (λ c. search needs)
+    (λ c. search needs) (λ c κs. search needs) returns-2 returns-3)

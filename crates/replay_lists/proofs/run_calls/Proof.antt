@@ -17,9 +17,6 @@ abbrev μ-loop : tie.MeasureT-loop
 μ-loop calls table₀ keys₀ levels₀ items₀ triangles entries n₀ m₀ at₀ size₀ table keys levels items n m at size =
     length calls - at
 
-whole-call-requires : tie.Need-whole-call-requires Inv-loop μ-loop
-whole-call-requires c κs = search needs
-
 loop-holds : tie.Need-loop-holds Inv-loop μ-loop
 loop-holds c = record { ran = ran-start (c .whole-call .ensures); table = refl; keys = refl; levels = refl; items = refl }
 
@@ -33,12 +30,6 @@ mul-call c =
     let loop : tie.At-loop Inv-loop μ-loop = search needs in
     let top : tie.Start Inv-loop μ-loop = search needs in
     omega (arith, ran-end (loop .loop .inv .ran), top .good .0)
-
-sub-call : tie.Need-sub-call Inv-loop μ-loop
-sub-call c = omega arith
-
-part-call-start : tie.Need-part-call-start Inv-loop μ-loop
-part-call-start c = omega arith
 
 part-call-end : tie.Need-part-call-end Inv-loop μ-loop
 part-call-end c =
@@ -119,24 +110,5 @@ returns c =
 
 pub run-calls-spec : {M : Type 1} → statement M
 run-calls-spec =
-    tie.close
-    (tie.spec
-    Inv-loop
-    μ-loop
-    whole-call-requires
-    loop-holds
-    add-call
-    mul-call
-    sub-call
-    part-call-start
-    part-call-end
-    run-call-requires
-    add-at
-    whole-call-requires-2
-    loop-less
-    loop-again
-    same-length
-    same-length-2
-    same-length-3
-    same-length-4
-    returns)
+    tie.close (tie.spec Inv-loop μ-loop (λ c κs. search needs) loop-holds add-call mul-call (λ c. omega arith) (λ c. omega arith) part-call-end
+    run-call-requires add-at whole-call-requires-2 loop-less loop-again same-length same-length-2 same-length-3 same-length-4 returns)

@@ -17,17 +17,5 @@ slice-aggregate-run-case-2 c =
 
 pub next-case-spec : {M : Type 1} → statement M
 next-case-spec =
-    tie.close
-    (tie.spec
-    (λ c. search needs)
-    (λ c κs. search needs)
-    (λ c. search needs)
-    (λ c. search needs)
-    (λ c κs. search needs)
-    (λ c. search needs)
-    (λ c. search needs)
-    slice-aggregate-run-case
-    (λ c. search needs)
-    slice-aggregate-run-case-2
-    (λ c κs. search needs)
-    (λ c. search needs))
+    tie.close (tie.spec (λ c. search needs) (λ c κs. search needs) (λ c. search needs) (λ c. search needs) (λ c κs. search needs) (λ c. search needs)
+    (λ c. search needs) slice-aggregate-run-case (λ c. search needs) slice-aggregate-run-case-2 (λ c κs. search needs) (λ c. search needs))

@@ -4,17 +4,8 @@ use native.Mathlib.Omega.{arith}
 use Rattle.test_support.proofs.short_at.Statement.{statement}
 use Rattle.test_support.proofs.short_at.Tie as tie
 
-shared-slice-read-result : tie.Need-shared-slice-read-result
-shared-slice-read-result c = search needs
-
 cast-result : tie.Need-cast-result
 cast-result c = omega (arith, c .shared-slice-known .given (c .before .args .k))
-
-add-result : tie.Need-add-result
-add-result c = search needs
-
-shared-slice-read-result-2 : tie.Need-shared-slice-read-result-2
-shared-slice-read-result-2 c = search needs
 
 cast-result-2 : tie.Need-cast-result-2
 cast-result-2 c = omega (arith, c .shared-slice-known2 .given (c .before .before .args .k + 1))
@@ -30,13 +21,4 @@ returns c = search needs
 
 pub short-at-spec : {M : Type 1} → statement M
 short-at-spec =
-    tie.close
-    (tie.spec
-    shared-slice-read-result
-    cast-result
-    add-result
-    shared-slice-read-result-2
-    cast-result-2
-    mul-result
-    add-result-2
-    returns)
+    tie.close (tie.spec (λ c. search needs) cast-result (λ c. search needs) (λ c. search needs) cast-result-2 mul-result add-result-2 returns)

@@ -6,30 +6,12 @@ use lib.Dec.{leb}
 use Rattle.base_boxes.proofs.boxes.append_if_near.Statement.{statement}
 use Rattle.base_boxes.proofs.boxes.append_if_near.Tie as tie
 
-mul-near : tie.Need-mul-near
-mul-near c = search needs
-
-slice-write-near : tie.Need-slice-write-near
-slice-write-near c = search needs
-
-is-separate-requires : tie.Need-is-separate-requires
-is-separate-requires c κs = search needs
-
-add-result : tie.Need-add-result
-add-result c = search needs
-
-same-length : tie.Need-same-length
-same-length c = search needs
-
 returns : tie.Need-returns
 returns c =
     let is-separate : tie.After-is-separate = search needs in
     let top : tie.Start = search needs in
     let a = top .args in
     (refl, sym (ap (λ b. cond b (a .c) (a .c + 1)) (sym (ap (λ b. b || leb (a .m) (a .j)) (is-separate .is-separate .ensures)) ∙ c .if1 .taken)))
-
-same-length-2 : tie.Need-same-length-2
-same-length-2 c = search needs
 
 returns-2 : tie.Need-returns-2
 returns-2 c =
@@ -40,13 +22,5 @@ returns-2 c =
 
 pub append-if-near-spec : {M : Type 1} → statement M
 append-if-near-spec =
-    tie.close
-    (tie.spec
-    mul-near
-    slice-write-near
-    is-separate-requires
-    add-result
-    same-length
-    returns
-    same-length-2
-    returns-2)
+    tie.close (tie.spec (λ c. search needs) (λ c. search needs) (λ c κs. search needs) (λ c. search needs) (λ c. search needs) returns
+    (λ c. search needs) returns-2)

@@ -42,12 +42,6 @@ put-bounds-requires c κs =
       places = places-fewer _ _ _ _ (l .i + 1) (a .n) (omega arith) (places-kept (a .n) (l .inv .lengths) (top .pre .places));
     }
 
-add-i : tie.Need-add-i Inv-loop μ-loop
-add-i c = search needs
-
-loop-less : tie.Need-loop-less Inv-loop μ-loop
-loop-less c = search needs
-
 -- an earlier place, found from a later one
 abbrev loop-to-top : tie.At-loop Inv-loop μ-loop → tie.Start Inv-loop μ-loop
 loop-to-top c = search needs
@@ -96,17 +90,5 @@ returns c =
 
 pub put-boxes-spec : {M : Type 1} → statement M
 put-boxes-spec =
-    tie.close
-    (tie.spec
-    Inv-loop
-    μ-loop
-    loop-holds
-    put-bounds-requires
-    add-i
-    loop-less
-    loop-again
-    same-length
-    same-length-2
-    same-length-3
-    same-length-4
-    returns)
+    tie.close (tie.spec Inv-loop μ-loop loop-holds put-bounds-requires (λ c. search needs) (λ c. search needs) loop-again same-length same-length-2
+    same-length-3 same-length-4 returns)

@@ -34,12 +34,6 @@ append-if-near-requires c κs =
       omega (arith, v .near .few, v .same, top .pre .0 .0 .room),
     )
 
-add-k : tie.Need-add-k Inv-loop μ-loop
-add-k c = search needs
-
-loop-less : tie.Need-loop-less Inv-loop μ-loop
-loop-less c = search needs
-
 -- an earlier place, found from a later one
 abbrev loop-to-top : tie.At-loop Inv-loop μ-loop → tie.Start Inv-loop μ-loop
 loop-to-top c = search needs
@@ -78,14 +72,4 @@ returns c =
 
 pub collect-spec : {M : Type 1} → statement M
 collect-spec =
-    tie.close
-    (tie.spec
-    Inv-loop
-    μ-loop
-    loop-holds
-    append-if-near-requires
-    add-k
-    loop-less
-    loop-again
-    same-length
-    returns)
+    tie.close (tie.spec Inv-loop μ-loop loop-holds append-if-near-requires (λ c. search needs) (λ c. search needs) loop-again same-length returns)

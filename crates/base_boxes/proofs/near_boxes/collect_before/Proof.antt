@@ -29,9 +29,6 @@ loop-holds c =
       },
     )
 
-sub-loop : tie.Need-sub-loop Inv-loop μ-loop
-sub-loop c = search needs
-
 collect-lanes-requires : tie.Need-collect-lanes-requires Inv-loop μ-loop
 collect-lanes-requires c κs =
     let loop : tie.At-loop Inv-loop μ-loop = search needs in
@@ -44,12 +41,6 @@ collect-lanes-requires c κs =
       },
       l .inv .1 .near,
     )
-
-add-j : tie.Need-add-j Inv-loop μ-loop
-add-j c = search needs
-
-loop-less : tie.Need-loop-less Inv-loop μ-loop
-loop-less c = omega arith
 
 loop-again : tie.Need-loop-again Inv-loop μ-loop
 loop-again c =
@@ -80,16 +71,5 @@ returns c =
 
 pub collect-before-spec : {M : Type 1} → statement M
 collect-before-spec =
-    tie.close
-    (tie.spec
-    Inv-loop
-    μ-loop
-    loop-holds
-    sub-loop
-    collect-lanes-requires
-    add-j
-    loop-less
-    loop-again
-    collect-requires
-    same-length
-    returns)
+    tie.close (tie.spec Inv-loop μ-loop loop-holds (λ c. search needs) collect-lanes-requires (λ c. search needs) (λ c. omega arith) loop-again
+    collect-requires same-length returns)

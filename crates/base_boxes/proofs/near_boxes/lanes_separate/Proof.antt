@@ -27,21 +27,12 @@ loop-holds c =
     let box = boxesHeld (a .lefts) (a .tops) (a .rights) (a .bottoms) in
     (omega arith, sym (all-below-none (λ n. separate (boundsBox (a .b)) (box (a .j + n)))))
 
-add-is-separate : tie.Need-add-is-separate Inv-loop μ-loop
-add-is-separate c = search needs
-
 is-separate-requires : tie.Need-is-separate-requires Inv-loop μ-loop
 is-separate-requires c κs =
     let loop : tie.At-loop Inv-loop μ-loop = search needs in
     let top : tie.Start Inv-loop μ-loop = search needs in
     let a = top .args in
     places-fewer (a .lefts .now) (a .tops .now) (a .rights .now) (a .bottoms .now) (a .j + loop .loop .k + 1) (a .j + lanes) (omega arith) (top .pre)
-
-add-k : tie.Need-add-k Inv-loop μ-loop
-add-k c = search needs
-
-loop-less : tie.Need-loop-less Inv-loop μ-loop
-loop-less c = search needs
 
 loop-again : tie.Need-loop-again Inv-loop μ-loop
 loop-again c =
@@ -62,14 +53,4 @@ returns c =
 
 pub lanes-separate-spec : {M : Type 1} → statement M
 lanes-separate-spec =
-    tie.close
-    (tie.spec
-    Inv-loop
-    μ-loop
-    loop-holds
-    add-is-separate
-    is-separate-requires
-    add-k
-    loop-less
-    loop-again
-    returns)
+    tie.close (tie.spec Inv-loop μ-loop loop-holds (λ c. search needs) is-separate-requires (λ c. search needs) (λ c. search needs) loop-again returns)

@@ -18,5 +18,4 @@ returns c =
 
 pub side-bounds-spec : {M : Type 1} → statement M
 side-bounds-spec =
-    tie.close
-    (tie.spec (λ c κs. search needs) (λ c κs. search needs) (λ c κs. search needs) (λ c κs. search needs) returns)
+    tie.close (tie.spec (λ c κs. search needs) (λ c κs. search needs) (λ c κs. search needs) (λ c κs. search needs) returns)

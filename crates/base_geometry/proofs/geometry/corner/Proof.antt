@@ -4,15 +4,9 @@ use borrow.Author.Needs.{needs}
 use Rattle.base_geometry.proofs.geometry.corner.Statement.{statement}
 use Rattle.base_geometry.proofs.geometry.corner.Tie as tie
 
-mul-result : tie.Need-mul-result
-mul-result c = search needs
-
-array-copy-out-result : tie.Need-array-copy-out-result
-array-copy-out-result c = search needs
-
 returns : tie.Need-returns
 unfolding cornerAt
 returns c = refl
 
 pub corner-spec : {M : Type 1} → statement M
-corner-spec = tie.close (tie.spec mul-result array-copy-out-result returns)
+corner-spec = tie.close (tie.spec (λ c. search needs) (λ c. search needs) returns)

@@ -9,10 +9,4 @@ returns c = c .is-inner .ensures
 
 pub is-proper-spec : {M : Type 1} → statement M
 is-proper-spec =
-    tie.close
-    (tie.spec
-    (λ c. search needs)
-    (λ c. search needs)
-    (λ c. search needs)
-    (λ c κs. search needs)
-    returns)
+    tie.close (tie.spec (λ c. search needs) (λ c. search needs) (λ c. search needs) (λ c κs. search needs) returns)

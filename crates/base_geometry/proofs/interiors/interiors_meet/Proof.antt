@@ -11,9 +11,6 @@ use Rattle.base_geometry.proofs.interiors.interiors_meet.Tie as tie
 first-fails : {x : Bool} (y : Bool) → false ≡ x → false ≡ x && y
 first-fails y e = ap (λ b. b && y) e
 
-no-side-separates-requires : tie.Need-no-side-separates-requires
-no-side-separates-requires c κs = search needs
-
 returns : tie.Need-returns
 unfolding interiorsMeet
 returns c =
@@ -22,9 +19,6 @@ returns c =
     let a = top .args in
     let first = no-side-separates .no-side-separates in
     first-fails (noSideSeparates (triangleOf (a .t)) (triangleOf (a .s))) (sym (not-true (first .result) (c .if1 .taken)) ∙ first .ensures)
-
-no-side-separates-requires-2 : tie.Need-no-side-separates-requires-2
-no-side-separates-requires-2 c κs = search needs
 
 returns-2 : tie.Need-returns-2
 unfolding interiorsMeet
@@ -35,5 +29,4 @@ returns-2 c =
     ap₂ _&&_ (sym (not-false (first .result) (else1 .if1 .left)) ∙ first .ensures) (c .no-side-separates2 .ensures)
 
 pub interiors-meet-spec : {M : Type 1} → statement M
-interiors-meet-spec =
-    tie.close (tie.spec no-side-separates-requires returns no-side-separates-requires-2 returns-2)
+interiors-meet-spec = tie.close (tie.spec (λ c κs. search needs) returns (λ c κs. search needs) returns-2)

@@ -14,15 +14,6 @@ first-fails y z e = ap (λ b. b && y && z) e
 second-fails : {x y : Bool} (z : Bool) → true ≡ x → false ≡ y → false ≡ x && y && z
 second-fails z e f = ap₂ (λ a b. a && b && z) e f
 
-array-copy-out-some-corner-inner : tie.Need-array-copy-out-some-corner-inner
-array-copy-out-some-corner-inner c = search needs
-
-array-copy-out-some-corner-inner-2 : tie.Need-array-copy-out-some-corner-inner-2
-array-copy-out-some-corner-inner-2 c = search needs
-
-some-corner-inner-requires : tie.Need-some-corner-inner-requires
-some-corner-inner-requires c κs = search needs
-
 returns : tie.Need-returns
 unfolding noSideSeparates triangleOf cornerAt
 returns c =
@@ -32,15 +23,6 @@ returns c =
     let t = triangleOf (top .args .t) in
     let first = some-corner-inner .some-corner-inner in
     first-fails (someCornerInner (s .b) (s .c) t) (someCornerInner (s .c) (s .a) t) (sym (not-true (first .result) (c .if1 .taken)) ∙ first .ensures)
-
-array-copy-out-some-corner-inner-3 : tie.Need-array-copy-out-some-corner-inner-3
-array-copy-out-some-corner-inner-3 c = search needs
-
-array-copy-out-some-corner-inner-4 : tie.Need-array-copy-out-some-corner-inner-4
-array-copy-out-some-corner-inner-4 c = search needs
-
-some-corner-inner-requires-2 : tie.Need-some-corner-inner-requires-2
-some-corner-inner-requires-2 c κs = search needs
 
 returns-2 : tie.Need-returns-2
 unfolding noSideSeparates triangleOf cornerAt
@@ -55,15 +37,6 @@ returns-2 c =
     let second = some-corner-inner2 .some-corner-inner2 in
     second-fails (someCornerInner (s .c) (s .a) t) (sym (not-false (first .result) (else1 .if1 .left)) ∙ first .ensures)
     (sym (not-true (second .result) (c .if2 .taken)) ∙ second .ensures)
-
-array-copy-out-some-corner-inner-5 : tie.Need-array-copy-out-some-corner-inner-5
-array-copy-out-some-corner-inner-5 c = search needs
-
-array-copy-out-some-corner-inner-6 : tie.Need-array-copy-out-some-corner-inner-6
-array-copy-out-some-corner-inner-6 c = search needs
-
-some-corner-inner-requires-3 : tie.Need-some-corner-inner-requires-3
-some-corner-inner-requires-3 c κs = search needs
 
 returns-3 : tie.Need-returns-3
 unfolding noSideSeparates triangleOf cornerAt
@@ -81,17 +54,5 @@ returns-3 c =
 
 pub no-side-separates-spec : {M : Type 1} → statement M
 no-side-separates-spec =
-    tie.close
-    (tie.spec
-    array-copy-out-some-corner-inner
-    array-copy-out-some-corner-inner-2
-    some-corner-inner-requires
-    returns
-    array-copy-out-some-corner-inner-3
-    array-copy-out-some-corner-inner-4
-    some-corner-inner-requires-2
-    returns-2
-    array-copy-out-some-corner-inner-5
-    array-copy-out-some-corner-inner-6
-    some-corner-inner-requires-3
-    returns-3)
+    tie.close (tie.spec (λ c. search needs) (λ c. search needs) (λ c κs. search needs) returns (λ c. search needs) (λ c. search needs)
+    (λ c κs. search needs) returns-2 (λ c. search needs) (λ c. search needs) (λ c κs. search needs) returns-3)

@@ -3,9 +3,6 @@ use borrow.Author.Needs.{needs}
 use Rattle.base_geometry.proofs.orientation.is_inner.Statement.{statement}
 use Rattle.base_geometry.proofs.orientation.is_inner.Tie as tie
 
-orientation-requires : tie.Need-orientation-requires
-orientation-requires c κs = search needs
-
 returns : tie.Need-returns
 returns c =
     let orientation : tie.After-orientation = search needs in
@@ -13,4 +10,4 @@ returns c =
     sums-positive (d .result .high) (d .result .low) (d .ensures .0)
 
 pub is-inner-spec : {M : Type 1} → statement M
-is-inner-spec = tie.close (tie.spec orientation-requires returns)
+is-inner-spec = tie.close (tie.spec (λ c κs. search needs) returns)

@@ -3,9 +3,6 @@ use borrow.Author.Needs.{needs}
 use Rattle.base_geometry.proofs.orientation.is_not_outer.Statement.{statement}
 use Rattle.base_geometry.proofs.orientation.is_not_outer.Tie as tie
 
-orientation-requires : tie.Need-orientation-requires
-orientation-requires c κs = search needs
-
 returns : tie.Need-returns
 returns c =
     let orientation : tie.After-orientation = search needs in
@@ -13,4 +10,4 @@ returns c =
     sums-nonneg (d .result .high) (d .result .low) (d .ensures .0)
 
 pub is-not-outer-spec : {M : Type 1} → statement M
-is-not-outer-spec = tie.close (tie.spec orientation-requires returns)
+is-not-outer-spec = tie.close (tie.spec (λ c κs. search needs) returns)

@@ -39,14 +39,8 @@ fine c =
     let top : tie.Start = search needs in
     let p = indexed-passed (chart top) (judged c) in (p .0, p .1 .0)
 
-judge-edit-requires : tie.Need-judge-edit-requires
-judge-edit-requires c κs = search needs
-
 enum-told : tie.Need-enum-told
 enum-told c = search needs
-
-slice-aggregate-edit-table : tie.Need-slice-aggregate-edit-table
-slice-aggregate-edit-table c = search needs
 
 -- an earlier place, found from a later one
 abbrev enum-told-to-top : tie.After-enum-told → tie.Start
@@ -62,9 +56,6 @@ edit-table-requires c κs =
     let h = rule-drawn (chart top) (fine d .0) (fine d .1) in
     record { few = h .few; room = h .room; scratch = omega arith }
 
-slice-aggregate-finish : tie.Need-slice-aggregate-finish
-slice-aggregate-finish c = search needs
-
 finish-requires : tie.Need-finish-requires
 finish-requires c κs =
     let s : tie.After-edit-table = search needs in
@@ -72,18 +63,6 @@ finish-requires c κs =
     let top = enum-told-to-top d in
     let h = rule-drawn (chart top) (fine d .0) (fine d .1) in
     (made-drawn h (eventOf (top .args .edit)) (s .edit-table .result) _ (omega arith) (s .edit-table .ensures .0) (s .edit-table .ensures .1), fine d .0)
-
-same-length : tie.Need-same-length
-same-length c = search needs
-
-same-length-2 : tie.Need-same-length-2
-same-length-2 c = search needs
-
-same-length-3 : tie.Need-same-length-3
-same-length-3 c = search needs
-
-same-length-4 : tie.Need-same-length-4
-same-length-4 c = search needs
 
 returns : tie.Need-returns
 unfolding chartTable
@@ -97,21 +76,6 @@ returns c =
     ∙ ap (changedBy (chart top)) (ap (λ o. andThen o (λ t. withinLimit t)) (edit-table .edit-table .ensures .0) ∙ sym (event-limited e (chartTable (chart top))))
     ∙ edit-judged (chart top) e (judged enum-told)
 
-enum-told-2 : tie.Need-enum-told-2
-enum-told-2 c = search needs
-
-same-length-5 : tie.Need-same-length-5
-same-length-5 c = search needs
-
-same-length-6 : tie.Need-same-length-6
-same-length-6 c = search needs
-
-same-length-7 : tie.Need-same-length-7
-same-length-7 c = search needs
-
-same-length-8 : tie.Need-same-length-8
-same-length-8 c = search needs
-
 returns-2 : tie.Need-returns-2
 unfolding changedBy
 returns-2 c =
@@ -123,22 +87,6 @@ returns-2 c =
 
 pub edit-chart-spec : {M : Type 1} → statement M
 edit-chart-spec =
-    tie.close
-    (tie.spec
-    judge-edit-requires
-    enum-told
-    slice-aggregate-edit-table
-    edit-table-requires
-    slice-aggregate-finish
-    finish-requires
-    same-length
-    same-length-2
-    same-length-3
-    same-length-4
-    returns
-    enum-told-2
-    same-length-5
-    same-length-6
-    same-length-7
-    same-length-8
-    returns-2)
+    tie.close (tie.spec (λ c κs. search needs) enum-told (λ c. search needs) edit-table-requires (λ c. search needs) finish-requires
+    (λ c. search needs) (λ c. search needs) (λ c. search needs) (λ c. search needs) returns (λ c. search needs) (λ c. search needs)
+    (λ c. search needs) (λ c. search needs) (λ c. search needs) returns-2)

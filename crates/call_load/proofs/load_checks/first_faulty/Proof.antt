@@ -21,12 +21,6 @@ abbrev μ-loop : tie.MeasureT-loop
 loop-holds : tie.Need-loop-holds Inv-loop μ-loop
 loop-holds c = (search needs, below-none _)
 
-triangle-at-requires : tie.Need-triangle-at-requires Inv-loop μ-loop
-triangle-at-requires c κs = omega arith
-
-is-proper-requires : tie.Need-is-proper-requires Inv-loop μ-loop
-is-proper-requires c κs = search needs
-
 returns : tie.Need-returns Inv-loop μ-loop
 unfolding triangleOf cornerAt
 returns c =
@@ -39,12 +33,6 @@ returns c =
     faulty-found (a .table .now) (a .n) (l .i) (l .inv .0) (l .inv .1) (λ h.
     sym (is-proper .is-proper .ensures ∙ ap (λ t. proper (triangleOf t)) (triangle-at .triangle-at .ensures))
     ∙ not-true (is-proper .is-proper .result) (c .if1 .taken))
-
-add-i : tie.Need-add-i Inv-loop μ-loop
-add-i c = search needs
-
-loop-less : tie.Need-loop-less Inv-loop μ-loop
-loop-less c = search needs
 
 loop-again : tie.Need-loop-again Inv-loop μ-loop
 unfolding triangleOf cornerAt
@@ -70,15 +58,5 @@ returns-2 c =
 
 pub first-faulty-spec : {M : Type 1} → statement M
 first-faulty-spec =
-    tie.close
-    (tie.spec
-    Inv-loop
-    μ-loop
-    loop-holds
-    triangle-at-requires
-    is-proper-requires
-    returns
-    add-i
-    loop-less
-    loop-again
-    returns-2)
+    tie.close (tie.spec Inv-loop μ-loop loop-holds (λ c κs. omega arith) (λ c κs. search needs) returns (λ c. search needs) (λ c. search needs)
+    loop-again returns-2)

@@ -20,9 +20,6 @@ returns c =
     let top : tie.Start = search needs in
     sym (ap judged (given-length (top .args .numbers .now) (c .if1 .taken)))
 
-first-faulty-requires : tie.Need-first-faulty-requires
-first-faulty-requires c κs = search needs
-
 returns-2 : tie.Need-returns-2
 unfolding andThen givenTable
 returns-2 c =
@@ -43,4 +40,4 @@ returns-3 c =
     sym (ap judged (given-done (top .args .numbers .now) (else1 .if1 .left) (omega (arith, e, c .if2 .left))))
 
 pub judge-given-spec : {M : Type 1} → statement M
-judge-given-spec = tie.close (tie.spec returns first-faulty-requires returns-2 returns-3)
+judge-given-spec = tie.close (tie.spec returns (λ c κs. search needs) returns-2 returns-3)

@@ -5,17 +5,11 @@ use Rattle.spec_calls.specs.Calls.{ifLong}
 use Rattle.call_load.proofs.load_checks.judge_load.Statement.{statement}
 use Rattle.call_load.proofs.load_checks.judge_load.Tie as tie
 
-too-short-requires : tie.Need-too-short-requires
-too-short-requires c κs = search needs
-
 returns : tie.Need-returns
 unfolding ifLong refuseIf
 returns c triangles entries =
     let too-short : tie.After-too-short = search needs in
     rw (sym (too-short .too-short .ensures triangles entries) ∙ c .if1 .taken)
-
-judge-given-requires : tie.Need-judge-given-requires
-judge-given-requires c κs = search needs
 
 returns-2 : tie.Need-returns-2
 unfolding ifLong refuseIf
@@ -25,4 +19,4 @@ returns-2 c triangles entries =
     rw (sym (too-short .too-short .ensures triangles entries) ∙ else1 .if1 .left) (c .judge-given .ensures)
 
 pub judge-load-spec : {M : Type 1} → statement M
-judge-load-spec = tie.close (tie.spec too-short-requires returns judge-given-requires returns-2)
+judge-load-spec = tie.close (tie.spec (λ c κs. search needs) returns (λ c κs. search needs) returns-2)

@@ -4,29 +4,11 @@ use Rattle.call_overlay.proofs.FinishLaws.{finish-over, finish-done}
 use Rattle.call_overlay.proofs.overlay_answers.finish.Statement.{statement}
 use Rattle.call_overlay.proofs.overlay_answers.finish.Tie as tie
 
-zero-items-requires : tie.Need-zero-items-requires
-zero-items-requires c κs = search needs
-
-refused-requires : tie.Need-refused-requires
-refused-requires c κs = search needs
-
-same-length : tie.Need-same-length
-same-length c = search needs
-
 returns : tie.Need-returns
 returns c =
     let zero-items : tie.After-zero-items = search needs in
     let top : tie.Start = search needs in
     λ ps before w. finish-over w (top .pre .1) (top .args .meetings) _ (omega arith) (zero-items .zero-items .ensures) (c .refused .ensures)
-
-mul-zero-items : tie.Need-mul-zero-items
-mul-zero-items c = search needs
-
-zero-items-requires-2 : tie.Need-zero-items-requires-2
-zero-items-requires-2 c κs = search needs
-
-same-length-2 : tie.Need-same-length-2
-same-length-2 c = search needs
 
 returns-2 : tie.Need-returns-2
 returns-2 c =
@@ -37,13 +19,5 @@ returns-2 c =
 
 pub finish-spec : {M : Type 1} → statement M
 finish-spec =
-    tie.close
-    (tie.spec
-    zero-items-requires
-    refused-requires
-    same-length
-    returns
-    mul-zero-items
-    zero-items-requires-2
-    same-length-2
-    returns-2)
+    tie.close (tie.spec (λ c κs. search needs) (λ c κs. search needs) (λ c. search needs) returns (λ c. search needs) (λ c κs. search needs)
+    (λ c. search needs) returns-2)

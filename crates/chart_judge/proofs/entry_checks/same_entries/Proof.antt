@@ -11,9 +11,6 @@ returns c =
     let a = top .args in
     rw (ne-eqb (a .r) (a .m) (λ e. omega (arith, c .if1 .taken))) refl
 
-differences-requires : tie.Need-differences-requires
-differences-requires c κs = search needs
-
 returns-2 : tie.Need-returns-2
 returns-2 c =
     let else1 : tie.Else1 = search needs in
@@ -22,4 +19,4 @@ returns-2 c =
     rw (eq-eqb (a .r) (a .m) (omega (arith, else1 .if1 .left))) (c .differences .ensures)
 
 pub same-entries-spec : {M : Type 1} → statement M
-same-entries-spec = tie.close (tie.spec returns differences-requires returns-2)
+same-entries-spec = tie.close (tie.spec returns (λ c κs. search needs) returns-2)

@@ -8,8 +8,8 @@ use borrow.Author.Needs.{needs}
 use lib.ListN.{take}
 use Rattle.spec_charts.specs.Table.{tableLength}
 use Rattle.spec_calls.specs.Buffers.{padded}
+use Rattle.laws_calls.proofs.PaddedLaws.{padded-stored}
 use Rattle.base_lists.proofs.CopyLaws.{Copying, copying-start, copying-next, copying-end, images-count}
-use Rattle.base_lists.proofs.PaddedLaws.{padded-stored}
 use Rattle.chart_lists.proofs.table_writes.put_table.Statement.{statement}
 use Rattle.chart_lists.proofs.table_writes.put_table.Tie as tie
 
@@ -42,18 +42,5 @@ returns c =
 
 pub put-table-spec : {M : Type 1} → statement M
 put-table-spec =
-    tie.close
-    (tie.spec
-    Inv-loop
-    μ-loop
-    loop-holds
-    (λ c. search needs)
-    (λ c. search needs)
-    (λ c. search needs)
-    (λ c. search needs)
-    (λ c. search needs)
-    (λ c. search needs)
-    loop-again
-    (λ c κs. omega arith)
-    (λ c. search needs)
-    returns)
+    tie.close (tie.spec Inv-loop μ-loop loop-holds (λ c. search needs) (λ c. search needs) (λ c. search needs) (λ c. search needs) (λ c. search needs)
+    (λ c. search needs) loop-again (λ c κs. omega arith) (λ c. search needs) returns)

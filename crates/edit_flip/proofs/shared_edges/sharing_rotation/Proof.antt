@@ -24,9 +24,9 @@ tested : (c : tie.After-shares-side Inv-loop μ-loop) →
     let top : tie.Start Inv-loop μ-loop = search needs in
     c .shares-side .result ≡ sharesSide (triangleOf (top .args .s)) (triangleOf (rotated (top .args .u) (loop .loop .k)))
 tested c =
-    let rotated : tie.After-rotated Inv-loop μ-loop = search needs in
+    let turned : tie.After-rotated Inv-loop μ-loop = search needs in
     let top : tie.Start Inv-loop μ-loop = search needs in
-    c .shares-side .ensures ∙ ap (λ v. sharesSide (triangleOf (top .args .s)) (triangleOf v)) (rotated .rotated .ensures)
+    c .shares-side .ensures ∙ ap (λ v. sharesSide (triangleOf (top .args .s)) (triangleOf v)) (turned .rotated .ensures)
 
 returns : tie.Need-returns Inv-loop μ-loop
 returns c =
@@ -57,15 +57,5 @@ returns-2 c =
 
 pub sharing-rotation-spec : {M : Type 1} → statement M
 sharing-rotation-spec =
-    tie.close
-    (tie.spec
-    Inv-loop
-    μ-loop
-    loop-holds
-    (λ c κs. search needs)
-    (λ c κs. search needs)
-    returns
-    (λ c. search needs)
-    (λ c. search needs)
-    loop-again
-    returns-2)
+    tie.close (tie.spec Inv-loop μ-loop loop-holds (λ c κs. search needs) (λ c κs. search needs) returns (λ c. search needs) (λ c. search needs)
+    loop-again returns-2)

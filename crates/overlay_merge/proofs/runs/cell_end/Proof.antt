@@ -11,25 +11,10 @@ Inv-loop keys entries at key r₀ r = CellPassed keys entries at key r
 abbrev μ-loop : tie.MeasureT-loop
 μ-loop keys entries at key r₀ r = entries - r
 
-mul-key : tie.Need-mul-key Inv-loop μ-loop
-mul-key c = search needs
-
-shared-slice-read-key : tie.Need-shared-slice-read-key Inv-loop μ-loop
-shared-slice-read-key c = search needs
-
-add-r : tie.Need-add-r Inv-loop μ-loop
-add-r c = search needs
-
 loop-holds : tie.Need-loop-holds Inv-loop μ-loop
 loop-holds c =
     let top : tie.Start Inv-loop μ-loop = search needs in
     let a = top .args in cell-start (a .keys .now) (a .entries) (a .at) (top .pre .below)
-
-mul-if1 : tie.Need-mul-if1 Inv-loop μ-loop
-mul-if1 c = search needs
-
-shared-slice-read-if1 : tie.Need-shared-slice-read-if1 Inv-loop μ-loop
-shared-slice-read-if1 c = search needs
 
 returns : tie.Need-returns Inv-loop μ-loop
 returns c =
@@ -37,12 +22,6 @@ returns c =
     let top : tie.Start Inv-loop μ-loop = search needs in
     let a = top .args in
     cell-met (a .keys .now) (a .entries) (a .at) (loop .loop .inv) (c .if1 .taken)
-
-add-r-2 : tie.Need-add-r-2 Inv-loop μ-loop
-add-r-2 c = search needs
-
-loop-less : tie.Need-loop-less Inv-loop μ-loop
-loop-less c = search needs
 
 loop-again : tie.Need-loop-again Inv-loop μ-loop
 loop-again c =
@@ -61,18 +40,5 @@ returns-2 c =
 
 pub cell-end-spec : {M : Type 1} → statement M
 cell-end-spec =
-    tie.close
-    (tie.spec
-    Inv-loop
-    μ-loop
-    mul-key
-    shared-slice-read-key
-    add-r
-    loop-holds
-    mul-if1
-    shared-slice-read-if1
-    returns
-    add-r-2
-    loop-less
-    loop-again
-    returns-2)
+    tie.close (tie.spec Inv-loop μ-loop (λ c. search needs) (λ c. search needs) (λ c. search needs) loop-holds (λ c. search needs) (λ c. search needs)
+    returns (λ c. search needs) (λ c. search needs) loop-again returns-2)

@@ -5,12 +5,6 @@ use borrow.Author.Needs.{needs}
 use Rattle.overlay_merge.proofs.runs.key_from.Statement.{statement}
 use Rattle.overlay_merge.proofs.runs.key_from.Tie as tie
 
-mul-result : tie.Need-mul-result
-mul-result c = search needs
-
-shared-slice-read-result : tie.Need-shared-slice-read-result
-shared-slice-read-result c = search needs
-
 cast-result : tie.Need-cast-result
 cast-result c =
     let top : tie.Start = search needs in
@@ -30,5 +24,4 @@ returns-2 c =
     rw (le-ltb (top .args .i) (top .args .entries) (c .if1 .left))
 
 pub key-from-spec : {M : Type 1} → statement M
-key-from-spec =
-    tie.close (tie.spec mul-result shared-slice-read-result cast-result returns returns-2)
+key-from-spec = tie.close (tie.spec (λ c. search needs) (λ c. search needs) cast-result returns returns-2)

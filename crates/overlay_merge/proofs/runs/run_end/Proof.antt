@@ -13,20 +13,11 @@ Inv-loop keys entries at end cells₀ r₀ cells r = RunPassed keys entries at e
 abbrev μ-loop : tie.MeasureT-loop
 μ-loop keys entries at end cells₀ r₀ cells r = entries - r
 
-add-r : tie.Need-add-r Inv-loop μ-loop
-add-r c = search needs
-
 loop-holds : tie.Need-loop-holds Inv-loop μ-loop
 loop-holds c =
     let top : tie.Start Inv-loop μ-loop = search needs in
     let a = top .args in
     run-start (a .keys .now) (a .entries) (a .at) (a .end) (top .pre .below) (top .pre .room)
-
-mul-if1 : tie.Need-mul-if1 Inv-loop μ-loop
-mul-if1 c = search needs
-
-shared-slice-read-if1 : tie.Need-shared-slice-read-if1 Inv-loop μ-loop
-shared-slice-read-if1 c = search needs
 
 cast-if1 : tie.Need-cast-if1 Inv-loop μ-loop
 cast-if1 c =
@@ -40,21 +31,6 @@ returns c =
     let a = top .args in
     run-met (a .keys .now) (a .entries) (a .at) (a .end) (loop .loop .inv) (λ l. omega (arith, c .if1 .taken))
 
-sub-cell-step : tie.Need-sub-cell-step Inv-loop μ-loop
-sub-cell-step c = search needs
-
-mul-cell-step : tie.Need-mul-cell-step Inv-loop μ-loop
-mul-cell-step c = search needs
-
-shared-slice-read-cell-step : tie.Need-shared-slice-read-cell-step Inv-loop μ-loop
-shared-slice-read-cell-step c = search needs
-
-mul-cell-step-2 : tie.Need-mul-cell-step-2 Inv-loop μ-loop
-mul-cell-step-2 c = search needs
-
-shared-slice-read-cell-step-2 : tie.Need-shared-slice-read-cell-step-2 Inv-loop μ-loop
-shared-slice-read-cell-step-2 c = search needs
-
 cell-step-requires : tie.Need-cell-step-requires Inv-loop μ-loop
 cell-step-requires c κs = tt
 
@@ -65,12 +41,6 @@ add-cells c =
     let a = top .args in
     let l = loop .loop in
     omega (arith, run-few (a .keys .now) (a .entries) (a .at) (a .end) (l .inv), c .cell-step .ensures, change-few (getD (a .keys .now) (l .r - 1) 0) (getD (a .keys .now) (l .r) 0))
-
-add-r-2 : tie.Need-add-r-2 Inv-loop μ-loop
-add-r-2 c = search needs
-
-loop-less : tie.Need-loop-less Inv-loop μ-loop
-loop-less c = search needs
 
 loop-again : tie.Need-loop-again Inv-loop μ-loop
 loop-again c =
@@ -90,24 +60,6 @@ returns-2 c =
 
 pub run-end-spec : {M : Type 1} → statement M
 run-end-spec =
-    tie.close
-    (tie.spec
-    Inv-loop
-    μ-loop
-    add-r
-    loop-holds
-    mul-if1
-    shared-slice-read-if1
-    cast-if1
-    returns
-    sub-cell-step
-    mul-cell-step
-    shared-slice-read-cell-step
-    mul-cell-step-2
-    shared-slice-read-cell-step-2
-    cell-step-requires
-    add-cells
-    add-r-2
-    loop-less
-    loop-again
-    returns-2)
+    tie.close (tie.spec Inv-loop μ-loop (λ c. search needs) loop-holds (λ c. search needs) (λ c. search needs) cast-if1 returns (λ c. search needs)
+    (λ c. search needs) (λ c. search needs) (λ c. search needs) (λ c. search needs) cell-step-requires add-cells (λ c. search needs)
+    (λ c. search needs) loop-again returns-2)

@@ -17,12 +17,6 @@ returns c =
       kept = refl;
     }
 
-triangle-box-requires : tie.Need-triangle-box-requires
-triangle-box-requires c κs = search needs
-
-collect-row-requires : tie.Need-collect-row-requires
-collect-row-requires c κs = search needs
-
 -- an earlier place, found from a later one
 abbrev triangle-box-to-top : tie.After-triangle-box → tie.Start
 triangle-box-to-top c = search needs
@@ -43,12 +37,6 @@ put-near-requires c κs =
       top .pre .1 .1,
     )
 
-same-length : tie.Need-same-length
-same-length c = search needs
-
-same-length-2 : tie.Need-same-length-2
-same-length-2 c = search needs
-
 returns-2 : tie.Need-returns-2
 returns-2 c =
     let put-near : tie.After-put-near = search needs in
@@ -67,5 +55,4 @@ returns-2 c =
 
 pub put-row-spec : {M : Type 1} → statement M
 put-row-spec =
-    tie.close
-    (tie.spec returns triangle-box-requires collect-row-requires put-near-requires same-length same-length-2 returns-2)
+    tie.close (tie.spec returns (λ c κs. search needs) (λ c κs. search needs) put-near-requires (λ c. search needs) (λ c. search needs) returns-2)

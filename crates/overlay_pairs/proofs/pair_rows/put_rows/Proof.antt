@@ -56,12 +56,6 @@ put-row-requires c κs =
       ),
     )
 
-add-i : tie.Need-add-i Inv-loop μ-loop
-add-i c = search needs
-
-loop-less : tie.Need-loop-less Inv-loop μ-loop
-loop-less c = search needs
-
 loop-again : tie.Need-loop-again Inv-loop μ-loop
 loop-again c =
     let put-row : tie.After-put-row Inv-loop μ-loop = search needs in
@@ -97,15 +91,5 @@ returns c =
 
 pub put-rows-spec : {M : Type 1} → statement M
 put-rows-spec =
-    tie.close
-    (tie.spec
-    Inv-loop
-    μ-loop
-    loop-holds
-    put-row-requires
-    add-i
-    loop-less
-    loop-again
-    same-length
-    same-length-2
+    tie.close (tie.spec Inv-loop μ-loop loop-holds put-row-requires (λ c. search needs) (λ c. search needs) loop-again same-length same-length-2
     returns)

@@ -18,9 +18,6 @@ Inv-loop first i second near d pairs₀ found s c₀ k₀ pairs c k = NearDone f
 abbrev μ-loop : tie.MeasureT-loop
 μ-loop first i second near d pairs₀ found s c₀ k₀ pairs c k = d - k
 
-triangle-at-requires : tie.Need-triangle-at-requires Inv-loop μ-loop
-triangle-at-requires c κs = search needs
-
 loop-holds : tie.Need-loop-holds Inv-loop μ-loop
 loop-holds c =
     let top : tie.Start Inv-loop μ-loop = search needs in
@@ -31,23 +28,11 @@ loop-holds c =
       wrote = pairs-none (a .first .now) (a .second .now) (a .i) (a .near .now) (a .found) (a .pairs .now) (top .pre .1 .few);
     }
 
-mul-j : tie.Need-mul-j Inv-loop μ-loop
-mul-j c = search needs
-
-shared-slice-read-j : tie.Need-shared-slice-read-j Inv-loop μ-loop
-shared-slice-read-j c = omega arith
-
 triangle-at-requires-2 : tie.Need-triangle-at-requires-2 Inv-loop μ-loop
 triangle-at-requires-2 c κs =
     let loop : tie.At-loop Inv-loop μ-loop = search needs in
     let top : tie.Start Inv-loop μ-loop = search needs in
     top .pre .0 .1 .each (loop .loop .k) (omega arith) .room
-
-interiors-meet-requires : tie.Need-interiors-meet-requires Inv-loop μ-loop
-interiors-meet-requires c κs = search needs
-
-cast-put-pair : tie.Need-cast-put-pair Inv-loop μ-loop
-cast-put-pair c = omega arith
 
 cast-put-pair-2 : tie.Need-cast-put-pair-2 Inv-loop μ-loop
 cast-put-pair-2 c =
@@ -61,12 +46,6 @@ put-pair-requires c κs =
     let top : tie.Start Inv-loop μ-loop = search needs in
     let w = loop .loop .inv .wrote in
     record { few = wrote-within w; room = omega (arith, w .kept, top .pre .1 .room) }
-
-add-k : tie.Need-add-k Inv-loop μ-loop
-add-k c = search needs
-
-loop-less : tie.Need-loop-less Inv-loop μ-loop
-loop-less c = search needs
 
 -- an earlier place, found from a later one
 abbrev loop-to-top : tie.At-loop Inv-loop μ-loop → tie.Start Inv-loop μ-loop
@@ -108,21 +87,5 @@ returns c =
 
 pub put-near-spec : {M : Type 1} → statement M
 put-near-spec =
-    tie.close
-    (tie.spec
-    Inv-loop
-    μ-loop
-    triangle-at-requires
-    loop-holds
-    mul-j
-    shared-slice-read-j
-    triangle-at-requires-2
-    interiors-meet-requires
-    cast-put-pair
-    cast-put-pair-2
-    put-pair-requires
-    add-k
-    loop-less
-    loop-again
-    same-length
-    returns)
+    tie.close (tie.spec Inv-loop μ-loop (λ c κs. search needs) loop-holds (λ c. search needs) (λ c. omega arith) triangle-at-requires-2
+    (λ c κs. search needs) (λ c. omega arith) cast-put-pair-2 put-pair-requires (λ c. search needs) (λ c. search needs) loop-again same-length returns)

@@ -18,9 +18,6 @@ returns c =
     let l = a .pairs .now in
     subst (λ b. Wrote (pairIf b (a .i) (a .j)) (a .found) (a .found) l l) (sym (not-true (a .meet) (c .if1 .taken))) (wrote-none (a .found) l (top .pre .few))
 
-add-result : tie.Need-add-result
-add-result c = search needs
-
 returns-2 : tie.Need-returns-2
 returns-2 c =
     let else1 : tie.Else1 = search needs in
@@ -30,32 +27,8 @@ returns-2 c =
     subst (λ b. Wrote (pairIf b (a .i) (a .j)) (a .found) (maxPairs + 1) l l) (sym (not-false (a .meet) (else1 .if1 .left)))
     (wrote-full (record { i = a .i; j = a .j }) (a .found) l (omega arith) (omega arith))
 
-mul-pairs : tie.Need-mul-pairs
-mul-pairs c = search needs
-
-mul-pairs-2 : tie.Need-mul-pairs-2
-mul-pairs-2 c = search needs
-
-slice-write-pairs : tie.Need-slice-write-pairs
-slice-write-pairs c = search needs
-
-mul-pairs-3 : tie.Need-mul-pairs-3
-mul-pairs-3 c = search needs
-
-add-pairs : tie.Need-add-pairs
-add-pairs c = search needs
-
-mul-pairs-4 : tie.Need-mul-pairs-4
-mul-pairs-4 c = search needs
-
 slice-write-pairs-2 : tie.Need-slice-write-pairs-2
 slice-write-pairs-2 c = simp length-set (omega arith)
-
-add-result-2 : tie.Need-add-result-2
-add-result-2 c = search needs
-
-same-length : tie.Need-same-length
-same-length c = search needs
 
 returns-3 : tie.Need-returns-3
 returns-3 c =
@@ -68,18 +41,5 @@ returns-3 c =
 
 pub put-pair-spec : {M : Type 1} → statement M
 put-pair-spec =
-    tie.close
-    (tie.spec
-    returns
-    add-result
-    returns-2
-    mul-pairs
-    mul-pairs-2
-    slice-write-pairs
-    mul-pairs-3
-    add-pairs
-    mul-pairs-4
-    slice-write-pairs-2
-    add-result-2
-    same-length
-    returns-3)
+    tie.close (tie.spec returns (λ c. search needs) returns-2 (λ c. search needs) (λ c. search needs) (λ c. search needs) (λ c. search needs)
+    (λ c. search needs) (λ c. search needs) slice-write-pairs-2 (λ c. search needs) (λ c. search needs) returns-3)

@@ -1,23 +1,23 @@
--- The recursion on quarters: 16 - level falls at each of them.
+-- The recursion on quarters: depth - level falls at each of them.
 -- The idea: the candidates that pass are the triangles that meet the square. A stopped square is written as a leaf; in any other
 -- the loop keeps that the entries of the first k quarters are built, and those of all four are the square's.
 use mathlib.Core.Path.{_≡_, refl, sym, _∙_, ap}
+use mathlib.Core.Bool.{false}
 use mathlib.Core.List.{flatMap}
-use Prim.Native.Nat.{ℕ, _+_, _*_, _-_, _≤_, _<_}
+use Prim.Native.Nat.{ℕ, _-_, _≤_, _<_}
 use native.Mathlib.Omega.{arith}
 use lib.ListN.{take}
 use borrow.Author.Needs.{needs}
-use Rattle.spec_squares.specs.Square.{quarters}
-use Rattle.spec_charts.specs.Table.{tableOf}
-use Rattle.spec_charts.specs.Cells.{entriesIn}
-use Rattle.quadtree_shapes.specs.Shape.{coordinates}
+use Rattle.theory_lists.proofs.StoredLaws.{take-less}
+use Rattle.spec_squares.specs.Square.{arity, depth, quarters}
+use Rattle.spec_charts.specs.Cells.{stopped, entriesIn}
+use Rattle.base_entries.specs.Packed.{headOf}
 use Rattle.quadtree_cells.proofs.StepLaws.{key-small}
-use Rattle.quadtree_stopping.specs.Stopping.{triangleTotal}
+use Rattle.quadtree_stopping.specs.Stopping.{cornerTable}
 use Rattle.quadtree_build.specs.Build.{Built}
 use Rattle.quadtree_build.proofs.WalkLaws.{built-none, built-join}
-use Rattle.theory_lists.proofs.StoredLaws.{part-kept, take-less}
-use Rattle.quadtree_cells.proofs.ReadyLaws.{ready-fits, ready-kept}
-use Rattle.quadtree_build.proofs.SquareWalk.{after-narrow, narrow-room, level-below, built-leaf, quarter-tree, quarter-level, quarter-candidates, quarters-more, quarters-all}
+use Rattle.quadtree_build.proofs.SquareWalk.{Narrowed, narrowable, after-narrow, built-leaf}
+use Rattle.quadtree_build.proofs.QuarterWalk.{level-below, quarter-level, quarter-buildable, quarters-more, quarters-all}
 use borrow.Fn.Kinds.{In}
 use borrow.Fn.PlainCycle.{Measures, is, falls, and}
 use Rattle.quadtree_build.proofs.quadtree.build_square.Reads as build-square
@@ -33,7 +33,7 @@ use Rattle.quadtree_build.proofs.quadtree.+build_square.{statement}
 use Rattle.quadtree_build.proofs.quadtree.+build_square.Tie.{close}
 
 abbrev μ-build-square : Measures 5 build-square-kinds.ps ℕ
-μ-build-square κs a = 16 - a .1 .1 .1 .1 .1 .1 .0 .square .level
+μ-build-square κs a = depth - a .1 .1 .1 .1 .1 .1 .0 .square .level
 
 abbrev build-square-at : ℕ → In 5 build-square-kinds.ps
 build-square-at t =
@@ -64,12 +64,12 @@ calls t = (
 
 abbrev build-square-Inv-loop : build-square-lts.InvT-loop
 build-square-Inv-loop corners shape offsets stack₀ from to s out₀ at most top next₀ k₀ stack out next k =
-    (k ≤ 4)
-    × Built (flatMap (λ x. entriesIn (tableOf (coordinates corners) (triangleTotal corners)) x) (take k (quarters (s .square)))) most at next top out₀ out stack₀ stack
+    (k ≤ arity)
+    × Built (flatMap (λ x. entriesIn (cornerTable corners) x) (take k (quarters (s .square)))) most at next top out₀ out stack₀ stack
 
 abbrev build-square-μ-loop : build-square-lts.MeasureT-loop
 build-square-μ-loop corners shape offsets stack₀ from to s out₀ at most top next₀ k₀ stack out next k =
-    4 - k
+    arity - k
 
 -- the places, and how to find an earlier one from a later one
 abbrev Start : ℕ → Type 0
@@ -129,10 +129,43 @@ is-stopped-to-square t c = search needs
 abbrev square-to-top : (t : ℕ) → After-square t → Start t
 square-to-top t c = search needs
 
+-- the triangles of the square stand on top of the stack
+narrowed : (t : ℕ) (c : After-narrow t) →
+    let frame-of : After-frame-of t = search needs in
+    let top = frame-of-to-top t frame-of in
+    let a = top .args in
+    Narrowed (a .to) (c .narrow .result) (a .corners .now) (a .shape .now) (a .offsets .now) (a .stack .now) (c .narrow .last .1 .1 .0) (a .s .square)
+narrowed t c =
+    let frame-of : After-frame-of t = search needs in
+    let top = frame-of-to-top t frame-of in
+    after-narrow (top .pre .1 .0) (frame-of .frame-of .ensures) (c .narrow .ensures)
+
+-- a square that is not stopped
+unstopped : (t : ℕ) (c : Else2 t) →
+    let is-stopped : After-is-stopped t = search needs in
+    let square = is-stopped-to-square t is-stopped in
+    let top = square-to-top t square in
+    stopped (cornerTable (top .args .corners .now)) (top .args .s .square) ≡ false
+unstopped t c =
+    let is-stopped : After-is-stopped t = search needs in
+    sym (is-stopped .is-stopped .ensures) ∙ c .if2 .left
+
+-- has quarters
+divided : (t : ℕ) (c : Else2 t) →
+    let is-stopped : After-is-stopped t = search needs in
+    let square = is-stopped-to-square t is-stopped in
+    let top = square-to-top t square in
+    top .args .s .square .level < depth
+divided t c =
+    let is-stopped : After-is-stopped t = search needs in
+    let square = is-stopped-to-square t is-stopped in
+    let top = square-to-top t square in
+    level-below (cornerTable (top .args .corners .now)) (top .args .s .square) (top .pre .1 .0 .keyed .aligned) (unstopped t c)
+
 build-square-add-result : (t : ℕ) → build-square-lts.Need-add-result (calls t) (build-square-at t) build-square.Post build-square-Inv-loop build-square-μ-loop
 build-square-add-result t c =
     let top : Start t = search needs in
-    omega (arith, top .pre .1 .1 .1 .1 .1 .0)
+    omega (arith, top .pre .1 .1 .0 .limit)
 
 build-square-returns : (t : ℕ) → build-square-lts.Need-returns (calls t) (build-square-at t) build-square.Post build-square-Inv-loop build-square-μ-loop
 build-square-returns t c =
@@ -148,53 +181,45 @@ build-square-returns t c =
 build-square-frame-of-requires : (t : ℕ) → build-square-lts.Need-frame-of-requires (calls t) (build-square-at t) build-square.Post build-square-Inv-loop build-square-μ-loop
 build-square-frame-of-requires t c κs =
     let top : Start t = search needs in
-    top .pre .1 .0 .1 .1 .1
+    top .pre .1 .0 .keyed .aligned
 
 build-square-narrow-requires : (t : ℕ) → build-square-lts.Need-narrow-requires (calls t) (build-square-at t) build-square.Post build-square-Inv-loop build-square-μ-loop
 build-square-narrow-requires t c κs =
     let frame-of : After-frame-of t = search needs in
     let top = frame-of-to-top t frame-of in
-    let a = top .args in
-    let pre = top .pre .1 in
-    let h = pre .0 .1 .0 in
-    let s = a .s .square in
-    let tr = pre .0 .1 .1 .1 in
-    (ready-fits (pre .0 .0), (narrow-room (triangleTotal (a .corners .now)) (coordinates (a .corners .now)) (a .shape .now) (a .offsets .now) h s tr (a .from) (a .to) (a .stack .now) (pre .0 .1 .1 .0) (pre .1 .1 .0), frame-of .frame-of .ensures .1))
+    narrowable (top .pre .1 .0) (frame-of .frame-of .ensures)
 
 build-square-is-stopped-requires : (t : ℕ) → build-square-lts.Need-is-stopped-requires (calls t) (build-square-at t) build-square.Post build-square-Inv-loop build-square-μ-loop
 build-square-is-stopped-requires t c κs =
     let narrow : After-narrow t = search needs in
     let frame-of : After-frame-of t = search needs in
     let top = frame-of-to-top t frame-of in
-    let a = top .args in
-    let pre = top .pre .1 in
-    let h = pre .0 .1 .0 in
-    let s = a .s .square in
-    let tr = pre .0 .1 .1 .1 in
-    let w = after-narrow (triangleTotal (a .corners .now)) (coordinates (a .corners .now)) (a .shape .now) (a .offsets .now) h s tr (a .from) (a .to) _ (a .stack .now) _ _ (pre .0 .0) (pre .0 .1 .1 .0) (frame-of .frame-of .ensures .0) (pre .1 .1 .0) (narrow .narrow .ensures .0) (narrow .narrow .ensures .1) in
-    ((w .ready, (h, (tr, frame-of .frame-of .ensures))), w .triangles)
+    let b = top .pre .1 .0 in
+    let w = narrowed t narrow in
+    record {
+      ready = w .ready;
+      prepared = b .prepared;
+      aligned = b .keyed .aligned;
+      border = frame-of .frame-of .ensures;
+      triangles = w .triangles;
+    }
 
 build-square-head-of-requires : (t : ℕ) → build-square-lts.Need-head-of-requires (calls t) (build-square-at t) build-square.Post build-square-Inv-loop build-square-μ-loop
 build-square-head-of-requires t c κs =
     let square : After-square t = search needs in
     let top : Start t = search needs in
-    let pre = top .pre .1 in
-    (rw (pre .1 .0) (key-small (top .args .s .square)), pre .0 .1 .1 .1 .deep)
+    let k = top .pre .1 .0 .keyed in
+    (rw (k .key) (key-small (top .args .s .square)), k .aligned .deep)
 
 build-square-put-leaf-requires : (t : ℕ) → build-square-lts.Need-put-leaf-requires (calls t) (build-square-at t) build-square.Post build-square-Inv-loop build-square-μ-loop
 build-square-put-leaf-requires t c κs =
     let head-of : After-head-of t = search needs in
     let narrow : After-narrow t = search needs in
-    let frame-of : After-frame-of t = search needs in
     let else1 : Else1 t = search needs in
     let top = else1-to-top t else1 in
-    let a = top .args in
-    let pre = top .pre .1 in
-    let h = pre .0 .1 .0 in
-    let s = a .s .square in
-    let tr = pre .0 .1 .1 .1 in
-    let w = after-narrow (triangleTotal (a .corners .now)) (coordinates (a .corners .now)) (a .shape .now) (a .offsets .now) h s tr (a .from) (a .to) _ (a .stack .now) _ _ (pre .0 .0) (pre .0 .1 .1 .0) (frame-of .frame-of .ensures .0) (pre .1 .1 .0) (narrow .narrow .ensures .0) (narrow .narrow .ensures .1) in
-    ((w .ready .order, w .ready .within), (pre .1 .1 .1 .0, (else1 .if1 .left, (head-of .head-of .ensures .1, pre .1 .1 .1 .1 .0))))
+    let room = top .pre .1 .1 .0 in
+    let w = narrowed t narrow in
+    ((w .ready .order, w .ready .within), (room .places, (else1 .if1 .left, (head-of .head-of .ensures .1, room .limit))))
 
 build-square-same-length : (t : ℕ) → build-square-lts.Need-same-length (calls t) (build-square-at t) build-square.Post build-square-Inv-loop build-square-μ-loop
 build-square-same-length t c =
@@ -214,14 +239,10 @@ build-square-returns-2 t c =
     let frame-of : After-frame-of t = search needs in
     let top = frame-of-to-top t frame-of in
     let a = top .args in
-    let pre = top .pre .1 in
-    let h = pre .0 .1 .0 in
     let s = a .s .square in
-    let tr = pre .0 .1 .1 .1 in
-    let w = after-narrow (triangleTotal (a .corners .now)) (coordinates (a .corners .now)) (a .shape .now) (a .offsets .now) h s tr (a .from) (a .to) _ (a .stack .now) _ _ (pre .0 .0) (pre .0 .1 .1 .0) (frame-of .frame-of .ensures .0) (pre .1 .1 .0) (narrow .narrow .ensures .0) (narrow .narrow .ensures .1) in
-    let st = sym (is-stopped .is-stopped .ensures) ∙ then2 .if2 .taken in
-    built-leaf (triangleTotal (a .corners .now)) (coordinates (a .corners .now)) (a .shape .now) (a .offsets .now) h s tr (a .most) (a .at) _ (a .to) (a .out .now) _ (a .stack .now) _ _ _ st (w .triangles)
-    (head-of .head-of .ensures .0 ∙ ap (λ x. x * 4294967296 + s .level * 65536) (pre .1 .0))
+    let w = narrowed t narrow in
+    built-leaf (cornerTable (a .corners .now)) s (sym (is-stopped .is-stopped .ensures) ∙ then2 .if2 .taken) (w .triangles)
+    (head-of .head-of .ensures .0 ∙ ap (λ key. headOf key (s .level)) (top .pre .1 .0 .keyed .key))
     (put-leaf .put-leaf .ensures .0) (put-leaf .put-leaf .ensures .1) (w .kept) (search needs) (w .same)
 
 build-square-loop-holds : (t : ℕ) → build-square-lts.Need-loop-holds (calls t) (build-square-at t) build-square.Post build-square-Inv-loop build-square-μ-loop
@@ -238,14 +259,8 @@ build-square-keyed-quarter-requires t c κs =
     let is-stopped : After-is-stopped t = search needs in
     let square = is-stopped-to-square t is-stopped in
     let top = square-to-top t square in
-    let a = top .args in
-    let pre = top .pre .1 in
-    let h = pre .0 .1 .0 in
-    let s = a .s .square in
-    let tr = pre .0 .1 .1 .1 in
-    let st = sym (is-stopped .is-stopped .ensures) ∙ else2 .if2 .left in
-    let lev = level-below (triangleTotal (a .corners .now)) (coordinates (a .corners .now)) (a .shape .now) (a .offsets .now) h s tr st in
-    ((tr, pre .1 .0), (lev, c .loop-test .taken))
+    let k = top .pre .1 .0 .keyed in
+    (k, record { aligned = k .aligned; level = divided t else2; number = c .loop-test .taken })
 
 build-square-build-square-requires : (t : ℕ) → build-square-lts.Need-build-square-requires (calls t) (build-square-at t) build-square.Post build-square-Inv-loop build-square-μ-loop
 build-square-build-square-requires t c κs =
@@ -257,33 +272,17 @@ build-square-build-square-requires t c κs =
     let narrow = is-stopped-to-narrow t is-stopped in
     let frame-of : After-frame-of t = search needs in
     let top = frame-of-to-top t frame-of in
-    let a = top .args in
-    let pre = top .pre .1 in
-    let h = pre .0 .1 .0 in
-    let s = a .s .square in
-    let tr = pre .0 .1 .1 .1 in
-    let w = after-narrow (triangleTotal (a .corners .now)) (coordinates (a .corners .now)) (a .shape .now) (a .offsets .now) h s tr (a .from) (a .to) _ (a .stack .now) _ _ (pre .0 .0) (pre .0 .1 .1 .0) (frame-of .frame-of .ensures .0) (pre .1 .1 .0) (narrow .narrow .ensures .0) (narrow .narrow .ensures .1) in
-    let st = sym (is-stopped .is-stopped .ensures) ∙ else2 .if2 .left in
-    let lev = level-below (triangleTotal (a .corners .now)) (coordinates (a .corners .now)) (a .shape .now) (a .offsets .now) h s tr st in
+    let s = top .args .s .square in
     let k = loop .loop .k in
     let lt = in-loop .loop-test .taken in
     let inv = loop .loop .inv .1 in
     let q = keyed-quarter .keyed-quarter .ensures in
-    let ql = ap (λ x. x .level) (q .0) ∙ quarter-level (triangleTotal (a .corners .now)) (coordinates (a .corners .now)) (a .shape .now) (a .offsets .now) h s tr lev k lt in
-    let m : 17 - keyed-quarter .keyed-quarter .result .square .level ≡ 16 - s .level = omega (arith, ql) in (
-      omega (arith, ql, lev, top .pre .0),
+    let room = top .pre .1 .1 .0 in
+    let level = ap (λ x. x .level) (q .0) ∙ quarter-level s k lt in (
+      omega (arith, level, divided t else2, top .pre .0),
       (
-        (
-          ready-kept (inv .kept) (inv .stacks) (w .ready),
-          (
-            h,
-            (
-              rw (q .0) (quarter-candidates (triangleTotal (a .corners .now)) (coordinates (a .corners .now)) (a .shape .now) (a .offsets .now) h s tr lev (a .to) _ _ k lt (w .few) (part-kept (a .to) _ _ _ (w .ready .order) (inv .kept) ∙ w .triangles)),
-              rw (q .0) (quarter-tree (triangleTotal (a .corners .now)) (coordinates (a .corners .now)) (a .shape .now) (a .offsets .now) h s tr lev k lt),
-            ),
-          ),
-        ),
-        (q .1, (rw (m, inv .stacks) (w .room), (rw (inv .outs) (pre .1 .1 .1 .0), (pre .1 .1 .1 .1 .0, inv .end)))),
+        quarter-buildable k lt (divided t else2) (top .pre .1 .0) (narrowed t narrow) (q .0) (q .1) (inv .kept) (inv .stacks),
+        (record { places = rw (inv .outs) (room .places); limit = room .limit }, inv .end),
       ),
     )
 
@@ -302,21 +301,14 @@ build-square-loop-again t c =
     let keyed-quarter : After-keyed-quarter t = search needs in
     let in-loop : In-loop t = search needs in
     let loop : At-loop t = search needs in
-    let else2 : Else2 t = search needs in
     let is-stopped : After-is-stopped t = search needs in
     let square = is-stopped-to-square t is-stopped in
     let top = square-to-top t square in
     let a = top .args in
-    let pre = top .pre .1 in
-    let h = pre .0 .1 .0 in
-    let s = a .s .square in
-    let tr = pre .0 .1 .1 .1 in
-    let st = sym (is-stopped .is-stopped .ensures) ∙ else2 .if2 .left in
-    let lev = level-below (triangleTotal (a .corners .now)) (coordinates (a .corners .now)) (a .shape .now) (a .offsets .now) h s tr st in
     let l = loop .loop in
     let lt = in-loop .loop-test .taken in
     let q = keyed-quarter .keyed-quarter .ensures .0 in
-    (omega (arith, lt), rw (quarters-more (triangleTotal (a .corners .now)) (coordinates (a .corners .now)) (a .shape .now) (a .offsets .now) h s tr lev (l .k) lt) (built-join (l .inv .1) (rw q at (build-square .build-square .ensures))))
+    (omega (arith, lt), rw (quarters-more (a .s .square) (l .k) lt (cornerTable (a .corners .now))) (built-join (l .inv .1) (rw q at (build-square .build-square .ensures))))
 
 build-square-same-length-3 : (t : ℕ) → build-square-lts.Need-same-length-3 (calls t) (build-square-at t) build-square.Post build-square-Inv-loop build-square-μ-loop
 build-square-same-length-3 t c =
@@ -335,16 +327,10 @@ build-square-returns-3 t c =
     let frame-of : After-frame-of t = search needs in
     let top = frame-of-to-top t frame-of in
     let a = top .args in
-    let pre = top .pre .1 in
-    let h = pre .0 .1 .0 in
-    let s = a .s .square in
-    let tr = pre .0 .1 .1 .1 in
-    let w = after-narrow (triangleTotal (a .corners .now)) (coordinates (a .corners .now)) (a .shape .now) (a .offsets .now) h s tr (a .from) (a .to) _ (a .stack .now) _ _ (pre .0 .0) (pre .0 .1 .1 .0) (frame-of .frame-of .ensures .0) (pre .1 .1 .0) (narrow .narrow .ensures .0) (narrow .narrow .ensures .1) in
-    let st = sym (is-stopped .is-stopped .ensures) ∙ else2 .if2 .left in
-    let lev = level-below (triangleTotal (a .corners .now)) (coordinates (a .corners .now)) (a .shape .now) (a .offsets .now) h s tr st in
+    let w = narrowed t narrow in
     let inv = loop .loop .inv in
-    let e : loop .loop .k ≡ 4 = omega (arith, inv .0, c .loop-test .left) in
-    let f = rw (e, quarters-all (triangleTotal (a .corners .now)) (coordinates (a .corners .now)) (a .shape .now) (a .offsets .now) h s tr lev st) at (inv .1) in
+    let e : loop .loop .k ≡ arity = omega (arith, inv .0, c .loop-test .left) in
+    let f = rw (e, quarters-all (cornerTable (a .corners .now)) (a .s .square) (divided t else2) (unstopped t else2)) at (inv .1) in
     record {
       fits = f .fits;
       over = f .over;

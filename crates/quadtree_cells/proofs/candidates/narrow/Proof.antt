@@ -29,9 +29,6 @@ loop-holds c =
     let g = top .pre .fits in
     narrowing-start (meets top) (a .stack .now) (a .from) (a .to) (g .within) (g .order)
 
-mul-i : tie.Need-mul-i Inv-loop μ-loop
-mul-i c = omega arith
-
 slice-read-i : tie.Need-slice-read-i Inv-loop μ-loop
 slice-read-i c =
     let loop : tie.At-loop Inv-loop μ-loop = search needs in
@@ -69,12 +66,6 @@ push-when-requires c κs =
     let e = narrowing-length (meets top) (a .stack .now) (a .from) (a .to) (g .within) v in
     let r = narrowing-room (meets top) (a .stack .now) (a .from) (a .to) (g .within) (l .stack) (l .k) (l .top) v in
     omega (arith, v .low, top .pre .room)
-
-add-k : tie.Need-add-k Inv-loop μ-loop
-add-k c = omega arith
-
-loop-less : tie.Need-loop-less Inv-loop μ-loop
-loop-less c = omega arith
 
 -- an earlier place, found from a later one
 abbrev loop-to-top : tie.At-loop Inv-loop μ-loop → tie.Start Inv-loop μ-loop
@@ -116,18 +107,5 @@ returns c =
 
 pub narrow-spec : {M : Type 1} → statement M
 narrow-spec =
-    tie.close
-    (tie.spec
-    Inv-loop
-    μ-loop
-    loop-holds
-    mul-i
-    slice-read-i
-    index-requires
-    triangle-meets-requires
-    push-when-requires
-    add-k
-    loop-less
-    loop-again
-    same-length
-    returns)
+    tie.close (tie.spec Inv-loop μ-loop loop-holds (λ c. omega arith) slice-read-i index-requires triangle-meets-requires push-when-requires
+    (λ c. omega arith) (λ c. omega arith) loop-again same-length returns)

@@ -12,5 +12,4 @@ returns-2 c = rw (c .if1 .left) (record { stored = refl; end = sym (add-zero _) 
 
 pub push-when-spec : {M : Type 1} → statement M
 push-when-spec =
-    tie.close
-    (tie.spec (λ c. search needs) (λ c. search needs) (λ c. search needs) (λ c. search needs) returns returns-2)
+    tie.close (tie.spec (λ c. search needs) (λ c. search needs) (λ c. search needs) (λ c. search needs) returns returns-2)

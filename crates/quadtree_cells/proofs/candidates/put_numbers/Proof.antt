@@ -46,9 +46,6 @@ add-i c =
     let top : tie.Start Inv-loop μ-loop = search needs in
     omega (arith, top .pre .1)
 
-loop-less : tie.Need-loop-less Inv-loop μ-loop
-loop-less c = omega arith
-
 loop-again : tie.Need-loop-again Inv-loop μ-loop
 loop-again c =
     let loop : tie.At-loop Inv-loop μ-loop = search needs in
@@ -78,16 +75,4 @@ returns c =
 
 pub put-numbers-spec : {M : Type 1} → statement M
 put-numbers-spec =
-    tie.close
-    (tie.spec
-    Inv-loop
-    μ-loop
-    loop-holds
-    cast-stack
-    mul-stack
-    slice-write-stack
-    add-i
-    loop-less
-    loop-again
-    same-length
-    returns)
+    tie.close (tie.spec Inv-loop μ-loop loop-holds cast-stack mul-stack slice-write-stack add-i (λ c. omega arith) loop-again same-length returns)

@@ -4,7 +4,7 @@ use native.Mathlib.Omega.{arith}
 use borrow.Author.Needs.{needs}
 use lib.ListN.{length, set}
 use Rattle.spec_charts.specs.Cells.{orMark}
-use Rattle.quadtree_cells.specs.Stack.{part}
+use Rattle.theory_lists.specs.Lists.{part}
 use Rattle.quadtree_cells.proofs.LeafLaws.{cell-length, cell-empty, cell-items}
 use Rattle.quadtree_cells.proofs.leaves.put_cell.Statement.{statement}
 use Rattle.quadtree_cells.proofs.leaves.put_cell.Tie as tie
@@ -42,16 +42,5 @@ returns-2 c =
 
 pub put-cell-spec : {M : Type 1} → statement M
 put-cell-spec =
-    tie.close
-    (tie.spec
-    (λ c κs. search needs)
-    (λ c. search needs)
-    slice-write-out
-    (λ c. search needs)
-    (λ c. search needs)
-    returns
-    put-candidates-requires
-    (λ c. search needs)
-    (λ c. search needs)
-    (λ c. search needs)
-    returns-2)
+    tie.close (tie.spec (λ c κs. search needs) (λ c. search needs) slice-write-out (λ c. search needs) (λ c. search needs) returns
+    put-candidates-requires (λ c. search needs) (λ c. search needs) (λ c. search needs) returns-2)

@@ -4,7 +4,7 @@ use native.Mathlib.Omega.{arith}
 use borrow.Author.Needs.{needs}
 use lib.ListN.{length}
 use Rattle.spec_charts.specs.Cells.{orMark}
-use Rattle.quadtree_cells.specs.Stack.{part}
+use Rattle.theory_lists.specs.Lists.{part}
 use Rattle.quadtree_cells.proofs.LeafLaws.{cell-length}
 use Rattle.quadtree_cells.proofs.leaves.put_leaf.Statement.{statement}
 use Rattle.quadtree_cells.proofs.leaves.put_leaf.Tie as tie
@@ -34,12 +34,4 @@ returns-2 c =
 
 pub put-leaf-spec : {M : Type 1} → statement M
 put-leaf-spec =
-    tie.close
-    (tie.spec
-    (λ c. search needs)
-    (λ c κs. search needs)
-    (λ c. search needs)
-    returns
-    put-cell-requires
-    (λ c. search needs)
-    returns-2)
+    tie.close (tie.spec (λ c. search needs) (λ c κs. search needs) (λ c. search needs) returns put-cell-requires (λ c. search needs) returns-2)

@@ -4,9 +4,6 @@ use borrow.Author.Needs.{needs}
 use Rattle.quadtree_cells.proofs.quarters.key_step.Statement.{statement}
 use Rattle.quadtree_cells.proofs.quarters.key_step.Tie as tie
 
-shr-side : tie.Need-shr-side
-shr-side c = search needs
-
 mul-result : tie.Need-mul-result
 mul-result c = let h = key-step-is (c .args .level) (c .pre) .1 in record { fits = omega arith }
 
@@ -14,4 +11,4 @@ returns : tie.Need-returns
 returns c = key-step-is (c .args .level) (c .pre)
 
 pub key-step-spec : {M : Type 1} → statement M
-key-step-spec = tie.close (tie.spec shr-side mul-result returns)
+key-step-spec = tie.close (tie.spec (λ c. search needs) mul-result returns)

@@ -10,12 +10,6 @@ use Rattle.quadtree_cells.proofs.StepLaws.{key-small}
 use Rattle.quadtree_cells.proofs.quarters.keyed_quarter.Statement.{statement}
 use Rattle.quadtree_cells.proofs.quarters.keyed_quarter.Tie as tie
 
-key-step-requires : tie.Need-key-step-requires
-key-step-requires c κs = search needs
-
-quarter-requires : tie.Need-quarter-requires
-quarter-requires c κs = search needs
-
 -- the steps up to the quarter
 steps-small : (c : tie.After-quarter) →
     let key-step : tie.After-key-step = search needs in
@@ -48,4 +42,4 @@ returns c =
     )
 
 pub keyed-quarter-spec : {M : Type 1} → statement M
-keyed-quarter-spec = tie.close (tie.spec key-step-requires quarter-requires mul-t7 add-t8 returns)
+keyed-quarter-spec = tie.close (tie.spec (λ c κs. search needs) (λ c κs. search needs) mul-t7 add-t8 returns)

@@ -6,9 +6,6 @@ use borrow.Author.Needs.{needs}
 use Rattle.quadtree_cells.proofs.quarters.quarter.Statement.{statement}
 use Rattle.quadtree_cells.proofs.quarters.quarter.Tie as tie
 
-top-left-requires : tie.Need-top-left-requires
-top-left-requires c κs = search needs
-
 returns : tie.Need-returns
 unfolding quarters
 returns c =
@@ -17,9 +14,6 @@ returns c =
     let s = top .args .s in
     let e : 0 ≡ top .args .k = sym (then1 .if1 .taken) in
     c .top-left .ensures ∙ ap (λ k. getD (quarters s) k s) e
-
-top-right-requires : tie.Need-top-right-requires
-top-right-requires c κs = search needs
 
 returns-2 : tie.Need-returns-2
 unfolding quarters
@@ -30,9 +24,6 @@ returns-2 c =
     let e : 1 ≡ top .args .k = sym (then2 .if2 .taken) in
     c .top-right .ensures ∙ ap (λ k. getD (quarters s) k s) e
 
-bottom-left-requires : tie.Need-bottom-left-requires
-bottom-left-requires c κs = search needs
-
 returns-3 : tie.Need-returns-3
 unfolding quarters
 returns-3 c =
@@ -41,9 +32,6 @@ returns-3 c =
     let s = top .args .s in
     let e : 2 ≡ top .args .k = sym (then3 .if3 .taken) in
     c .bottom-left .ensures ∙ ap (λ k. getD (quarters s) k s) e
-
-bottom-right-requires : tie.Need-bottom-right-requires
-bottom-right-requires c κs = search needs
 
 returns-4 : tie.Need-returns-4
 unfolding quarters
@@ -55,13 +43,5 @@ returns-4 c =
 
 pub quarter-spec : {M : Type 1} → statement M
 quarter-spec =
-    tie.close
-    (tie.spec
-    top-left-requires
-    returns
-    top-right-requires
-    returns-2
-    bottom-left-requires
-    returns-3
-    bottom-right-requires
+    tie.close (tie.spec (λ c κs. search needs) returns (λ c κs. search needs) returns-2 (λ c κs. search needs) returns-3 (λ c κs. search needs)
     returns-4)

@@ -8,4 +8,5 @@ unfolding largestAt
 returns c = c .value-at .ensures
 
 pub largest-value-spec : {M : Type 1} → statement M
-largest-value-spec = tie.close (tie.spec (λ c. search needs) (λ c. search needs) (λ c κs. search needs) returns)
+largest-value-spec =
+    tie.close (tie.spec (λ c. search needs) (λ c. search needs) (λ c κs. search needs) returns)

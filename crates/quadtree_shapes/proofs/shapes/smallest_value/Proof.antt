@@ -8,4 +8,5 @@ unfolding smallestAt
 returns c = c .value-at .ensures
 
 pub smallest-value-spec : {M : Type 1} → statement M
-smallest-value-spec = tie.close (tie.spec (λ c. search needs) (λ c. search needs) (λ c κs. search needs) returns)
+smallest-value-spec =
+    tie.close (tie.spec (λ c. search needs) (λ c. search needs) (λ c κs. search needs) returns)

@@ -6,9 +6,6 @@ use borrow.Author.Needs.{needs}
 use Rattle.quadtree_shapes.proofs.shapes.weighted.Statement.{statement}
 use Rattle.quadtree_shapes.proofs.shapes.weighted.Tie as tie
 
-wide-requires : tie.Need-wide-requires
-wide-requires c κs = search needs
-
 mul-result : tie.Need-mul-result
 mul-result c =
     let top : tie.Start = search needs in
@@ -20,4 +17,4 @@ returns c =
     (ap (λ n. n * top .args .coordinate) (c .wide .ensures .0), mul-le-mul {n₂ = 65535} {m₂ = 65536} (omega arith) (omega arith))
 
 pub weighted-spec : {M : Type 1} → statement M
-weighted-spec = tie.close (tie.spec wide-requires mul-result returns)
+weighted-spec = tie.close (tie.spec (λ c κs. search needs) mul-result returns)

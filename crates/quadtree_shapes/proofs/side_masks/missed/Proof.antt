@@ -6,15 +6,6 @@ use borrow.Author.Needs.{needs}
 use Rattle.quadtree_shapes.proofs.side_masks.missed.Statement.{statement}
 use Rattle.quadtree_shapes.proofs.side_masks.missed.Tie as tie
 
-cast-pa : tie.Need-cast-pa
-cast-pa c = search needs
-
-cast-pb : tie.Need-cast-pb
-cast-pb c = search needs
-
-cast-pc : tie.Need-cast-pc
-cast-pc c = search needs
-
 mul-result : tie.Need-mul-result
 mul-result c = omega (arith, bit-most (eqb (c .args .p) (c .args .a)))
 
@@ -29,4 +20,4 @@ returns c = missed-none (c .args .m) (c .args .p) (c .args .a) (c .args .b) (c .
 
 pub missed-spec : {M : Type 1} → statement M
 missed-spec =
-    tie.close (tie.spec cast-pa cast-pb cast-pc mul-result mul-result-2 mul-result-3 returns)
+    tie.close (tie.spec (λ c. search needs) (λ c. search needs) (λ c. search needs) mul-result mul-result-2 mul-result-3 returns)

@@ -12,28 +12,13 @@ some c =
     let top : tie.Start = search needs in
     passed (c .below .ensures) 0 (top .pre .1 .0) (omega (arith, top .pre .1 .1))
 
-add-below : tie.Need-add-below
-add-below c = search needs
-
-below-requires : tie.Need-below-requires
-below-requires c κs = search needs
-
 sub-below : tie.Need-sub-below
 sub-below c = some c
-
-mul-below : tie.Need-mul-below
-mul-below c = search needs
-
-shared-slice-read-below : tie.Need-shared-slice-read-below
-shared-slice-read-below c = search needs
 
 cast-below : tie.Need-cast-below
 cast-below c =
     let below : tie.After-below = search needs in
     omega (arith, c .shared-slice-known2 .given (below .below .result - 1))
-
-below-requires-2 : tie.Need-below-requires-2
-below-requires-2 c κs = search needs
 
 returns : tie.Need-returns
 returns c =
@@ -49,13 +34,5 @@ returns c =
 
 pub last-cell-spec : {M : Type 1} → statement M
 last-cell-spec =
-    tie.close
-    (tie.spec
-    add-below
-    below-requires
-    sub-below
-    mul-below
-    shared-slice-read-below
-    cast-below
-    below-requires-2
+    tie.close (tie.spec (λ c. search needs) (λ c κs. search needs) sub-below (λ c. search needs) (λ c. search needs) cast-below (λ c κs. search needs)
     returns)

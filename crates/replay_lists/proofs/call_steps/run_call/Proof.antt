@@ -19,9 +19,6 @@ chart c =
 abbrev numbers : tie.Start → List ℕ
 numbers c = c .args .call .now
 
-shared-slice-read-if1 : tie.Need-shared-slice-read-if1
-shared-slice-read-if1 c = search needs
-
 sub-words : tie.Need-sub-words
 sub-words c =
     let top : tie.Start = search needs in
@@ -31,24 +28,6 @@ part-words-start : tie.Need-part-words-start
 part-words-start c =
     let top : tie.Start = search needs in
     omega (arith, load-long (numbers top) (top .pre) (c .if1 .taken))
-
-part-words-end : tie.Need-part-words-end
-part-words-end c = search needs
-
-load-requires : tie.Need-load-requires
-load-requires c κs = search needs
-
-same-length : tie.Need-same-length
-same-length c = search needs
-
-same-length-2 : tie.Need-same-length-2
-same-length-2 c = search needs
-
-same-length-3 : tie.Need-same-length-3
-same-length-3 c = search needs
-
-same-length-4 : tie.Need-same-length-4
-same-length-4 c = search needs
 
 -- an earlier place, found from a later one
 abbrev then1-to-top : tie.Then1 → tie.Start
@@ -64,18 +43,12 @@ returns c =
     let top = then1-to-top then1 in
     load .load .ensures ∙ load-event (numbers top) (chart top) (then1 .if1 .taken)
 
-shared-slice-read-if2 : tie.Need-shared-slice-read-if2
-shared-slice-read-if2 c = search needs
-
 shared-slice-read-index : tie.Need-shared-slice-read-index
 shared-slice-read-index c =
     let then2 : tie.Then2 = search needs in
     let else1 : tie.Else1 = search needs in
     let top = else1-to-top else1 in
     omega (arith, split-long (numbers top) (top .pre) (else1 .if1 .left) (then2 .if2 .taken))
-
-index-requires : tie.Need-index-requires
-index-requires c κs = search needs
 
 shared-slice-read-t31 : tie.Need-shared-slice-read-t31
 shared-slice-read-t31 c =
@@ -91,21 +64,6 @@ shared-slice-read-t34 c =
     let top = else1-to-top else1 in
     omega (arith, split-long (numbers top) (top .pre) (else1 .if1 .left) (then2 .if2 .taken))
 
-split-requires : tie.Need-split-requires
-split-requires c κs = search needs
-
-same-length-5 : tie.Need-same-length-5
-same-length-5 c = search needs
-
-same-length-6 : tie.Need-same-length-6
-same-length-6 c = search needs
-
-same-length-7 : tie.Need-same-length-7
-same-length-7 c = search needs
-
-same-length-8 : tie.Need-same-length-8
-same-length-8 c = search needs
-
 returns-2 : tie.Need-returns-2
 returns-2 c =
     let split : tie.After-split = search needs in
@@ -114,9 +72,6 @@ returns-2 c =
     let else1 : tie.Else1 = search needs in
     let top = else1-to-top else1 in
     split .split .ensures ∙ split-event (numbers top) (chart top) (else1 .if1 .left) (then2 .if2 .taken) (index .index .ensures .0)
-
-shared-slice-read-if3 : tie.Need-shared-slice-read-if3
-shared-slice-read-if3 c = search needs
 
 shared-slice-read-t45 : tie.Need-shared-slice-read-t45
 shared-slice-read-t45 c =
@@ -131,21 +86,6 @@ shared-slice-read-t47 c =
     let else1 : tie.Else1 = search needs in
     let top = else1-to-top else1 in
     omega (arith, other-long (numbers top) (top .pre) (else1 .if1 .left) (else2 .if2 .left))
-
-take-out-requires : tie.Need-take-out-requires
-take-out-requires c κs = search needs
-
-same-length-9 : tie.Need-same-length-9
-same-length-9 c = search needs
-
-same-length-10 : tie.Need-same-length-10
-same-length-10 c = search needs
-
-same-length-11 : tie.Need-same-length-11
-same-length-11 c = search needs
-
-same-length-12 : tie.Need-same-length-12
-same-length-12 c = search needs
 
 returns-3 : tie.Need-returns-3
 returns-3 c =
@@ -163,33 +103,12 @@ shared-slice-read-index-2 c =
     let top = else1-to-top else1 in
     omega (arith, other-long (numbers top) (top .pre) (else1 .if1 .left) (else2 .if2 .left))
 
-index-requires-2 : tie.Need-index-requires-2
-index-requires-2 c κs = search needs
-
 shared-slice-read-index-3 : tie.Need-shared-slice-read-index-3
 shared-slice-read-index-3 c =
     let else2 : tie.Else2 = search needs in
     let else1 : tie.Else1 = search needs in
     let top = else1-to-top else1 in
     omega (arith, other-long (numbers top) (top .pre) (else1 .if1 .left) (else2 .if2 .left))
-
-index-requires-3 : tie.Need-index-requires-3
-index-requires-3 c κs = search needs
-
-flip-requires : tie.Need-flip-requires
-flip-requires c κs = search needs
-
-same-length-13 : tie.Need-same-length-13
-same-length-13 c = search needs
-
-same-length-14 : tie.Need-same-length-14
-same-length-14 c = search needs
-
-same-length-15 : tie.Need-same-length-15
-same-length-15 c = search needs
-
-same-length-16 : tie.Need-same-length-16
-same-length-16 c = search needs
 
 returns-4 : tie.Need-returns-4
 returns-4 c =
@@ -204,45 +123,9 @@ returns-4 c =
 
 pub run-call-spec : {M : Type 1} → statement M
 run-call-spec =
-    tie.close
-    (tie.spec
-    shared-slice-read-if1
-    sub-words
-    part-words-start
-    part-words-end
-    load-requires
-    same-length
-    same-length-2
-    same-length-3
-    same-length-4
-    returns
-    shared-slice-read-if2
-    shared-slice-read-index
-    index-requires
-    shared-slice-read-t31
-    shared-slice-read-t34
-    split-requires
-    same-length-5
-    same-length-6
-    same-length-7
-    same-length-8
-    returns-2
-    shared-slice-read-if3
-    shared-slice-read-t45
-    shared-slice-read-t47
-    take-out-requires
-    same-length-9
-    same-length-10
-    same-length-11
-    same-length-12
-    returns-3
-    shared-slice-read-index-2
-    index-requires-2
-    shared-slice-read-index-3
-    index-requires-3
-    flip-requires
-    same-length-13
-    same-length-14
-    same-length-15
-    same-length-16
-    returns-4)
+    tie.close (tie.spec (λ c. search needs) sub-words part-words-start (λ c. search needs) (λ c κs. search needs) (λ c. search needs)
+    (λ c. search needs) (λ c. search needs) (λ c. search needs) returns (λ c. search needs) shared-slice-read-index (λ c κs. search needs)
+    shared-slice-read-t31 shared-slice-read-t34 (λ c κs. search needs) (λ c. search needs) (λ c. search needs) (λ c. search needs) (λ c. search needs)
+    returns-2 (λ c. search needs) shared-slice-read-t45 shared-slice-read-t47 (λ c κs. search needs) (λ c. search needs) (λ c. search needs)
+    (λ c. search needs) (λ c. search needs) returns-3 shared-slice-read-index-2 (λ c κs. search needs) shared-slice-read-index-3
+    (λ c κs. search needs) (λ c κs. search needs) (λ c. search needs) (λ c. search needs) (λ c. search needs) (λ c. search needs) returns-4)

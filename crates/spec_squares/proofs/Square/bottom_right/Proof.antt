@@ -9,4 +9,5 @@ unfolding bottomRight
 returns c = rw (c .before .before .before .half .ensures .0, add-one)
 
 pub bottom-right-spec : {M : Type 1} → statement M
-bottom-right-spec = tie.close (tie.spec (λ c κs. search needs) (λ c. search needs) (λ c. search needs) (λ c. search needs) returns)
+bottom-right-spec =
+    tie.close (tie.spec (λ c κs. search needs) (λ c. search needs) (λ c. search needs) (λ c. search needs) returns)

@@ -4,12 +4,9 @@ use borrow.Author.Needs.{needs}
 use Rattle.spec_squares.proofs.Square.top_left.Statement.{statement}
 use Rattle.spec_squares.proofs.Square.top_left.Tie as tie
 
-add-t2 : tie.Need-add-t2
-add-t2 c = search needs
-
 returns : tie.Need-returns
 unfolding topLeft
 returns c = rw add-one
 
 pub top-left-spec : {M : Type 1} → statement M
-top-left-spec = tie.close (tie.spec add-t2 returns)
+top-left-spec = tie.close (tie.spec (λ c. search needs) returns)

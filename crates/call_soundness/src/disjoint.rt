@@ -6,23 +6,22 @@ use base_boxes::boxes;
 use base_boxes::near_boxes;
 use base_geometry::interiors;
 ghost use mathlib.Core.Path.{_≡_};
-ghost use mathlib.Core.Bool.{true, not};
-ghost use Prim.Native.Nat.{_+_, _*_, _≤_, _<_};
+ghost use mathlib.Core.Bool.{not};
+ghost use Prim.Native.Nat.{_+_, _*_, _≤_};
 ghost use lib.ListN.{length, getD};
 ghost use Rattle.theory_lists.specs.Lists.{all, upTo};
-ghost use Rattle.spec_plane.specs.Triangle.{proper};
 ghost use Rattle.spec_plane.specs.Interior.{interiorsMeet};
-ghost use Rattle.spec_charts.specs.Table.{maxTriangles, numbersPerTriangle, triangleAt, tableOf};
+ghost use Rattle.spec_charts.specs.Table.{numbersPerTriangle, triangleAt, tableOf, Drawn};
 ghost use Rattle.spec_charts.specs.Reading.{sound};
 ghost use Rattle.base_boxes.specs.Boxes.{BoxedTable};
-ghost use Rattle.base_boxes.specs.Near.{EachBelow};
+ghost use Rattle.base_boxes.specs.Near.{ListedRows};
 
-// Up to how many triangles boxes do not pay.
-const FEW: usize = 16;
+// The most triangles for which boxes do not pay.
+const MOST_UNBOXED: usize = 16;
 
 // Triangle i has a common interior point with none of the first c triangles of a list.
-fn near_apart(table: &[u16], near: &[usize], i: usize, c: usize) -> bool
-    requires { ⌜ (numbersPerTriangle * (i + 1) ≤ length (now table)) × ((c ≤ length (now near)) × EachBelow (now near) i c) ⌝ }
+fn near_disjoint(table: &[u16], near: &[usize], i: usize, c: usize) -> bool
+    requires { ⌜ ListedRows (now table) (now near) i c ⌝ }
     ensures { λ o. ⌜ o ≡ all (λ k. not (interiorsMeet (triangleAt (now (table .entry)) i) (triangleAt (now (table .entry)) (getD (now (near .entry)) k 0)))) (upTo c) ⌝ }
 {
     let s = base_tables::triangle_at(table, i);
@@ -37,7 +36,7 @@ fn near_apart(table: &[u16], near: &[usize], i: usize, c: usize) -> bool
 }
 
 // Triangle i has a common interior point with none of those before it.
-fn is_apart(
+fn is_disjoint(
     table: &[u16],
     lefts: &[u16],
     tops: &[u16],
@@ -52,11 +51,11 @@ fn is_apart(
 {
     let b = boxes::triangle_box(table, i);
     let c = near_boxes::collect_before(b, lefts, tops, rights, bottoms, i, near);
-    near_apart(table, near, i, c)
+    near_disjoint(table, near, i, c)
 }
 
 // No two of the first n triangles have a common interior point.
-fn pairs_apart(
+fn pairs_disjoint(
     table: &[u16],
     lefts: &[u16],
     tops: &[u16],
@@ -70,7 +69,7 @@ fn pairs_apart(
 {
     let mut i = 0;
     while i < n {
-        if !is_apart(table, lefts, tops, rights, bottoms, near, i) {
+        if !is_disjoint(table, lefts, tops, rights, bottoms, near, i) {
             return false;
         }
         i += 1;
@@ -79,7 +78,7 @@ fn pairs_apart(
 }
 
 // Triangle i has a common interior point with none of those before it, each tested at once.
-fn each_apart(table: &[u16], i: usize) -> bool
+fn each_disjoint(table: &[u16], i: usize) -> bool
     requires { ⌜ numbersPerTriangle * (i + 1) ≤ length (now table) ⌝ }
     ensures { λ o. ⌜ o ≡ all (λ k. not (interiorsMeet (triangleAt (now (table .entry)) i) (triangleAt (now (table .entry)) k))) (upTo i) ⌝ }
 {
@@ -95,13 +94,13 @@ fn each_apart(table: &[u16], i: usize) -> bool
 }
 
 // No two of the first n triangles have a common interior point, each pair tested at once.
-fn few_apart(table: &[u16], n: usize) -> bool
+fn few_disjoint(table: &[u16], n: usize) -> bool
     requires { ⌜ numbersPerTriangle * n ≤ length (now table) ⌝ }
     ensures { λ o. ⌜ o ≡ sound (tableOf (now (table .entry)) n) ⌝ }
 {
     let mut i = 0;
     while i < n {
-        if !each_apart(table, i) {
+        if !each_disjoint(table, i) {
             return false;
         }
         i += 1;
@@ -110,12 +109,12 @@ fn few_apart(table: &[u16], n: usize) -> bool
 }
 
 // No two of the first n triangles, each with D > 0, have a common interior point.
-pub fn all_apart(table: &[u16], n: usize) -> bool
-    requires { ⌜ ((n ≤ maxTriangles) × (numbersPerTriangle * n ≤ length (now table))) × (all (λ t. proper t) (tableOf (now table) n) ≡ true) ⌝ }
+pub fn all_disjoint(table: &[u16], n: usize) -> bool
+    requires { ⌜ Drawn (now table) n ⌝ }
     ensures { λ o. ⌜ o ≡ sound (tableOf (now (table .entry)) n) ⌝ }
 {
-    if n <= FEW {
-        return few_apart(table, n);
+    if n <= MOST_UNBOXED {
+        return few_disjoint(table, n);
     }
     let mut lefts = [0u16; base_tables::MOST_TRIANGLES];
     let mut tops = [0u16; base_tables::MOST_TRIANGLES];
@@ -123,5 +122,5 @@ pub fn all_apart(table: &[u16], n: usize) -> bool
     let mut bottoms = [0u16; base_tables::MOST_TRIANGLES];
     boxes::put_boxes(table, n, &mut lefts, &mut tops, &mut rights, &mut bottoms);
     let mut near = [0usize; base_tables::MOST_TRIANGLES];
-    pairs_apart(table, &lefts, &tops, &rights, &bottoms, &mut near, n)
+    pairs_disjoint(table, &lefts, &tops, &rights, &bottoms, &mut near, n)
 }

@@ -1,4 +1,4 @@
--- No triangle before k has a common interior point with triangle i.
+-- Triangle i has a common interior point with none of the first k.
 use mathlib.Core.Path.{_≡_, sym, _∙_, ap, ap₂}
 use mathlib.Core.Bool.{true, not}
 use Prim.Native.Nat.{_≤_, _-_}
@@ -9,31 +9,22 @@ use Rattle.theory_lists.proofs.IndexLaws.{all-below-none, all-below-fails, all-
 use Rattle.spec_plane.specs.Triangle.{triangleOf, cornerAt, corners}
 use Rattle.spec_plane.specs.Interior.{interiorsMeet}
 use Rattle.spec_charts.specs.Table.{triangleAt}
-use Rattle.laws_charts.proofs.SoundLaws.{trianglesApart}
-use Rattle.call_soundness.proofs.apart.each_apart.Statement.{statement}
-use Rattle.call_soundness.proofs.apart.each_apart.Tie as tie
+use Rattle.laws_charts.proofs.SoundLaws.{trianglesDisjoint}
+use Rattle.call_soundness.proofs.disjoint.each_disjoint.Statement.{statement}
+use Rattle.call_soundness.proofs.disjoint.each_disjoint.Tie as tie
 
 abbrev Inv-loop : tie.InvT-loop
 Inv-loop table i s k₀ k =
-    ((k ≤ i) × (all (λ n. trianglesApart table i n) (upTo k) ≡ true)) × (s ≡ corners (triangleAt table i))
+    ((k ≤ i) × (all (λ n. trianglesDisjoint table i n) (upTo k) ≡ true)) × (s ≡ corners (triangleAt table i))
 
 abbrev μ-loop : tie.MeasureT-loop
 μ-loop table i s k₀ k = i - k
-
-triangle-at-requires : tie.Need-triangle-at-requires Inv-loop μ-loop
-triangle-at-requires c κs = search needs
 
 loop-holds : tie.Need-loop-holds Inv-loop μ-loop
 loop-holds c =
     let top : tie.Start Inv-loop μ-loop = search needs in
     let a = top .args in
-    ((omega arith, all-below-none (λ n. trianglesApart (a .table .now) (a .i) n)), c .triangle-at .ensures)
-
-triangle-at-requires-2 : tie.Need-triangle-at-requires-2 Inv-loop μ-loop
-triangle-at-requires-2 c κs = omega arith
-
-interiors-meet-requires : tie.Need-interiors-meet-requires Inv-loop μ-loop
-interiors-meet-requires c κs = search needs
+    ((omega arith, all-below-none (λ n. trianglesDisjoint (a .table .now) (a .i) n)), c .triangle-at .ensures)
 
 returns : tie.Need-returns Inv-loop μ-loop
 unfolding triangleOf cornerAt
@@ -46,13 +37,7 @@ returns c =
     let l = loop .loop in
     let meet = interiors-meet .interiors-meet .ensures
     ∙ ap₂ (λ s t. interiorsMeet (triangleOf s) (triangleOf t)) (l .inv .1) (triangle-at2 .triangle-at2 .ensures) in
-    all-below-fails (λ n. trianglesApart (a .table .now) (a .i) n) (a .i) (l .k) (omega arith) (ap not (sym meet ∙ c .if1 .taken))
-
-add-k : tie.Need-add-k Inv-loop μ-loop
-add-k c = search needs
-
-loop-less : tie.Need-loop-less Inv-loop μ-loop
-loop-less c = search needs
+    all-below-fails (λ n. trianglesDisjoint (a .table .now) (a .i) n) (a .i) (l .k) (omega arith) (ap not (sym meet ∙ c .if1 .taken))
 
 loop-again : tie.Need-loop-again Inv-loop μ-loop
 unfolding triangleOf cornerAt
@@ -67,7 +52,7 @@ loop-again c =
     ∙ ap₂ (λ s t. interiorsMeet (triangleOf s) (triangleOf t)) (l .inv .1) (triangle-at2 .triangle-at2 .ensures) in (
       (
         omega arith,
-        all-below-passes (λ n. trianglesApart (a .table .now) (a .i) n) (l .k) (l .inv .0 .1) (ap not (sym meet ∙ c .if1 .left)),
+        all-below-passes (λ n. trianglesDisjoint (a .table .now) (a .i) n) (l .k) (l .inv .0 .1) (ap not (sym meet ∙ c .if1 .left)),
       ),
       l .inv .1,
     )
@@ -78,20 +63,9 @@ returns-2 c =
     let top : tie.Start Inv-loop μ-loop = search needs in
     let a = top .args in
     let l = loop .loop in
-    sym (l .inv .0 .1) ∙ ap (λ k. all (λ n. trianglesApart (a .table .now) (a .i) n) (upTo k)) (omega arith)
+    sym (l .inv .0 .1) ∙ ap (λ k. all (λ n. trianglesDisjoint (a .table .now) (a .i) n) (upTo k)) (omega arith)
 
-pub each-apart-spec : {M : Type 1} → statement M
-each-apart-spec =
-    tie.close
-    (tie.spec
-    Inv-loop
-    μ-loop
-    triangle-at-requires
-    loop-holds
-    triangle-at-requires-2
-    interiors-meet-requires
-    returns
-    add-k
-    loop-less
-    loop-again
-    returns-2)
+pub each-disjoint-spec : {M : Type 1} → statement M
+each-disjoint-spec =
+    tie.close (tie.spec Inv-loop μ-loop (λ c κs. search needs) loop-holds (λ c κs. omega arith) (λ c κs. search needs) returns (λ c. search needs)
+    (λ c. search needs) loop-again returns-2)

@@ -1,0 +1,1 @@
+"""The calls that tests/calls.py runs, by what they show."""

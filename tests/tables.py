@@ -1,0 +1,212 @@
+"""Triangles and tables for the tests: how they are drawn, their entries by the reference model, and edits of plain tables.
+
+A point is two numbers, a triangle six, a table a list of triangles."""
+
+import collections
+
+import engines
+
+LIMIT = 16384  # the most entries
+MARK = 65535
+# document 01's triangles
+U = (0, 0, 65535, 0, 0, 65535)
+V = (65535, 65535, 0, 65535, 65535, 0)
+# triangles that a load refuses, and two with far more entries than there may be
+FLAT = (0, 0, 5, 5, 9, 9)
+REVERSED = (0, 0, 0, 5, 5, 0)
+SLIVERS = [(0, 0, 65535, 0, 65535, 1), (0, 0, 65535, 1, 0, 1)]
+
+
+# ---- triangles
+
+
+def orientation(t):
+    ax, ay, bx, by, cx, cy = t
+    return (bx - ax) * (cy - ay) - (by - ay) * (cx - ax)
+
+
+def corners(t):
+    return [tuple(t[2 * k : 2 * k + 2]) for k in range(3)]
+
+
+def turned(t, k):
+    """The triangle with its corner k first."""
+    return tuple(t[2 * k :]) + tuple(t[: 2 * k])
+
+
+def inside(t, p):
+    """Whether a point is strictly inside."""
+    a, b, c = corners(t)
+    return all(orientation(u + v + p) > 0 for u, v in ((a, b), (b, c), (c, a)))
+
+
+def sides_shared(t, u):
+    """The corners at which a side of t starts and the same side of u, the other way round; none where there is none."""
+    for k in range(3):
+        for m in range(3):
+            (a, b, _), (c, d, _) = corners(turned(t, k)), corners(turned(u, m))
+            if (a, b) == (d, c):
+                return k, m
+    return None
+
+
+def proper(points):
+    """The triangle of three points with D > 0, or nothing."""
+    t = points[0] + points[1] + points[2]
+    d = orientation(t)
+    return t if d > 0 else points[1] + points[0] + points[2] if d < 0 else None
+
+
+# ---- drawing
+
+
+def drawn(make):
+    """The first proper triangle of three points as they are made."""
+    while True:
+        t = proper(make())
+        if t:
+            return t
+
+
+def anywhere(rng):
+    return (rng.randint(0, 65535), rng.randint(0, 65535))
+
+
+def near(rng, p, reach):
+    return tuple(max(0, min(65535, c + rng.randint(-reach, reach))) for c in p)
+
+
+def anyhow(rng):
+    """A triangle of any three points."""
+    return drawn(lambda: [anywhere(rng) for _ in "abc"])
+
+
+def soup(rng):
+    reach = rng.choice([40, 900, 9000, 65535])
+
+    def one():
+        p = anywhere(rng)
+        return [near(rng, p, reach) for _ in range(3)]
+
+    return [drawn(one) for _ in range(rng.choice([1, 2, 5, 12, 40]))]
+
+
+def mesh(rng):
+    g = rng.choice([1, 2, 3, 5, 8, 16])
+    step = 65535 // g
+    at = {
+        (i, j): near(rng, (i * step, j * step), step // 4) if 0 < i < g and 0 < j < g else (i * step, j * step)
+        for i in range(g + 1)
+        for j in range(g + 1)
+    }
+    table = []
+    for j in range(g):
+        for i in range(g):
+            a, b, c, d = at[i, j], at[i + 1, j], at[i, j + 1], at[i + 1, j + 1]
+            table += [t for t in (proper([a, b, c]), proper([d, c, b])) if t]
+    return table
+
+
+def slivers(rng):
+    def one():
+        p = anywhere(rng)
+        q = near(rng, p, rng.choice([30, 3000, 30000]))
+        return [p, q, near(rng, q, rng.choice([1, 2, 9]))]
+
+    return [drawn(one) for _ in range(rng.choice([1, 2, 3, 8]))]
+
+
+def borders(rng):
+    """Corners on the borders of squares and one beside them."""
+
+    def point():
+        return tuple(min(65535, max(0, (rng.randint(0, 16) << rng.choice([4, 8, 12])) + rng.choice([-1, 0, 0, 0, 1]))) for _ in "xy")
+
+    return [drawn(lambda: [point(), point(), point()]) for _ in range(rng.choice([1, 2, 4, 8]))]
+
+
+def repeated(rng):
+    base = rng.choice([soup, borders, mesh])(rng)[:20]
+    return [rng.choice(base) for _ in range(rng.randint(1, 60))]
+
+
+def copies(rng):
+    return [anyhow(rng)] * rng.choice([2, 100, 511, 512])
+
+
+KINDS = {"soup": soup, "mesh": mesh, "slivers": slivers, "borders": borders, "repeated": repeated, "copies": copies}
+
+
+# ---- entries
+
+
+def entries_of(table):
+    """Key, level and item of each entry, by the model; nothing where a load is refused."""
+    lines = engines.model_lines("entries", "".join(" ".join(map(str, t)) + "\n" for t in table))
+    return [tuple(map(int, line.split())) for line in lines[1:]] if lines[0].isdigit() else None
+
+
+def exactly(rng, total):
+    """A table of exactly that many entries: a copy of a triangle adds as many as cells list it, and changes no cell."""
+    while True:
+        base = [anyhow(rng) for _ in range(rng.choice([4, 5, 6, 7]))]
+        entries = entries_of(base)
+        if entries is None:
+            continue
+        listed = collections.Counter(item for _, _, item in entries)
+        counts = [listed[i] for i in range(len(base))]
+        table, missing = list(base), total - len(entries)
+        most = counts.index(max(counts))
+        while missing > 3 * counts[most] and len(table) < 512:
+            table.append(base[most])
+            missing -= counts[most]
+        chosen = reached(counts, missing, 512 - len(table)) if missing >= 0 else None
+        if chosen is not None:
+            return table + [base[i] for i in chosen]
+
+
+def reached(counts, total, most):
+    """At most that many numbers of triangles whose counts sum to the total, or nothing."""
+    ways = {0: []}
+    for _ in range(min(most, 4)):
+        for reached_sum, chosen in list(ways.items()):
+            for i, c in enumerate(counts):
+                if reached_sum + c <= total and reached_sum + c not in ways:
+                    ways[reached_sum + c] = chosen + [i]
+    return ways.get(total)
+
+
+# ---- edits of plain tables
+
+
+def split(table, i, p):
+    a, b, c = corners(table[i])
+    return table[:i] + [a + b + p] + table[i + 1 :] + [b + c + p, c + a + p]
+
+
+def flip(table, i, j):
+    """The table after a flip, or nothing."""
+    found = sides_shared(table[i], table[j])
+    if not found:
+        return None
+    (a, b, c), d = corners(turned(table[i], found[0])), corners(turned(table[j], found[1]))[2]
+    first, second = a + d + c, d + b + c
+    if min(orientation(first), orientation(second)) <= 0:
+        return None
+    new = list(table)
+    new[i], new[j] = first, second
+    return new
+
+
+def take_out(table, p):
+    """The table after a take-out, or nothing."""
+    places = [i for i, t in enumerate(table) if p in corners(t)]
+    if len(places) != 3:
+        return None
+    ends = [corners(turned(table[i], (corners(table[i]).index(p) + 1) % 3)) for i in places]
+    a, b, _ = ends[0]
+    for second, third in (ends[1:], ends[:0:-1]):
+        if second[0] == b and second[1] == third[0] and third[1] == a:
+            new = [a + b + second[1] if i == places[0] else t for i, t in enumerate(table)]
+            return [t for i, t in enumerate(new) if i not in places[1:]]
+    return None
