@@ -92,6 +92,11 @@ changedBy-example : (c : Chart)
 unfolding evaluate
 changedBy-example c = refl
 
+-- the chart of U keeps its seven entries
+changedBy-kept-example : changedBy chartU (refused StaleEntries) .chart .entryCount ≡ 7
+unfolding evaluate
+changedBy-kept-example = refl
+
 changedBy-done-example : (c : Chart) (t : Table) → changedBy c (done t) ≡ record { number = 0; value = 0; chart = indexedChart c t }
 unfolding changedBy
 changedBy-done-example c t = refl
@@ -102,6 +107,11 @@ loadCall-example : (ns : List ℕ)
     ≡ changedBy short (refused ShortBuffer) ∷ changedBy broken (eventOn (load ns) (Vt ∷ [])) ∷ []
 unfolding evaluate
 loadCall-example ns = refl
+
+-- the empty table into buffers that are too short, and into longer ones
+loadCall-short-example : map (λ c. loadCall [] c .number) (short ∷ broken ∷ []) ≡ 1 ∷ 0 ∷ []
+unfolding evaluate
+loadCall-short-example = refl
 
 -- 1, 2 and 3 before any edit, in this order; then what the event comes to on the table, 11 too
 editCall-example : (e : Event)
@@ -213,3 +223,10 @@ eventCall-example ns c = refl
 chartAfter-example : (e f : Event) (c : Chart) → chartAfter (e ∷ f ∷ []) c ≡ eventCall f (eventCall e c .chart) .chart
 unfolding chartAfter
 chartAfter-example e f c = refl
+
+-- the empty table and U, in either order, and a refused load after U
+chartAfter-loads-example :
+    map (λ es. chartAfter es chartUV .triangleCount)
+    ((load [] ∷ load numbersU ∷ []) ∷ (load numbersU ∷ load [] ∷ []) ∷ (load numbersU ∷ load (1 ∷ []) ∷ []) ∷ []) ≡ 1 ∷ 0 ∷ 1 ∷ []
+unfolding evaluate
+chartAfter-loads-example = refl
