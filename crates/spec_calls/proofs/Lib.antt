@@ -1,3 +1,4 @@
 pub mod Evaluate
 pub mod BufferExamples
 pub mod CallExamples
+pub mod LargeExamples

@@ -9,3 +9,4 @@ pub mod OverlayExamples
 pub mod ReadingExamples
 pub mod Examples
 pub mod SharedGroundExamples
+pub mod LargeExamples
