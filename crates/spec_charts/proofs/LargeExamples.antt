@@ -78,7 +78,7 @@ unfolding evaluate
 numbered-large = refl
 
 -- a list of code: more than 512 triangles; fewer numbers than 43, 86, 256 and 512 triangles take; 512 triangles with D = 0; numbers to spare
-drawn-few : Drawn [] 4294967296 → ⊥
+drawn-few : Drawn (replicate 4608 9) 768 → ⊥
 drawn-few h = let l = h .few in omega arith
 
 drawn-room : (Drawn (replicate 2 9) 43 → ⊥) × (Drawn (replicate 4 9) 86 → ⊥)
