@@ -6,22 +6,26 @@ usage: mutants.py [--crates A,B] [--only REGEX] [--max N] [--jobs 1|2] [--minute
 
 A mutant changes one place of one definition: a comparison, an operand, a coordinate, a corner, a chart, an order, a constant,
 a constructor, a variable; a part or row is dropped, negated or doubled; two arguments, fields, rows, cases or elements change
-places. It is judged in these steps:
+places; of a number its lowest 8, 9, 16 or 32 bits are left (part); in a record that is built a field gets what another of its
+type gets (copy field); a record that states something, which is one with parameters, states it without one of its fields, and
+no record of that type that is built has it, in any crate (drop field). It is judged in these steps:
  1. on the examples of its crate that name the definition, many mutants in one check; then on its whole crate. An error in
     specs/ itself: invalid, it is no definition. Any other refusal: killed.
  2. what passes is tried on the crates above whose texts name the definition, or one that is made of it, in the order of
     crates.txt, until one refuses it; programs are left out, which state nothing of their own. After spec_log, the last crate
     of definitions, come the executed cases: those that tests/definitions.py draws, as crates of their own.
+A field that is dropped is used by a proof where it is refused; it is not tried on examples in copies of their own.
 In step 1 a check may take 4 times the processor time that the right definition takes, at least 20 s; in step 2 it may take
 900 s; and 4 GB. A check of many mutants that takes more is done again for each of them. A mutant whose check alone takes more
 has the verdict 'does not end': what is shown of the right definition in a part of that time is not shown of it. It counts as
 refused, and the report counts it apart.
 
 What passes all of it is a survivor: write an example or a law that refuses it. A mutant that is the same function has a row in
-tests/mutants-same.tsv (file, definition, mutant, why) and is not run; a row that names no mutant is an error.
+tests/mutants-same.tsv (file, definition, mutant, why) and is not run; a row that names no mutant is an error. A row with `% 2^k`
+is about the parts of 8, 9, 16 and 32 bits.
 
 The work goes on in copies below a temporary folder; the repository is only read. FILE.tsv gets a row for each mutant as the
-run goes on; with --resume those that it has as refused or invalid are not judged again. --only looks at 'file definition'.
+run goes on; with --resume those that it has as refused or invalid are not judged again. --only looks at 'file definition kind'.
 --max takes a part, drawn at random. --list prints the mutants and stops. With make: make mutants OPTIONS="--crates spec_plane".
 Exit status: 0 when no survivor is left among the mutants judged, 1 otherwise."""
 
@@ -45,6 +49,7 @@ import time
 from definitions import TRIALS  # the crates that it makes of the executed cases
 
 ROOT = os.path.dirname(os.path.dirname(os.path.abspath(__file__)))
+TEXTS = (("specs", ".antt"), ("proofs", ".antt"), ("src", ".rt"))  # the texts of a crate
 SAME = os.path.join(ROOT, "tests", "mutants-same.tsv")
 CASES = ["7", "4"]  # seed and count of the executed cases
 AT_ONCE = 24  # mutants in one check of the examples
@@ -108,18 +113,19 @@ def split_by(run, operator):
 
 
 def bind(item, kind, scope, constructors):
-    """Puts the variables of a pattern into the scope, with their types where the type matched tells them."""
+    """Puts the variables of a pattern into the scope, with their types where the type matched or the constructor tells them."""
     if not item.bracket:
         if re.fullmatch(r"[a-z][\w′]*", item.text) and item.text not in constructors:
             scope[item.text] = kind
         return
     parts = split_by(item.items, "∷")
     for k, part in enumerate(parts):
-        inner = "ℕ" if part and part[0].text == "suc" else ""
+        inner, head = "", part[0].text if part else ""
         if len(parts) > 1:
             inner = kind if k == len(parts) - 1 else kind[5:] if kind.startswith("List ") else ""
-        for i in part:
-            bind(i, inner, scope, constructors | {"suc"})
+        taken = [kind[7:]] if head == "some" and kind.startswith("Option ") else constructors.get((head or "").rsplit(".", 1)[-1], ())[:-1]
+        for i, known in zip(part, ["", *taken] if len(taken) == len(part) - 1 > 0 else [inner] * len(part)):
+            bind(i, known, scope, constructors)
 
 
 def declared(items):
@@ -193,13 +199,33 @@ for pair in "leb ltb, leZ ltZ, && ||, true false, min max, take drop, any all, +
 COMPARISONS = {"leb", "ltb", "leZ", "ltZ"}
 SYMMETRIC = {"eqb", "samePoint", "sameCell", "overlaps", "interiorsMeet", "apart", "min", "max"}  # swapped arguments: the same
 ORDERED = {"-", "-ℤ", "/", "%", "^", "++", "<", "≤"}  # operators whose operands change places
+ARITHMETIC = {"+", "-", "*", "/", "%", "^"}  # operators between numbers that give a number
+PARTS = (8, 9, 16, 32)  # of a number, so many of its lowest bits
+LONGEST_LIST = 16  # the length of no list is tried beyond so many bits
+TAKES = {f: ["ℕ", "ℕ", "Bool"] for f in ("leb", "ltb", "eqb")} | {f: ["ℕ", "ℕ", "ℕ"] for f in ("min", "max")}
+TAKES |= {"suc": ["ℕ", "ℕ"], "pos": ["ℕ", "ℤ"], "length": ["", "ℕ"], "natAbs": ["ℤ", "ℕ"], "getD": ["", "ℕ", "", ""]}
+TAKES |= {"take": ["ℕ", "", ""], "drop": ["ℕ", "", ""], "replicate": ["ℕ", "", ""], "set": ["", "ℕ", "", ""]}
+NUMBERS = {"ℕ", "u8", "u16", "u32", "u64", "usize"}
 
 
 class Mutant:
     def __init__(self, crate, file, line, definition, kind, text, shown):
         self.crate, self.file, self.line, self.definition = crate, file, line, definition
         self.kind, self.text, self.shown, self.verdict, self.where, self.passed = kind, text, shown, "", "", []
-        self.key = (file, definition, shown)
+        self.key, self.dropped = (file, definition, shown), None  # dropped: the fields of a record, and the one left out
+        self.keys = {self.key, (file, definition, re.sub(r"%% (%s)\)" % "|".join(str(2**k) for k in PARTS), "% 2^k)", shown))}
+
+    def texts(self, root, crates):
+        """The texts of these crates that it changes, by their paths."""
+        own = os.path.join(root, "crates", self.file)
+        found = {own: self.text}
+        for part, ending, c in [(p, e, c) for c in crates for p, e in TEXTS if self.dropped]:
+            for path in sources(ending, part, root, c):
+                right = read(path)
+                wrong = edited(right, rows_of_field(right, *self.dropped))
+                if path != own and wrong != right:
+                    found[path] = wrong
+        return found
 
     def row(self):
         return "\t".join([*self.key, self.kind, self.verdict or "passes", self.where, " ".join(self.passed)])
@@ -209,14 +235,15 @@ class Names:
     """What the sources say of names: the next constructor or definition of the same type, records, Bool functions, numbers."""
 
     def __init__(self):
-        self.after, self.records, self.constructors = {}, [], {"zero", "true", "false", "none", "some"}
+        self.after, self.records, self.variants = {}, [], {}
+        self.constructors = dict.fromkeys(("zero", "true", "false", "none", "some"), ()) | {"suc": ["ℕ", "ℕ"]}
         self.bools, self.numbers, self.takes = COMPARISONS | {"eqb"}, set(), {}
         for path in sources(".antt", "specs"):
             text, same = read(path), collections.defaultdict(list)
             for m in re.finditer(r"^pub data (\S+).*\n((?: +.*\n)+)", text, re.M):
                 for words, kind in re.findall(r"^ +([^:\n]*?) : (.*)$", m.group(2), re.M):
                     same[m.group(1), kind] += words.split()
-                    self.constructors |= set(words.split())
+                    self.constructors |= dict.fromkeys(words.split(), () if "(" in kind else kind.split(" → "))
             for m in re.finditer(r"^pub record (\S+).*\n((?: +.*\n)+)", text, re.M):
                 self.records.append((m.group(1), re.findall(r"^ +pub (\S+) : (.*)$", m.group(2), re.M)))
             for name, kind in re.findall(r"^ *(?:unfoldable|abbrev) pub (\S+) : (.*)$", text, re.M):
@@ -228,11 +255,34 @@ class Names:
         for path in sources(".rt", "src"):
             for m in re.finditer(r"^pub struct (\w+)[^{;]*\{([^}]*)\}", read(path), re.M):
                 self.records.append((m.group(1), re.findall(r"pub (\w+): ([^,\n]*)", m.group(2))))
+            for m in re.finditer(r"^pub enum (\w+)[^{;]*\{([^}]*)\}", read(path), re.M):
+                self.variants[m.group(1)] = re.findall(r"^ +(\w+)(\(\w+\))?,", m.group(2), re.M)
+                holds = lambda kind: ["ℕ" if kind[1:-1] in NUMBERS else kind[1:-1]] if kind else []
+                self.constructors |= {v: [*holds(kind), m.group(1)] for v, kind in self.variants[m.group(1)]}
+        self.number_fields = {n for _, fields in self.records for n, kind in fields if kind in NUMBERS}
 
     def fields_like(self, name, text):
         """The other fields of the same type, in the records that the text names."""
         records = [fields for record, fields in self.records if re.search(r"\b%s\b" % record, text)]
         return sorted({n for fields in records for n, kind in fields if n != name and (name, kind) in fields})
+
+    def next_variant(self, word, text):
+        """The next variant of the enum that the text has the word from, of those that hold the same."""
+        *alias, last = word.rsplit(".", 1)
+        line = r"declared\.(\w+)\.the-variants" + (r" as %s$" % re.escape(alias[0]) if alias else r"\.\{[^}]*\b%s\b" % re.escape(last))
+        found = re.search(line, text, re.M)
+        variants = self.variants.get(found.group(1), []) if found else []
+        alike = [v for v, kind in variants if (last, kind) in variants]
+        return dict(zip(alike, alike[1:] + alike[:1])).get(last)
+
+    def taken(self, name):
+        """The types of what the name takes and, last, of what it gives; "" is unknown."""
+        return self.takes.get(name) or self.constructors.get((name or "").rsplit(".", 1)[-1]) or TAKES.get(name) or [""]
+
+    def alike(self, labels, one, other):
+        """Whether two fields have the same type, in a record with these fields, if there is any."""
+        records = [dict(fields) for _, fields in self.records if {n for n, _ in fields} == labels]
+        return not records or any(kinds[one] == kinds[other] for kinds in records)
 
 
 def bring(text, name, beside):
@@ -253,6 +303,18 @@ def edited(text, edits):
     return text
 
 
+def rows_of_field(text, fields, name):
+    """The edits that leave the field out wherever a record with these fields is built."""
+    code, found = re.sub(r"//[^\n]*", lambda m: " " * len(m.group()), text), []
+    groups = list(brackets_in(items_of(code, 0, len(code)))) if re.search(r"\b%s =" % re.escape(name), text) else []
+    for group in [g for g in groups if g.bracket == "{" and re.search(r"record\s*$", code[: g.start])]:
+        rows = [r for r in split_by(group.items, ";") if r]
+        if sorted(r[0].text or "" for r in rows) == sorted(fields):
+            k = next(k for k, r in enumerate(rows) if r[0].text == name)
+            found.append((rows[k][0].start, rows[k + 1][0].start, "") if k + 1 < len(rows) else (rows[k - 1][-1].end, rows[k][-1].end, ""))
+    return found
+
+
 def mutants_of(crate, path, names):
     text, out, seen = read(path), [], set()
     file = os.path.relpath(path, os.path.join(ROOT, "crates"))
@@ -261,10 +323,10 @@ def mutants_of(crate, path, names):
     code = lambda run: text[run[0].start : run[-1].end]
     exchange = lambda p, q: [(*span(p), code(q)), (*span(q), code(p))]
 
-    def add(kind, edits, need=None, beside=None):
-        new = bring(edited(text, edits), need, beside) if need else edited(text, edits)
+    def add(kind, edits, need=None, beside=None, elsewhere=()):
+        new = bring(edited(text, [*edits, *elsewhere]), need, beside) if need else edited(text, [*edits, *elsewhere])
         if new in (None, text) or new in seen:
-            return
+            return False
         seen.add(new)
         a, b = min(e[0] for e in edits), max(e[1] for e in edits)
         lo, hi = max(text.rfind("\n", 0, a) + 1, a - 30), min((text.find("\n", b) + 1 or len(text) + 1) - 1, b + 12)
@@ -274,6 +336,7 @@ def mutants_of(crate, path, names):
         again = shown_before[d.name, shown]
         shown += f"  ({again})" if again > 1 else ""
         out.append(Mutant(crate, file, text.count("\n", 0, a) + 1, d.name, kind, new, shown))
+        return True
 
     def change_words(run, scope, scoped):
         for item, following in zip(run, run[1:] + [None]):
@@ -291,8 +354,8 @@ def mutants_of(crate, path, names):
                 if scope.get(v, "") == scope.get(w, ""):
                     add("variable", [(*here, v)])
             last = w.rsplit(".", 1)[-1]
-            if last in names.after and last not in scoped and not w.startswith("."):
-                new = names.after[last]
+            new = last[:1].isupper() and names.next_variant(w, text) or names.after.get(last)
+            if new and last not in scoped and not w.startswith("."):
                 add("next of its type", [(*here, w[: len(w) - len(last)] + new)], *([new, w] if last == w else []))
             if w in ("suc", "not") and following:
                 add("drop " + w, [(item.start, following.start, "")])
@@ -338,22 +401,70 @@ def mutants_of(crate, path, names):
                 if plain and alike and code([p]) != code([q]):
                     add("flip comparison" if head in COMPARISONS else "swap arguments", exchange([p], [q]))
 
+    def is_number(run, scope):
+        """Whether the run is known to be a number."""
+        words = {i.text for i in run}
+        if words & OPERATORS:
+            return words & OPERATORS <= ARITHMETIC
+        if len(run) == 1 and run[0].bracket:
+            return run[0].bracket == "(" and bool(run[0].items) and is_number(run[0].items, scope)
+        last, head = run[-1].text or "", run[0].text
+        if last.startswith("."):
+            return last[1:] in names.number_fields
+        return scope.get(head) == "ℕ" if len(run) == 1 else names.taken(head)[-1] == "ℕ"
+
+    def take_part(term, scoped):
+        """Parts of the number that the term is, if it has a variable and is no successor, difference, quotient or remainder."""
+        inner = term[0].items if len(term) == 1 and term[0].bracket == "(" else term
+        words = {i.text for i in inner}
+        if not scoped & set(words_in(inner)) or words & {"suc", "-", "/", "%", "λ", "let", "elim", "record"}:
+            return
+        written = f"({code(inner)})" if words & OPERATORS else code(inner)
+        beside, first = re.search(r"^use Prim\.Native\.Nat\.\{([^,}]*)", text, re.M), re.search(r"^use ", text, re.M).start()
+        brought = ("%", beside.group(1).strip("_")) if beside else (None, None, [(first, first, "use Prim.Native.Nat.{_%_}\n")])
+        for k in PARTS:
+            if inner[0].text != "length" or k <= LONGEST_LIST:
+                add("part", [(*span(term), f"({written} % {2**k})")], *brought)
+
+    def change_numbers(run, scope, scoped, is_result, is_argument):
+        """Parts of its operands and arguments that are numbers, and of the whole run, unless it is an argument itself."""
+        cuts = [-1] + [k for k, i in enumerate(run) if i.text in OPERATORS] + [len(run)]
+        for a, b in zip(cuts, cuts[1:]):
+            call = run[a + 1 : b]
+            applied = [i for i in call if not (i.text or "").startswith(".")]
+            arguments = [i for i in applied[1:] if i.bracket != "{"]
+            taken = names.taken(applied[0].text if applied else "")
+            for k, i in enumerate(arguments):
+                if k < len(taken) - 1 and taken[k] == "ℕ" or is_number([i], scope):
+                    take_part([i], scoped)
+            beside = {run[k].text for k in (a, b) if 0 <= k < len(run)}
+            if call and beside and (beside & (ARITHMETIC | {"<", "≤"}) or is_number(call, scope)):
+                take_part(call, scoped)
+        if is_result or not is_argument and is_number(run, scope):
+            take_part(run, scoped)
+
     for d in definitions_of(text, names.constructors):
         for right, scope in d.clauses:
             runs = list(expressions(right))
             scoped = set(scope) | {w for role, run, _ in runs if role == "binder" for w in words_in(run)}
+            bracketed = [g.items for g in brackets_in(right) if g.bracket == "("]
+            is_result = lambda run: not d.is_record and run == right and names.taken(d.name)[-1] == "ℕ"
             for run, before in [(run, before) for role, run, before in runs if role == "expression"]:
                 change_words(run, scope, scoped)
                 change_parts(run)
+                change_numbers(run, scope, scoped, is_result(run), run in bracketed)
                 cuts = [-1] + [k for k, i in enumerate(run) if i.text in OPERATORS] + [len(run)]
                 for a, b in zip(cuts, cuts[1:]):
                     if b - a > 1:
                         change_call(run[a + 1 : b], scope, before is not None and before.text == "not")
             for group in brackets_in(right):
                 fields = [p for p in split_by(group.items, ";") if len(p) > 2 and p[1].text == "="]
+                labels = {p[0].text for p in fields}
                 for k, p in enumerate(fields):
                     for q in [q for q in fields[k + 1 :] if code(q[2:]) != code(p[2:])]:
                         add("swap fields", exchange(p[:1], q[:1]))
+                    for q in [q for q in fields[k + 1 :] + fields[:k] if names.alike(labels, p[0].text, q[0].text)][:1]:
+                        add("copy field", [(*span(p[2:]), code(q[2:]))])
                 cases = [split_by(p, "↦")[1:] for p in split_by(group.items, "|")]
                 cases = [c[0] for c in cases if c and c[0]]
                 for p, q in zip(cases, cases[1:]):
@@ -361,6 +472,12 @@ def mutants_of(crate, path, names):
         for (p, here), (q, there) in zip(d.clauses, d.clauses[1:]) if not d.is_record else ():
             if not set(words_in(p)) & (set(here) - set(there)) | set(words_in(q)) & (set(there) - set(here)):
                 add("swap cases", exchange(p, q))
+        for stated in re.finditer(r"^pub record %s \(.*\n((?: +.*\n)+)" % re.escape(d.name), text, re.M) if d.is_record else ():
+            rows = [(m.group(1), stated.start(1) + m.start()) for m in re.finditer(r"^ +pub (\S+) :", stated.group(1), re.M)]
+            fields = [name for name, _ in rows]
+            for (name, a), b in zip(rows, [start for _, start in rows[1:]] + [stated.end()]):
+                if len(rows) > 1 and add("drop field", [(a, b, "")], elsewhere=rows_of_field(text, fields, name)):
+                    out[-1].dropped = (fields, name)
     return out
 
 
@@ -403,10 +520,10 @@ class Reach:
     """Which crates name a definition, or a definition that is made of it."""
 
     def __init__(self, root, crates):
-        self.named, self.crates, parts = {}, crates, (("specs", ".antt"), ("proofs", ".antt"), ("src", ".rt"))
+        self.named, self.crates = {}, crates
         self.made_of = made_of(read(p) for c in crates for p in sources(".antt", "specs", root, c))
         for c in crates:
-            self.named[c] = set().union(*(words_of(read(p)) for part, ending in parts for p in sources(ending, part, root, c)))
+            self.named[c] = set().union(*(words_of(read(p)) for part, ending in TEXTS for p in sources(ending, part, root, c)))
 
     def above(self, crate, name):
         known, more = {name}, {name}
@@ -541,21 +658,24 @@ class Place:
 
     def judge(self, m, above):
         """The mutant on its own crate; or, given the crates above, on those."""
-        path = os.path.join(self.root, "crates", m.file)
-        right, limit = read(path), self.most(m.crate, lambda: self.run("check", m.crate))
-        write(path, m.text)
+        limit, wrong = self.most(m.crate, lambda: self.run("check", m.crate)), m.texts(self.root, [m.crate, *(above or ())])
+        right, library = {path: read(path) for path in wrong}, lambda c: os.path.join(self.root, "target", "rlib", c + ".rlib")
+        for path in wrong:
+            write(path, wrong[path])
         if above is None:
             self.conclude(m, m.crate, self.check(m.crate, limit))
-        elif above:
-            library = os.path.join(self.root, "target", "rlib", m.crate + ".rlib")
-            os.rename(library, library + ".right")
-            self.conclude(m, m.crate, self.run("build", m.crate, "-o", library))
-            for c in above:
-                if not m.verdict:
-                    self.conclude(m, c, self.check(c, LONGEST))
-            shutil.rmtree(library, ignore_errors=True)
-            os.rename(library + ".right", library)
-        write(path, right)
+        tried = [m.crate, *above] if above else []
+        built = [c for c in tried if (c == m.crate or m.dropped) and os.path.exists(library(c))]  # what has a record has its fields too
+        for c in built:
+            os.rename(library(c), library(c) + ".right")
+        for c in tried:
+            if not m.verdict:
+                self.conclude(m, c, self.run("build", c, "-o", library(c)) if c in built else self.check(c, LONGEST))
+        for c in built:
+            shutil.rmtree(library(c), ignore_errors=True)
+            os.rename(library(c) + ".right", library(c))
+        for path in right:
+            write(path, right[path])
         refused = m.where.split("/")[0]
         if above and m.verdict and refused not in self.sure:
             if self.check(refused, LONGEST) is not None:
@@ -674,14 +794,14 @@ def main():
     crates = {c: d for c, d in crates_of(read(os.path.join(ROOT, "crates.txt"))).items() if not is_program(c)}
     every = [m for c in crates for p in sources(".antt", "specs", ROOT, c) for m in mutants_of(c, p, names)]
     same = {tuple(l.split("\t")[:3]) for l in read(SAME).split("\n") if l and not l.startswith("#")}
-    lost = same - {m.key for m in every}
+    lost = same - {key for m in every for key in m.keys}
     if lost:
         sys.exit("tests/mutants-same.tsv has rows that name no mutant:\n" + "\n".join("\t".join(k) for k in sorted(lost)))
     chosen = o.crates.split(",") if o.crates else list(crates)
     if not set(chosen) <= set(crates):
         sys.exit("no such library: " + " ".join(set(chosen) - set(crates)))
-    mutants = [m for m in every if m.crate in chosen and re.search(o.only, m.file + " " + m.definition)]
-    known = [m for m in mutants if m.key in same]
+    mutants = [m for m in every if m.crate in chosen and re.search(o.only, f"{m.file} {m.definition} {m.kind}")]
+    known = [m for m in mutants if m.keys & same]
     definitions = {(m.file, m.definition) for m in mutants}
     run.say(f"{len(mutants)} mutants of {len(definitions)} definitions, {len(known)} known to be the same function")
     if o.list:
@@ -692,18 +812,18 @@ def main():
     run.others = ["\t".join(r) for r in rows if tuple(r[:3]) in all_keys - chosen_now]
     earlier = {tuple(r[:3]): r for r in rows if r[4] in (*REFUSED, "invalid")}
     for m in mutants:
-        if m.key in earlier and m.key not in same:
+        if m.key in earlier and not m.keys & same:
             m.verdict, m.where = earlier[m.key][4:6]
             run.judged.append(m)
-    todo = [m for m in mutants if not m.verdict and m.key not in same]
+    todo = [m for m in mutants if not m.verdict and not m.keys & same]
     if o.max is not None and o.max < len(todo):
         todo = [todo[k] for k in sorted(random.Random(1).sample(range(len(todo)), o.max))]
     with tempfile.TemporaryDirectory(prefix="mutants-") as work:
         places = prepare(work, crates, [c for c in chosen if any(m.crate == c for m in todo)], o.jobs)
         run.say(f"the crates are proved as they stand; {len(todo)} mutants to judge")
         shown = [c for c in chosen if any(EXAMPLES.search(p) for p in sources(".antt", "proofs", ROOT, c))]
-        batches, left = [], [m for m in todo if m.crate not in shown]
-        for m in [m for m in todo if m.crate in shown]:
+        batches, left = [], [m for m in todo if m.crate not in shown or m.dropped]
+        for m in [m for m in todo if m.crate in shown and not m.dropped]:
             if not batches or batches[-1][0].file != m.file or len(batches[-1]) == AT_ONCE:
                 batches.append([])
             batches[-1].append(m)
