@@ -8,7 +8,7 @@ run.by := bash tests/demo.sh
 
 test.does := the whole gate: proofs, must-fail edits, programs, reference model, definitions executed, pages; .ci/run calls it
 test.needs := rt rustc python3
-test.takes := some 20 minutes
+test.takes := some 24 minutes
 test.by := bash tests/run.sh
 
 bench.does := time per build beside hand-written engines in C, in one run, as ratios

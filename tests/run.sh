@@ -46,7 +46,7 @@ fi
 
 check "layout of the sources (rt fmt --check)" rt fmt --check
 check "every crate proved with no hole and no axiom, every must-fail edit refused at a fact" python3 tests/verdicts.py "$log"
-check "every sentence of document 01 has its row and what carries it (docs/CLAIMS.md)" python3 tests/claims.py
+check "every sentence of the demands and of both documents has its row, and what says and holds it (docs/CLAIMS.md)" python3 tests/claims.py
 check "the storeys stand on earlier ones, and docs/MAP.md shows them" python3 tests/map.py --check
 check "the reference model builds" bash tests/model.sh build
 check "the reference model's own tests" bash tests/model.sh test

@@ -1,1 +1,1 @@
-// Laws of the definitions of chart_spec; no code.
+// Laws of the definitions of spec_charts; no code.

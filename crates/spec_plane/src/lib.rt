@@ -1,4 +1,5 @@
-// Points of the grid. Triangles are arrays of three of them.
+// Document 01 in the plane as definitions: points, D, triangles, boxes, meeting. The one type that code shares is a grid point;
+// a triangle is an array of three of them.
 
 // A grid point: x to the right, y downward.
 pub struct Point {
