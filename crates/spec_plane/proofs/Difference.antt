@@ -104,10 +104,6 @@ diff-nonneg d = diff-le (diff-pos 0) d ∙ simp (zero-add, add-zero)
 pub diff-below : {z : ℤ} {h l : ℕ} → Diff z h l → ltZ z (pos 0) ≡ ltb h l
 diff-below d = diff-lt d (diff-pos 0) ∙ simp (zero-add, add-zero)
 
--- the value of a difference
-pub diff-value : {z : ℤ} {h l : ℕ} → Diff z h l → l ≤ h → z ≡ pos (h - l)
-diff-value d h = diff-unique d (record { at = omega arith })
-
 pub diff-gap : {z : ℤ} {h l : ℕ} → Diff z h l → T (leZ (pos 0) z) → h ≡ l + natAbs z
 diff-gap {z = pos n} d t = d .at
 diff-gap {z = negsuc n} d t = absurd t

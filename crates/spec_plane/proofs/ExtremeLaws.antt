@@ -7,7 +7,7 @@ use mathlib.Core.Path.{_≡_, refl, ap}
 use mathlib.Core.Bool.{Bool, true, false, cond}
 use mathlib.Core.Logic.{_↔_}
 use Prim.Native.Nat.{ℕ, _+_, _*_, _-_, _≤_, _<_, min, max}
-use native.Mathlib.Nat.{add-le-add, mul-le-mul, mul-le-mul-left}
+use native.Mathlib.Nat.{mul-le-mul-left}
 use native.Mathlib.Omega.{arith}
 use borrow.Author.Tests.{leb-true, leb-false}
 use lib.Dec.{leb, ltb}
@@ -186,36 +186,3 @@ module _ (p q : Point) (g : OnGrid p) (b : Box) (h : Framed b) where
       (four-reflects _ (λ x y. offset p q < steepX p q * mirrorX p q x + steepY p q * mirrorY p q y) b h
       (λ r i j. reflects-le (diff-above (orient-mirrored p q r g i j))))
       (reflects-iff (e .0) (e .1) (reflects-ltb _ _))
-
--- ---- bounds
-
-either : (t : Bool) (m n l : ℕ) → m ≤ l → n ≤ l → cond t m n ≤ l
-either true m n l h i = h
-either false m n l h i = i
-
--- A mirrored coordinate is at most 65536.
-pub mirror-small : (u v x : ℕ) → x ≤ 65536 → mirror u v x ≤ 65536
-mirror-small u v x h = either (leb v u) _ _ _ h (omega arith)
-
--- So is the largest.
-pub far-small : (u v low high : ℕ) → high ≤ 65536 → far u v low high ≤ 65536
-far-small u v low high h = either (leb v u) _ _ _ h (omega arith)
-
--- So is the smallest.
-pub near-small : (u v low high : ℕ) → low ≤ 65536 → near u v low high ≤ 65536
-near-small u v low high h = either (leb v u) _ _ _ h (omega arith)
-
--- A step of a side is at most 65535.
-pub steep-small : (p q : Point) → OnGrid p → OnGrid q → (steepX p q ≤ 65535) × (steepY p q ≤ 65535)
-steep-small p q g h = omega arith
-
--- A sum of two steps' products with mirrored coordinates is at most 2 × 65535 × 65536.
-pub sum-small : (p q : Point) → OnGrid p → OnGrid q → (x y : ℕ) → x ≤ 65536 → y ≤ 65536
-    → steepX p q * x + steepY p q * y ≤ 2 * 65535 * 65536
-sum-small p q g h x y i j =
-    let s = steep-small p q g h in add-le-add (mul-le-mul (s .0) i) (mul-le-mul (s .1) j)
-
--- The offset is at most 2 × 65535 × 65536.
-pub offset-small : (p q : Point) → OnGrid p → OnGrid q → offset p q ≤ 2 * 65535 * 65536
-offset-small p q g h =
-    sum-small p q g h _ _ (mirror-small (p .y) (q .y) (p .x) (omega arith)) (mirror-small (q .x) (p .x) (p .y) (omega arith))

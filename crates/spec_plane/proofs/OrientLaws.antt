@@ -10,7 +10,7 @@ use lib.IntN.{pos, negℤ}
 use lib.Signed.{ltZ, leZ}
 use Rattle.spec_plane.specs.declared.Point.{Point}
 use Rattle.spec_plane.specs.Point.{orient, orientAt, whole, FracPoint}
-use Rattle.spec_plane.proofs.Difference.{Diff, diff, diff-pos, diff-neg, diff-sub, diff-mul, diff-shift, diff-unique, diff-above, diff-nonneg, diff-below}
+use Rattle.spec_plane.proofs.Difference.{Diff, diff, diff-pos, diff-neg, diff-sub, diff-mul, diff-shift, diff-unique, diff-above, diff-nonneg}
 
 -- what D(p,q,r) takes away, and what it takes it from
 abbrev pub orientLow : Point → Point → Point → ℕ
@@ -26,15 +26,12 @@ orient-difference p q r =
     (diff-sub (diff-mul (diff (q .x) (p .x)) (diff (r .y) (p .y))) (diff-mul (diff (q .y) (p .y)) (diff (r .x) (p .x))))
     (omega arith)
 
--- D > 0, D ≥ 0 and D < 0 as tests of the two sums
+-- D > 0 and D ≥ 0 as tests of the two sums
 pub orient-positive : (p q r : Point) → ltZ (pos 0) (orient p q r) ≡ ltb (orientLow p q r) (orientHigh p q r)
 orient-positive p q r = diff-above (orient-difference p q r)
 
 pub orient-nonneg : (p q r : Point) → leZ (pos 0) (orient p q r) ≡ leb (orientLow p q r) (orientHigh p q r)
 orient-nonneg p q r = diff-nonneg (orient-difference p q r)
-
-pub orient-negative : (p q r : Point) → ltZ (orient p q r) (pos 0) ≡ ltb (orientHigh p q r) (orientLow p q r)
-orient-negative p q r = diff-below (orient-difference p q r)
 
 -- D does not change where the three points are rotated, and changes its sign where two are swapped
 pub orient-rotate : (p q r : Point) → orient p q r ≡ orient q r p
