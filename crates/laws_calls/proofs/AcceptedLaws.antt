@@ -14,7 +14,7 @@ use Rattle.spec_plane.specs.Triangle.{proper}
 use Rattle.spec_charts.specs.Table.{Table}
 use Rattle.spec_charts.specs.Cells.{entriesOf, maxEntries}
 use Rattle.spec_charts.specs.declared.Refusal.the-variants.{ShortBuffer, BrokenChain, StaleEntries, TooManyEntries}
-use Rattle.spec_charts.specs.Refusals.{Outcome, refused, done, andThen}
+use Rattle.spec_charts.specs.Refusals.{Outcome, refused, done, andThen, doneOr}
 use Rattle.spec_charts.specs.Edits.{Event, load, split, takeOut, flip, proposed, limited, withinLimit, eventOn}
 use Rattle.laws_charts.proofs.OutcomeLaws.{refused-done, done-same, refuseIf-done, zero-done, passed}
 use Rattle.laws_charts.proofs.TableLaws.{tableOf-length}
@@ -64,6 +64,17 @@ event-fits e table next draws d =
       oriented = test-true (all-reflects (λ t. proper t) (λ t. reflects-test (proper t)) next .from (g .oriented));
       small = event-small e table next d;
     }
+
+-- so a chart can hold the table after any event, where it can hold the table before it
+pub after-fits : (e : Event) (t : Table) → Indexable t → Indexable (doneOr t (eventOn e t))
+after-fits e t h = go (eventOn e t) refl
+  where
+    drawable : Drawable t
+    drawable = record { few = h .few; oriented = all-reflects (λ s. proper s) (λ s. reflects-test (proper s)) t .to (subst T (sym (h .oriented)) tt) }
+
+    go : (o : Outcome Table) → eventOn e t ≡ o → Indexable (doneOr t o)
+    go (refused r) d = h
+    go (done next) d = event-fits e t next (proposed-drawable e t next drawable) d
 
 module _ (c : Chart) where
   -- the chart's table can be drawn where the chain rule holds

@@ -25,7 +25,7 @@ module _ {A : Type 0} where
   refuseIf-done false r e = ((λ t. t), e)
 
 -- no row has the number 0
-row-positive : (r : Refusal) → 0 < rowOf r .number
+pub row-positive : (r : Refusal) → 0 < rowOf r .number
 row-positive ShortBuffer = omega arith
 row-positive BrokenChain = omega arith
 row-positive StaleEntries = omega arith

@@ -42,8 +42,12 @@ plain-fits es w =
     let t = plain-table es w in
     record { few = t .few; oriented = test-true (t .oriented); small = after-few es [] empty-small }
 
+pub empty-fits : Indexable []
+unfolding plainTable afterEvents all
+empty-fits = plain-fits [] tt
+
 -- a load of the empty table is accepted, whatever the chart held
-load-empty : (c : Chart) → tooShort c ≡ false → eventCall (load []) c .chart ≡ indexedChart c []
+pub load-empty : (c : Chart) → tooShort c ≡ false → eventCall (load []) c .chart ≡ indexedChart c []
 unfolding evaluate eventCall loadCall ifLong changedBy
 load-empty c s = rw s
 

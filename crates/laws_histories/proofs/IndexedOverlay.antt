@@ -44,9 +44,9 @@ module _ (c d : Chart) (long : tooShort c ≡ false) (wide : tooShort d ≡ fals
   editable b l u f = indexed-editable b u (f .few) (f .small) l (f .oriented)
 
   -- neither chart is refused, nor is the pairs list
-  passes : overlayCall (indexedChart c s) (indexedChart d t) before ≡ overlaidBy before (overlayOf s (entriesOf s) t (entriesOf t))
+  pub overlay-passes : overlayCall (indexedChart c s) (indexedChart d t) before ≡ overlaidBy before (overlayOf s (entriesOf s) t (entriesOf t))
   unfolding overlayCall refuseIf
-  passes =
+  overlay-passes =
       let first = editable c long s fits in
       let second = editable d wide t holds in
       rw (first .long, second .long, le-ltb (length before) pairsLength room, first .chained, second .chained, indexed-table c s, indexed-table d t, indexed-entries c s, indexed-entries d t)
@@ -60,6 +60,6 @@ module _ (c d : Chart) (long : tooShort c ≡ false) (wide : tooShort d ≡ fals
         shared = ps;
         exactly = pairs-of-tables s t good fine;
         ascending = λ m n d h l. ordered-at m n d (pairs-ascend s (entriesOf s) t (entriesOf t)) h l;
-        answer = passes ∙ answer-same ps m before ∙ ap (λ n. overlayAnswer ps n before) (meetings-of-cells s t);
+        answer = overlay-passes ∙ answer-same ps m before ∙ ap (λ n. overlayAnswer ps n before) (meetings-of-cells s t);
         bound = rw (← meetings-of-cells s t) (meetings-of-cells-bound s t);
       }

@@ -1,6 +1,6 @@
 // Lists of calls, written as numbers, run on a chart.
 
-mod call_steps;
+pub mod call_steps;
 
 ghost use mathlib.Core.Path.{_≡_};
 ghost use mathlib.Core.List.{[], _∷_};

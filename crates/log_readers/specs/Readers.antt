@@ -1,0 +1,17 @@
+-- What commands 6 and 7 print.
+-- Assumes nothing.
+use Prim.Native.Nat.{ℕ, _+_, _*_}
+use Rattle.spec_charts.specs.Overlay.{maxPairs}
+use Rattle.base_answers.specs.declared.Located.{Located}
+use Rattle.base_answers.specs.declared.Located.the-variants.{At, Nowhere, Refused}
+use Rattle.log_lines.specs.Bytes.{pairBytes}
+
+-- "the triangle or 65535"
+abbrev pub foundNumber : Located → ℕ
+foundNumber (At i) = i
+foundNumber Nowhere = 65535
+foundNumber (Refused r) = 65535
+
+-- room enough for the lines of any overlay: a line of four 64-bit numbers, and those of 4,096 pairs
+abbrev pub overlayRoom : ℕ
+overlayRoom = 84 + pairBytes * maxPairs
