@@ -1,21 +1,25 @@
 // The 16-bit numbers of a command, low byte first.
 
 ghost use mathlib.Core.Path.{_≡_};
-ghost use mathlib.Core.Bool.{cond};
-ghost use mathlib.Core.List.{[], _∷_};
 ghost use Prim.Native.Nat.{_+_, _≤_, _<_};
-ghost use lib.Dec.{eqb};
-ghost use lib.ListN.{length, getD, drop};
+ghost use lib.ListN.{length, drop};
 ghost use Rattle.spec_log.specs.Log.{wordsOf};
 ghost use Rattle.log_lines.specs.Bytes.{Wrote};
-ghost use Rattle.log_commands.specs.Commands.{wordAt};
+ghost use Rattle.log_commands.specs.Commands.{wordAt, editNumbers, editLength};
+
+// A byte in 16 bits.
+fn wide(b: u8) -> u16
+    ensures { λ r. ⌜ (r ≡ b) × (r < 256) ⌝ }
+{
+    b as u16
+}
 
 // The number whose bytes stand at places k and k + 1.
 pub fn word(held: &[u8; 13], k: usize) -> u16
     requires { ⌜ k < 12 ⌝ }
     ensures { λ r. ⌜ r ≡ wordAt (now (held .entry)) k ⌝ }
 {
-    held[k] as u16 + 256 * held[k + 1] as u16
+    wide(held[k]) + 256 * wide(held[k + 1])
 }
 
 // The six numbers of a triangle, stored from a place on.
@@ -32,14 +36,14 @@ pub fn put_six(held: &[u8; 13], numbers: &mut [u16], at: usize)
 
 // The numbers of an edit's call, and more after them.
 pub fn edit_numbers(held: &[u8; 13]) -> [u16; 4]
-    ensures { λ r. ⌜ r ≡ getD (now (held .entry)) 0 0 ∷ wordAt (now (held .entry)) 2 ∷ wordAt (now (held .entry)) 4 ∷ wordAt (now (held .entry)) 6 ∷ [] ⌝ }
+    ensures { λ r. ⌜ r ≡ editNumbers (now (held .entry)) ⌝ }
 {
-    [held[0] as u16, word(held, 2), word(held, 4), word(held, 6)]
+    [wide(held[0]), word(held, 2), word(held, 4), word(held, 6)]
 }
 
 // How many numbers the call of an edit has: four for a split, three for a take-out or a flip.
 pub fn edit_length(b: u8) -> usize
-    ensures { λ r. ⌜ (r ≡ cond (eqb b 3) 4 3) × (r ≤ 4) ⌝ }
+    ensures { λ r. ⌜ (r ≡ editLength b) × (r ≤ 4) ⌝ }
 {
     if b == 3 { 4 } else { 3 }
 }

@@ -9,7 +9,7 @@ use native.Mathlib.Numerals.{add-one}
 use native.Mathlib.Omega.{arith}
 use borrow.Author.Tests.{lt-ltb, le-ltb, ltb-true, ltb-false}
 use lib.Dec.{ltb}
-use lib.ListN.{length, getD, take, drop, length-append, take-append-drop, List·getD-append}
+use lib.ListN.{length, getD, take, drop, set, length-set, length-append, take-append-drop, List·getD-append}
 use lib.Seq.{sets, length-sets, length-take-le, take-suc, take-all, take-length}
 use Rattle.theory_lists.proofs.ListsLaws.{Every, every-uncons, getD-stride, sets-join}
 use Rattle.theory_lists.proofs.FlatMapLaws.{flatMap-append, flatMap-length}
@@ -66,6 +66,10 @@ decimal-short (suc k) n h = go (decimal-short k (n / 10)) (ltb n 10) refl
 
 pub wrote-none : (at : ℕ) (l : List ℕ) → at ≤ length l → Wrote [] at at l l
 wrote-none at l h = record { end = omega arith; stored = refl; room = h }
+
+-- one byte
+pub wrote-set : (l : List ℕ) (i b : ℕ) → i < length l → Wrote (b ∷ []) i (i + 1) l (set l i b)
+wrote-set l i b h = record { end = omega arith; stored = refl; room = omega (arith, length-set l i b) }
 
 pub wrote-join : {u v : List ℕ} {a b c : ℕ} {l m n : List ℕ} → Wrote u a b l m → Wrote v b c m n → Wrote (u ++ v) a c l n
 wrote-join {u} {v} {a} {b} {c} {l} {m} {n} f g = record {

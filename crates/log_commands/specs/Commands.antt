@@ -1,0 +1,59 @@
+-- A whole command in the bytes held, and the numbers of the waiting table.
+-- Assumes nothing.
+use mathlib.Core.Path.{_≡_}
+use mathlib.Core.Bool.{cond}
+use mathlib.Core.List.{List, [], _∷_}
+use Prim.Native.Nat.{ℕ, _+_, _*_, _%_, _≤_}
+use lib.Dec.{eqb}
+use lib.ListN.{length, getD, take, drop}
+use Rattle.spec_charts.specs.Table.{numbersPerTriangle, tableLength}
+use Rattle.spec_calls.specs.Buffers.{Chart}
+use Rattle.spec_log.specs.Log.{State, Step, waitStep}
+use Rattle.log_lines.specs.Bytes.{Wrote}
+use Rattle.log_state.specs.State.{Charts}
+
+-- the 16-bit number at places k and k + 1, low byte first
+abbrev pub wordAt : List ℕ → ℕ → ℕ
+wordAt bytes k = getD bytes k 0 + 256 * getD bytes (k + 1) 0
+
+-- the numbers of the call that an edit's command is, and more after them
+abbrev pub editNumbers : List ℕ → List ℕ
+editNumbers bytes = getD bytes 0 0 ∷ wordAt bytes 2 ∷ wordAt bytes 4 ∷ wordAt bytes 6 ∷ []
+
+-- how many of them there are: four for a split, three for a take-out or a flip
+abbrev pub editLength : ℕ → ℕ
+editLength b = cond (eqb b 3) 4 3
+
+-- n is a number of numbers that wait: whole triangles, at most 512
+pub record Whole (n : ℕ) : Type 0 where
+  pub triangles : n % numbersPerTriangle ≡ 0
+  pub few : n ≤ tableLength
+
+-- the waiting table's numbers stand after the command of the call that loads them, and their number
+abbrev pub callHead : ℕ
+callHead = 2
+
+-- how long the list for them is
+abbrev pub waitingLength : ℕ
+waitingLength = callHead + tableLength
+
+-- n numbers wait in the list
+abbrev pub waitingIn : List ℕ → ℕ → List ℕ
+waitingIn waiting n = take n (drop callHead waiting)
+
+-- the buffers hold the state: both charts its tables, and the first n numbers its waiting table
+pub record Running (s : State) (d e : Chart) (waiting : List ℕ) (n : ℕ) : Type 0 where
+  pub charts : Charts s d e
+  pub waits : s .waiting ≡ waitingIn waiting n
+
+-- a step was made: what it prints is written, and the buffers hold the state after it
+pub record RanCommand (st : Step) (at next : ℕ) (before after : List ℕ) (d e : Chart) (waiting : List ℕ) (n : ℕ) : Type 0 where
+  pub wrote : Wrote (st .printed) at next before after
+  pub running : Running (st .after) d e waiting n
+
+-- command 1 was made with the numbers ws: what it prints is written, and what waits after it waits in the list
+pub record Waited (ws : List ℕ) (at next : ℕ) (before after : List ℕ) (n m : ℕ) (waiting waiting′ : List ℕ) : Type 0 where
+  pub wrote : (s : State) → s .waiting ≡ waitingIn waiting n → Wrote (waitStep ws s .printed) at next before after
+  pub waits : (s : State) → s .waiting ≡ waitingIn waiting n → waitStep ws s .after .waiting ≡ waitingIn waiting′ m
+  pub whole : Whole m
+  pub room : next ≤ length after
