@@ -163,7 +163,7 @@ printed-cons : (x : ℕ) (xs : List ℕ) (r : Reading) → whatIsPrinted (x ∷ 
 unfolding feed joined
 printed-cons x xs r = append-assoc (feedByte x r .printed) _ _
 
-fine-known : (b : ℕ) (rest : List ℕ) → fineSoFar b rest ≡ true → known b ≡ true
+pub fine-known : (b : ℕ) (rest : List ℕ) → fineSoFar b rest ≡ true → known b ≡ true
 unfolding fineSoFar
 fine-known b rest f = first-true (known b) (not (takesChart b) || leb (getD rest 0 0) 1) f
 

@@ -1,0 +1,29 @@
+-- What the reader and its buffers keep of a reading.
+-- Assumes nothing.
+use mathlib.Core.Path.{_≡_}
+use mathlib.Core.List.{List}
+use Prim.Native.Nat.{ℕ, _≤_}
+use lib.ListN.{length, take}
+use Rattle.spec_calls.specs.Buffers.{Chart}
+use Rattle.log_portions.specs.Portions.{Reading, Fed}
+use Rattle.log_lines.specs.Bytes.{Wrote}
+use Rattle.log_commands.specs.Commands.{Whole, Running}
+use Rattle.log_reader.specs.declared.Reader.{Reader}
+
+-- there are 13 places for bytes and one of them is free, and whole triangles wait
+pub record Ready (r : Reader) : Type 0 where
+  pub places : length (r .held) ≡ 13
+  pub few : r .count ≤ 12
+  pub whole : Whole (r .waits)
+
+-- the reader, with the charts d and e and the waiting list, keeps the reading q
+pub record Keeps (q : Reading) (r : Reader) (d e : Chart) (waiting : List ℕ) : Type 0 where
+  pub held : q .held ≡ take (r .count) (r .held)
+  pub offset : q .offset ≡ r .offset
+  pub ended : q .ended ≡ r .ended
+  pub running : Running (q .state) d e waiting (r .waits)
+
+-- what a byte or a portion prints is written, and the reader keeps the reading after it
+pub record FedAs (f : Fed) (at next : ℕ) (before after : List ℕ) (r : Reader) (d e : Chart) (waiting : List ℕ) : Type 0 where
+  pub wrote : Wrote (f .printed) at next before after
+  pub keeps : Keeps (f .after) r d e waiting

@@ -1,0 +1,102 @@
+// The command program on slices: its input byte by byte, in portions of any length, and what it prints.
+
+mod command_bytes;
+
+use log_events::BothCounts;
+ghost use mathlib.Core.Path.{_≡_};
+ghost use mathlib.Core.Bool.{false};
+ghost use Prim.Native.Nat.{_+_, _^_, _≤_, _<_};
+ghost use lib.ListN.{length, take};
+ghost use Rattle.spec_calls.specs.Buffers.{pairsLength};
+ghost use Rattle.spec_calls.specs.Lent.{given, leftChart};
+ghost use Rattle.log_portions.specs.Portions.{Reading, feedByte, feed, finish as Portions·finish};
+ghost use Rattle.log_lines.specs.Bytes.{Wrote};
+ghost use Rattle.log_readers.specs.Readers.{overlayRoom};
+ghost use Rattle.log_commands.specs.Commands.{waitingLength};
+ghost use Rattle.log_reader.specs.Reader.{Ready, Keeps, FedAs};
+
+// What is kept between two bytes: the bytes of a command that is not whole and how many they are, the offset of the next command
+// byte, whether `bad` was printed, how many numbers wait, and the counts of both charts.
+pub struct Reader {
+    pub held: [u8; 13],
+    pub count: usize,
+    pub offset: u64,
+    pub ended: bool,
+    pub waits: usize,
+    pub counts: BothCounts,
+}
+
+// The reader after a byte, and the place after what it printed.
+struct Fed {
+    reader: Reader,
+    at: usize,
+}
+
+fn reader_of(
+    held: [u8; 13],
+    count: usize,
+    offset: u64,
+    ended: bool,
+    waits: usize,
+    counts: BothCounts,
+) -> Reader
+    ensures { λ r. ⌜ r ≡ record { held = held; count = count; offset = offset; ended = ended; waits = waits; counts = counts } ⌝ }
+{
+    Reader {
+        held,
+        count,
+        offset,
+        ended,
+        waits,
+        counts,
+    }
+}
+
+fn fed_of(reader: Reader, at: usize) -> Fed
+    ensures { λ r. ⌜ r ≡ record { reader = reader; at = at } ⌝ }
+{
+    Fed { reader, at }
+}
+
+// One byte of the input.
+fn feed_byte(
+    x: u8,
+    reader: Reader,
+    table0: &mut [u16],
+    keys0: &mut [u32],
+    levels0: &mut [u8],
+    items0: &mut [u16],
+    table1: &mut [u16],
+    keys1: &mut [u32],
+    levels1: &mut [u8],
+    items1: &mut [u16],
+    waiting: &mut [u16],
+    pairs: &mut [u16],
+    out: &mut [u8],
+    at: usize,
+) -> Fed
+    requires { ⌜ Ready reader × ((reader .ended ≡ false) × (reader .offset + 13 < 2 ^ 64)) ⌝ }
+    requires { ⌜ (waitingLength ≤ length (now waiting)) × ((pairsLength ≤ length (now pairs)) × (at + overlayRoom ≤ length (now out))) ⌝ }
+    ensures { λ r. ⌜ ((q : Reading) → Keeps q reader (given table0 keys0 levels0 items0 (reader .counts .first .triangles) (reader .counts .first .entries)) (given table1 keys1 levels1 items1 (reader .counts .second .triangles) (reader .counts .second .entries)) (now (waiting .entry)) → FedAs (feedByte x q) at (r .at) (now (out .entry)) (now (out .exit)) (r .reader) (leftChart table0 keys0 levels0 items0 (r .reader .counts .first .triangles) (r .reader .counts .first .entries)) (leftChart table1 keys1 levels1 items1 (r .reader .counts .second .triangles) (r .reader .counts .second .entries)) (now (waiting .exit))) ⌝ }
+    ensures { λ r. ⌜ Ready (r .reader) × ((r .at ≤ length (now (out .exit))) × (r .reader .offset + r .reader .count ≤ reader .offset + reader .count + 1)) ⌝ }
+{
+    let count = reader.count;
+    let offset = reader.offset;
+    let waits = reader.waits;
+    let counts = reader.counts;
+    let mut held = reader.held;
+    held[count] = x;
+    if command_bytes::is_bad(&held, count) {
+        let next = log_lines::put_bad(offset, out, at);
+        return fed_of(reader_of(held, 0, offset, true, waits, counts), next);
+    }
+    let size = command_bytes::operand_bytes(held[0]);
+    if count < size {
+        return fed_of(reader_of(held, count + 1, offset, false, waits, counts), at);
+    }
+    let done = log_commands::run_command(
+        &held, table0, keys0, levels0, items0, table1, keys1, levels1, items1, counts, waiting, waits, pairs, out, at,
+    );
+    let after = done.counts;
+    fed_of(reader_of(held, 0, offset + 1 + size as u64, false, done.waits, after), done.at)
+}
