@@ -1,12 +1,14 @@
 -- What the reader and its buffers keep of a reading.
 -- Assumes nothing.
 use mathlib.Core.Path.{_≡_}
+use mathlib.Core.Bool.{false}
 use mathlib.Core.List.{List}
-use Prim.Native.Nat.{ℕ, _≤_}
+use Prim.Native.Nat.{ℕ, _+_, _≤_, _<_}
 use lib.ListN.{length, take}
 use Rattle.spec_calls.specs.Buffers.{Chart}
 use Rattle.log_portions.specs.Portions.{Reading, Fed}
 use Rattle.log_lines.specs.Bytes.{Wrote}
+use Rattle.log_readers.specs.Readers.{overlayRoom}
 use Rattle.log_commands.specs.Commands.{Whole, Running}
 use Rattle.log_reader.specs.declared.Reader.{Reader}
 
@@ -27,3 +29,12 @@ pub record Keeps (q : Reading) (r : Reader) (d e : Chart) (waiting : List ℕ) :
 pub record FedAs (f : Fed) (at next : ℕ) (before after : List ℕ) (r : Reader) (d e : Chart) (waiting : List ℕ) : Type 0 where
   pub wrote : Wrote (f .printed) at next before after
   pub keeps : Keeps (f .after) r d e waiting
+
+-- of a portion of n bytes the reader r read `used` bytes and became r′: it can go on, the output has room for what was printed, and the
+-- offset has grown by no more bytes than were read. It read something, where there was something to read and room to print
+pub record ReadOn (r : Reader) (n room : ℕ) (r′ : Reader) (used at : ℕ) : Type 0 where
+  pub ready : Ready r′
+  pub within : used ≤ n
+  pub printed : at ≤ room
+  pub grown : r′ .offset + r′ .count ≤ r .offset + r .count + used
+  pub onward : 0 < n → r .ended ≡ false → overlayRoom ≤ room → 0 < used

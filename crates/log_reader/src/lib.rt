@@ -11,9 +11,10 @@ ghost use Rattle.spec_calls.specs.Buffers.{pairsLength};
 ghost use Rattle.spec_calls.specs.Lent.{given, leftChart};
 ghost use Rattle.log_portions.specs.Portions.{Reading, feedByte, feed, finish as Portions·finish};
 ghost use Rattle.log_lines.specs.Bytes.{Wrote};
+ghost use Rattle.log_events.specs.Events.{lineRoom};
 ghost use Rattle.log_readers.specs.Readers.{overlayRoom};
 ghost use Rattle.log_commands.specs.Commands.{waitingLength};
-ghost use Rattle.log_reader.specs.Reader.{Ready, Keeps, FedAs};
+ghost use Rattle.log_reader.specs.Reader.{Ready, Keeps, FedAs, ReadOn};
 
 // What is kept between two bytes: the bytes of a command that is not whole and how many they are, the offset of the next command
 // byte, whether `bad` was printed, how many numbers wait, and the counts of both charts.
@@ -99,4 +100,70 @@ fn feed_byte(
     );
     let after = done.counts;
     fed_of(reader_of(held, 0, offset + 1 + size as u64, false, done.waits, after), done.at)
+}
+
+// What a portion came to: the reader after it, how many of its bytes were read, and the place after what they printed.
+pub struct Portion {
+    pub reader: Reader,
+    pub used: usize,
+    pub at: usize,
+}
+
+fn portion_of(reader: Reader, used: usize, at: usize) -> Portion
+    ensures { λ r. ⌜ r ≡ record { reader = reader; used = used; at = at } ⌝ }
+{
+    Portion { reader, used, at }
+}
+
+// The most bytes that a command prints.
+const MOST: usize = 49236;
+
+// A portion of the input, as far as there is room for what a command may print, or up to a bad command.
+pub fn read_portion(
+    input: &[u8],
+    reader: Reader,
+    table0: &mut [u16],
+    keys0: &mut [u32],
+    levels0: &mut [u8],
+    items0: &mut [u16],
+    table1: &mut [u16],
+    keys1: &mut [u32],
+    levels1: &mut [u8],
+    items1: &mut [u16],
+    waiting: &mut [u16],
+    pairs: &mut [u16],
+    out: &mut [u8],
+) -> Portion
+    requires { ⌜ Ready reader × (reader .offset + reader .count + length (now input) + 13 < 2 ^ 64) ⌝ }
+    requires { ⌜ (waitingLength ≤ length (now waiting)) × (pairsLength ≤ length (now pairs)) ⌝ }
+    ensures { λ r. ⌜ ((q : Reading) → Keeps q reader (given table0 keys0 levels0 items0 (reader .counts .first .triangles) (reader .counts .first .entries)) (given table1 keys1 levels1 items1 (reader .counts .second .triangles) (reader .counts .second .entries)) (now (waiting .entry)) → FedAs (feed (take (r .used) (now (input .entry))) q) 0 (r .at) (now (out .entry)) (now (out .exit)) (r .reader) (leftChart table0 keys0 levels0 items0 (r .reader .counts .first .triangles) (r .reader .counts .first .entries)) (leftChart table1 keys1 levels1 items1 (r .reader .counts .second .triangles) (r .reader .counts .second .entries)) (now (waiting .exit))) ⌝ }
+    ensures { λ r. ⌜ ReadOn reader (length (now (input .entry))) (length (now (out .exit))) (r .reader) (r .used) (r .at) ⌝ }
+{
+    let mut kept = reader;
+    let mut used = 0;
+    let mut at = 0;
+    while used < input.len() {
+        if kept.ended | (out.len() - at < MOST) {
+            return portion_of(kept, used, at);
+        }
+        let fed = feed_byte(
+            input[used], kept, table0, keys0, levels0, items0, table1, keys1, levels1, items1, waiting, pairs, out, at,
+        );
+        kept = fed.reader;
+        at = fed.at;
+        used += 1;
+    }
+    portion_of(kept, used, at)
+}
+
+// The end of the input: a cut command is bad.
+pub fn finish(reader: Reader, out: &mut [u8]) -> usize
+    requires { ⌜ Ready reader × (lineRoom ≤ length (now out)) ⌝ }
+    ensures { λ r. ⌜ ((q : Reading) → q .held ≡ take (reader .count) (reader .held) → q .offset ≡ reader .offset → Wrote (Portions·finish q) 0 r (now (out .entry)) (now (out .exit))) ⌝ }
+    ensures { λ r. ⌜ r ≤ length (now (out .exit)) ⌝ }
+{
+    if reader.count == 0 {
+        return 0;
+    }
+    log_lines::put_bad(reader.offset, out, 0)
 }
