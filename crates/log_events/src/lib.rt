@@ -28,7 +28,8 @@ pub struct Told {
     pub counts: BothCounts,
 }
 
-fn counts_of(changed: Changed) -> Counts
+// The counts of a chart after a call.
+pub fn counts_of(changed: Changed) -> Counts
     ensures { λ r. ⌜ r ≡ record { triangles = changed .triangles; entries = changed .entries } ⌝ }
 {
     Counts {

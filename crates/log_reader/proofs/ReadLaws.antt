@@ -10,12 +10,19 @@ use borrow.Author.Tests.{le-ltb, ltb-true, ltb-false}
 use lib.Dec.{ltb}
 use lib.ListN.{length, getD, take}
 use lib.Seq.{take-suc}
-use Rattle.spec_calls.specs.Buffers.{Chart}
-use Rattle.spec_log.specs.Log.{badLine}
-use Rattle.log_portions.specs.Portions.{Reading, Fed, feedByte, joined, feed, finish}
+use Rattle.spec_calls.specs.Buffers.{Chart, tooShort}
+use Rattle.spec_calls.specs.Calls.{loadCall}
+use Rattle.spec_calls.specs.History.{eventCall}
+use Rattle.spec_log.specs.Log.{startState, badLine}
+use Rattle.base_answers.specs.declared.Changed.{Changed}
+use Rattle.base_answers.specs.Outcomes.{changedOf}
+use Rattle.log_portions.specs.Portions.{Reading, startReading, feedByte, joined, feed, finish}
 use Rattle.log_portions.proofs.PortionLaws.{feed-append}
 use Rattle.log_lines.specs.Bytes.{Wrote}
 use Rattle.log_lines.proofs.LineLaws.{wrote-none, wrote-join, wrote-as}
+use Rattle.log_state.specs.State.{Holding}
+use Rattle.log_state.proofs.HoldingLaws.{holding-empty}
+use Rattle.log_events.specs.declared.BothCounts.{BothCounts}
 use Rattle.log_readers.specs.Readers.{overlayRoom}
 use Rattle.log_reader.specs.declared.Reader.{Reader}
 use Rattle.log_reader.specs.Reader.{Ready, Keeps, FedAs, ReadOn}
@@ -121,3 +128,22 @@ module _ (q : Reading) (r : Reader) (same : q .held ≡ take (r .count) (r .held
   pub finish-cut : {at next : ℕ} {out out′ : List ℕ} → (r .count ≡ 0 → ⊥) → length (r .held) ≡ 13 → q .offset ≡ r .offset
       → Wrote (badLine (r .offset)) at next out out′ → Wrote (finish q) at next out out′
   finish-cut z long o w = wrote-as (sym (finish-some q (r .count) (r .held) same z (omega arith) ∙ ap badLine o)) w
+
+-- ---- the begin
+
+-- a load of the empty table leaves a chart that holds it
+pub begun-holding : (c : Chart) (chart : ℕ → ℕ → Chart) (r : Changed) → changedOf r chart ≡ loadCall [] c → tooShort c ≡ false
+    → Holding (chart (r .triangles) (r .entries)) []
+unfolding eventCall
+begun-holding c chart r h s = subst (λ d. Holding d []) (sym (ap (λ x. x .chart) h)) (holding-empty c s)
+
+-- nothing is read yet
+pub begun-keeps : (l : List ℕ) (k : BothCounts) {d e : Chart} → Holding d [] → Holding e [] → (waiting : List ℕ)
+    → Keeps startReading (record { held = l; count = 0; offset = 0; ended = false; waits = 0; counts = k }) d e waiting
+unfolding startReading startState
+begun-keeps l k h g waiting = record {
+  held = refl;
+  offset = refl;
+  ended = refl;
+  running = record { charts = record { first = h; second = g }; waits = refl };
+}

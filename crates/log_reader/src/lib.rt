@@ -5,11 +5,12 @@ mod command_bytes;
 use log_events::BothCounts;
 ghost use mathlib.Core.Path.{_≡_};
 ghost use mathlib.Core.Bool.{false};
-ghost use Prim.Native.Nat.{_+_, _^_, _≤_, _<_};
+ghost use mathlib.Core.List.{List};
+ghost use Prim.Native.Nat.{ℕ, _+_, _^_, _≤_, _<_};
 ghost use lib.ListN.{length, take};
-ghost use Rattle.spec_calls.specs.Buffers.{pairsLength};
+ghost use Rattle.spec_calls.specs.Buffers.{tooShort, pairsLength};
 ghost use Rattle.spec_calls.specs.Lent.{given, leftChart};
-ghost use Rattle.log_portions.specs.Portions.{Reading, feedByte, feed, finish as Portions·finish};
+ghost use Rattle.log_portions.specs.Portions.{Reading, startReading, feedByte, feed, finish as Portions·finish};
 ghost use Rattle.log_lines.specs.Bytes.{Wrote};
 ghost use Rattle.log_events.specs.Events.{lineRoom};
 ghost use Rattle.log_readers.specs.Readers.{overlayRoom};
@@ -57,6 +58,29 @@ fn fed_of(reader: Reader, at: usize) -> Fed
     ensures { λ r. ⌜ r ≡ record { reader = reader; at = at } ⌝ }
 {
     Fed { reader, at }
+}
+
+// Before the first byte: both charts hold the empty table, in buffers that are long enough, and nothing waits.
+pub fn begin(
+    table0: &mut [u16],
+    keys0: &mut [u32],
+    levels0: &mut [u8],
+    items0: &mut [u16],
+    table1: &mut [u16],
+    keys1: &mut [u32],
+    levels1: &mut [u8],
+    items1: &mut [u16],
+) -> Reader
+    ensures { λ r. ⌜ (tooShort (given table0 keys0 levels0 items0 0 0) ≡ false → tooShort (given table1 keys1 levels1 items1 0 0) ≡ false → (waiting : List ℕ) → Keeps startReading r (leftChart table0 keys0 levels0 items0 (r .counts .first .triangles) (r .counts .first .entries)) (leftChart table1 keys1 levels1 items1 (r .counts .second .triangles) (r .counts .second .entries)) waiting) ⌝ }
+    ensures { λ r. ⌜ Ready r × ((r .offset + r .count ≡ 0) × (r .ended ≡ false)) ⌝ }
+{
+    let first = call_load::load(&[], table0, keys0, levels0, items0, 0, 0);
+    let second = call_load::load(&[], table1, keys1, levels1, items1, 0, 0);
+    let counts = BothCounts {
+        first: log_events::counts_of(first),
+        second: log_events::counts_of(second),
+    };
+    reader_of([0; 13], 0, 0, false, 0, counts)
 }
 
 // One byte of the input.
