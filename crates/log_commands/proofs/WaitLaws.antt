@@ -32,7 +32,7 @@ words-at (suc n) bytes zero h = refl
 words-at (suc n) bytes (suc k) h =
     words-at n (drop 2 bytes) k (omega arith)
     ∙ ap₂ (λ u v. u + 256 * v) (getD-drop 2 bytes (2 * k) 0 ∙ ap (λ j. getD bytes j 0) (omega arith))
-      (getD-drop 2 bytes (2 * k + 1) 0 ∙ ap (λ j. getD bytes j 0) (omega arith))
+    (getD-drop 2 bytes (2 * k + 1) 0 ∙ ap (λ j. getD bytes j 0) (omega arith))
 
 -- a number of the bytes after the first i
 pub word-drop : (i : ℕ) (bytes : List ℕ) (k : ℕ) → wordAt (drop i bytes) k ≡ wordAt bytes (i + k)

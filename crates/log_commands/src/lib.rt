@@ -76,7 +76,19 @@ fn load_command(
     waiting[1] = waits as u16;
     let call = &waiting[..CALL_HEAD + waits];
     log_events::event_command(
-        c, call, table0, keys0, levels0, items0, table1, keys1, levels1, items1, counts, out, at,
+        c,
+        call,
+        table0,
+        keys0,
+        levels0,
+        items0,
+        table1,
+        keys1,
+        levels1,
+        items1,
+        counts,
+        out,
+        at,
     )
 }
 
@@ -103,7 +115,19 @@ fn edit_command(
     let call = &numbers[..words::edit_length(held[0])];
     let c = held[1];
     log_events::event_command(
-        c, call, table0, keys0, levels0, items0, table1, keys1, levels1, items1, counts, out, at,
+        c,
+        call,
+        table0,
+        keys0,
+        levels0,
+        items0,
+        table1,
+        keys1,
+        levels1,
+        items1,
+        counts,
+        out,
+        at,
     )
 }
 
@@ -150,13 +174,37 @@ pub fn run_command(
     let c = held[1];
     if b == 2 {
         let p = load_command(
-            c, table0, keys0, levels0, items0, table1, keys1, levels1, items1, counts, waiting, waits, out, at,
+            c,
+            table0,
+            keys0,
+            levels0,
+            items0,
+            table1,
+            keys1,
+            levels1,
+            items1,
+            counts,
+            waiting,
+            waits,
+            out,
+            at,
         );
         return done_of(p.counts, 0, p.at);
     }
     if (3 <= b) & (b <= 5) {
         let p = edit_command(
-            held, table0, keys0, levels0, items0, table1, keys1, levels1, items1, counts, out, at,
+            held,
+            table0,
+            keys0,
+            levels0,
+            items0,
+            table1,
+            keys1,
+            levels1,
+            items1,
+            counts,
+            out,
+            at,
         );
         return done_of(p.counts, waits, p.at);
     }
@@ -166,12 +214,35 @@ pub fn run_command(
             y: words::word(held, 4),
         };
         let next = log_readers::locate_command(
-            c, p, table0, keys0, levels0, items0, table1, keys1, levels1, items1, counts, out, at,
+            c,
+            p,
+            table0,
+            keys0,
+            levels0,
+            items0,
+            table1,
+            keys1,
+            levels1,
+            items1,
+            counts,
+            out,
+            at,
         );
         return done_of(counts, waits, next);
     }
     let next = log_readers::overlay_command(
-        table0, keys0, levels0, items0, table1, keys1, levels1, items1, counts, pairs, out, at,
+        table0,
+        keys0,
+        levels0,
+        items0,
+        table1,
+        keys1,
+        levels1,
+        items1,
+        counts,
+        pairs,
+        out,
+        at,
     );
     done_of(counts, waits, next)
 }

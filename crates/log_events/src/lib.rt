@@ -144,7 +144,17 @@ pub fn event_command(
 {
     let command = call[0];
     let told = change(
-        c, call, table0, keys0, levels0, items0, table1, keys1, levels1, items1, counts,
+        c,
+        call,
+        table0,
+        keys0,
+        levels0,
+        items0,
+        table1,
+        keys1,
+        levels1,
+        items1,
+        counts,
     );
     let next = put_told(command, told.changed, out, at);
     printed_of(told.counts, next)

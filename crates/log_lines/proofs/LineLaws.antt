@@ -223,7 +223,7 @@ module _ (ps : List Pair) (rest : List ℕ) where
       ap₂ _++_ (lines-to k (omega arith))
       (ap₂ (λ i j. line i (j ∷ [])) (ap (λ n. getD (pairNumbers ps ++ rest) n 0) (omega arith) ∙ number-at k 0 (omega arith) (omega arith)) (number-at k 1 (omega arith) (omega arith)))
       ∙ sym (ap (flatMap f) (take-suc ps k (pair 0 0) (omega arith)) ∙ flatMap-append f (take k ps) (getD ps k (pair 0 0) ∷ [])
-        ∙ ap (λ u. flatMap f (take k ps) ++ u) (append-nil (f (getD ps k (pair 0 0)))))
+      ∙ ap (λ u. flatMap f (take k ps) ++ u) (append-nil (f (getD ps k (pair 0 0)))))
 
   pub pair-lines : pairLines (pairNumbers ps ++ rest) (length ps) ≡ flatMap (λ p. line (p .i) (p .j ∷ [])) ps
   pair-lines = lines-to (length ps) (omega arith) ∙ ap (flatMap (λ p. line (p .i) (p .j ∷ []))) (take-length ps)

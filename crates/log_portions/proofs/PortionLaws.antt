@@ -20,7 +20,7 @@ feed-append [] q r = refl
 feed-append (x ∷ xs) q r =
     ap (λ f. joined (feedByte x r .printed) f) (feed-append xs q (feedByte x r .after))
     ∙ ap (λ l. record { printed = l; after = feed q (feed xs (feedByte x r .after) .after) .after })
-      (sym (append-assoc (feedByte x r .printed) (feed xs (feedByte x r .after) .printed) _))
+    (sym (append-assoc (feedByte x r .printed) (feed xs (feedByte x r .after) .printed) _))
 
 -- so all portions are one
 pub feed-all : (ps : List (List ℕ)) (r : Reading) → feedAll ps r ≡ feed (joinAll ps) r
@@ -201,8 +201,8 @@ settled xs law (suc m) s o b rest held le h whole e =
     let l = law m (stepOf b rest s .after) (o + 1 + operandBytes b) [] empty (omega arith) in
     ap (λ t. stepOf b rest s .printed ++ t) l
     ∙ sym
-      (log-whole m o s b (rest ++ xs) (well-formed b rest xs (both .0) n)
-      ∙ ap₂ (λ st t. st .printed ++ logFrom m (o + 1 + operandBytes b) (st .after) t) p d)
+    (log-whole m o s b (rest ++ xs) (well-formed b rest xs (both .0) n)
+    ∙ ap₂ (λ st t. st .printed ++ logFrom m (o + 1 + operandBytes b) (st .after) t) p d)
 settled xs law zero s o b rest held le h bad e = absurd (omega arith)
 settled xs law (suc m) s o b rest held le h bad e =
     let f = bad-first (fineSoFar b rest) (leb (operandBytes b) (length rest)) e in

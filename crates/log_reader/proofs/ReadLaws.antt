@@ -27,6 +27,20 @@ use Rattle.log_readers.specs.Readers.{overlayRoom}
 use Rattle.log_reader.specs.declared.Reader.{Reader}
 use Rattle.log_reader.specs.Reader.{Ready, Keeps, FedAs, ReadOn}
 
+-- the lists have kept their lengths
+pub record Lengths (table0₀ keys0₀ levels0₀ items0₀ table1₀ keys1₀ levels1₀ items1₀ waiting₀ pairs₀ out₀ table0 keys0 levels0 items0 table1 keys1 levels1 items1 waiting pairs out : List ℕ) : Type 0 where
+  pub table0-same : length table0 ≡ length table0₀
+  pub keys0-same : length keys0 ≡ length keys0₀
+  pub levels0-same : length levels0 ≡ length levels0₀
+  pub items0-same : length items0 ≡ length items0₀
+  pub table1-same : length table1 ≡ length table1₀
+  pub keys1-same : length keys1 ≡ length keys1₀
+  pub levels1-same : length levels1 ≡ length levels1₀
+  pub items1-same : length items1 ≡ length items1₀
+  pub waiting-same : length waiting ≡ length waiting₀
+  pub pairs-same : length pairs ≡ length pairs₀
+  pub out-same : length out ≡ length out₀
+
 -- after `used` bytes of the input the reader r, with charts and lists as they were, has become r′, with those that are now
 pub record Read (input : List ℕ) (r : Reader) (d₀ e₀ : Chart) (w₀ out₀ : List ℕ) (r′ : Reader) (d e : Chart) (w out : List ℕ) (used at : ℕ) : Type 0 where
   pub fed : (q : Reading) → Keeps q r d₀ e₀ w₀ → FedAs (feed (take used input) q) 0 at out₀ out r′ d e w

@@ -120,10 +120,27 @@ fn feed_byte(
         return fed_of(reader_of(held, count + 1, offset, false, waits, counts), at);
     }
     let done = log_commands::run_command(
-        &held, table0, keys0, levels0, items0, table1, keys1, levels1, items1, counts, waiting, waits, pairs, out, at,
+        &held,
+        table0,
+        keys0,
+        levels0,
+        items0,
+        table1,
+        keys1,
+        levels1,
+        items1,
+        counts,
+        waiting,
+        waits,
+        pairs,
+        out,
+        at,
     );
     let after = done.counts;
-    fed_of(reader_of(held, 0, offset + 1 + size as u64, false, done.waits, after), done.at)
+    fed_of(
+        reader_of(held, 0, offset + 1 + size as u64, false, done.waits, after),
+        done.at,
+    )
 }
 
 // What a portion came to: the reader after it, how many of its bytes were read, and the place after what they printed.
@@ -171,7 +188,20 @@ pub fn read_portion(
             return portion_of(kept, used, at);
         }
         let fed = feed_byte(
-            input[used], kept, table0, keys0, levels0, items0, table1, keys1, levels1, items1, waiting, pairs, out, at,
+            input[used],
+            kept,
+            table0,
+            keys0,
+            levels0,
+            items0,
+            table1,
+            keys1,
+            levels1,
+            items1,
+            waiting,
+            pairs,
+            out,
+            at,
         );
         kept = fed.reader;
         at = fed.at;

@@ -53,9 +53,25 @@ fn locate_in(
     let first = counts.first;
     let second = counts.second;
     if c == 0 {
-        return call_locate::locate(table0, keys0, levels0, items0, first.triangles, first.entries, p);
+        return call_locate::locate(
+            table0,
+            keys0,
+            levels0,
+            items0,
+            first.triangles,
+            first.entries,
+            p,
+        );
     }
-    call_locate::locate(table1, keys1, levels1, items1, second.triangles, second.entries, p)
+    call_locate::locate(
+        table1,
+        keys1,
+        levels1,
+        items1,
+        second.triangles,
+        second.entries,
+        p,
+    )
 }
 
 // Command 6: locates p in chart c and prints its line.
@@ -79,9 +95,22 @@ pub fn locate_command(
     ensures { λ r. ⌜ r ≤ length (now (out .exit)) ⌝ }
 {
     let located = locate_in(
-        c, p, table0, keys0, levels0, items0, table1, keys1, levels1, items1, counts,
+        c,
+        p,
+        table0,
+        keys0,
+        levels0,
+        items0,
+        table1,
+        keys1,
+        levels1,
+        items1,
+        counts,
     );
-    let others = [base_answers::located_number(located) as u64, found_number(located)];
+    let others = [
+        base_answers::located_number(located) as u64,
+        found_number(located),
+    ];
     put_line(6, &others, out, at)
 }
 

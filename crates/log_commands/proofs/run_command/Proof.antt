@@ -127,9 +127,10 @@ returns-4 c =
     let done : tie.After-done-of4 = search needs in
     let top = start (b-6 called) in
     let h = called .locate-command .ensures in
-    subst (Goal top (first top) (second top) (called .locate-command .last .1 .1 .1 .1 .1 .1 .1 .1 .1 .1 .1 .0) (top .args .waiting .now)) (sym (done .done-of4 .ensures))
-    ((λ s r. as-locate (getD (bytes top) 0 0) (bytes top) s (x .word .result) (y .word2 .result) (is-6 called) (x .word .ensures) (y .word2 .ensures) (h .0 s (r .charts)) r),
-    (h .1, top .pre .0))
+    subst (Goal top (first top) (second top) (called .locate-command .last .1 .1 .1 .1 .1 .1 .1 .1 .1 .1 .1 .0) (top .args .waiting .now)) (sym (done .done-of4 .ensures)) (
+      (λ s r. as-locate (getD (bytes top) 0 0) (bytes top) s (x .word .result) (y .word2 .result) (is-6 called) (x .word .ensures) (y .word2 .ensures) (h .0 s (r .charts)) r),
+      (h .1, top .pre .0),
+    )
 
 -- the last command is none of the others
 not-1 : (c : tie.Else4) → getD (bytes (start (b-7 c))) 0 0 ≡ 1 → ⊥

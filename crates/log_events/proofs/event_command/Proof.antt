@@ -44,8 +44,8 @@ returns c =
     let out = told .put-told .last .1 .1 .0 in
     let goal : Printed → Type 0 = λ r. ((s : State) → Charts s (first top) (second top)
     → Ran (eventStep (getD call 0 0) (a .c) (eventOn (callEvent call) (tableIn (a .c) s)) s) (a .at) (r .at) (a .out .now) out
-      (chartOf (l .0) (l .1 .0) (l .1 .1 .0) (l .1 .1 .1 .0) (r .counts .first .triangles) (r .counts .first .entries))
-      (chartOf (m .0) (m .1 .0) (m .1 .1 .0) (m .1 .1 .1 .0) (r .counts .second .triangles) (r .counts .second .entries)))
+    (chartOf (l .0) (l .1 .0) (l .1 .1 .0) (l .1 .1 .1 .0) (r .counts .first .triangles) (r .counts .first .entries))
+    (chartOf (m .0) (m .1 .0) (m .1 .1 .0) (m .1 .1 .1 .0) (r .counts .second .triangles) (r .counts .second .entries)))
     × (r .at ≤ length out) in
     subst goal (sym (printed .printed-of .ensures))
     (event-ran (getD call 0 0) (a .c) (callEvent call) (changed .change .ensures) (told .put-told .ensures), told .put-told .ensures .room)

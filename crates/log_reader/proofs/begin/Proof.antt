@@ -76,9 +76,10 @@ returns c =
     let zeros : List ℕ = 0 ∷ 0 ∷ 0 ∷ 0 ∷ 0 ∷ 0 ∷ 0 ∷ 0 ∷ 0 ∷ 0 ∷ 0 ∷ 0 ∷ 0 ∷ [] in
     subst goal (sym (made .reader-of .ensures))
     (subst (λ n. goal (record { held = zeros; count = 0; offset = 0; ended = false; waits = 0; counts = record { first = n; second = j .counts-of2 .result } })) (sym (k .counts-of .ensures))
-    (subst (λ n. goal (record { held = zeros; count = 0; offset = 0; ended = false; waits = 0; counts = record { first = record { triangles = one .load .result .triangles; entries = one .load .result .entries }; second = n } })) (sym (j .counts-of2 .ensures))
-    ((λ s t waiting. begun-keeps zeros _ (begun-holding c₀ d (one .load .result) (one .load .ensures) s) (begun-holding c₁ e (two .load2 .result) (two .load2 .ensures) t) waiting),
-    (record { places = refl; few = omega arith; whole = record { triangles = omega arith; few = omega arith } }, (omega arith, refl)))))
+    (subst (λ n. goal (record { held = zeros; count = 0; offset = 0; ended = false; waits = 0; counts = record { first = record { triangles = one .load .result .triangles; entries = one .load .result .entries }; second = n } })) (sym (j .counts-of2 .ensures)) (
+      (λ s t waiting. begun-keeps zeros _ (begun-holding c₀ d (one .load .result) (one .load .ensures) s) (begun-holding c₁ e (two .load2 .result) (two .load2 .ensures) t) waiting),
+      (record { places = refl; few = omega arith; whole = record { triangles = omega arith; few = omega arith } }, (omega arith, refl)),
+    )))
 
 pub begin-spec : {M : Type 1} → statement M
 begin-spec =

@@ -62,9 +62,10 @@ returns c =
     let goal = Goal top (first top) (second top) (put .put-bad .last .1 .0) (a .waiting .now) in
     let h = sym (t .is-bad .ensures) ∙ taken .if1 .taken in
     subst goal (sym (fed .fed-of .ensures))
-    (subst (λ k. goal (record { reader = k; at = put .put-bad .result })) (sym (reader .reader-of .ensures))
-    ((λ q k. fed-bad k (a .x) (ready .places) (ready .few) (top .pre .0 .1 .0) h (put .put-bad .ensures)),
-    (record { places = length-set (r .held) (r .count) (a .x) ∙ ready .places; few = omega arith; whole = ready .whole }, (put .put-bad .ensures .room, omega arith))))
+    (subst (λ k. goal (record { reader = k; at = put .put-bad .result })) (sym (reader .reader-of .ensures)) (
+      (λ q k. fed-bad k (a .x) (ready .places) (ready .few) (top .pre .0 .1 .0) h (put .put-bad .ensures)),
+      (record { places = length-set (r .held) (r .count) (a .x) ∙ ready .places; few = omega arith; whole = ready .whole }, (put .put-bad .ensures .room, omega arith)),
+    ))
 
 -- the bytes held begin a command
 abbrev tested-2 : tie.After-operand-bytes → tie.After-is-bad
@@ -89,10 +90,13 @@ returns-2 c =
     let less : r .count < size .operand-bytes .result = omega arith in
     let most = size .operand-bytes .ensures in
     subst goal (sym (fed .fed-of2 .ensures))
-    (subst (λ k. goal (record { reader = k; at = a .at })) (sym (reader .reader-of2 .ensures))
-    ((λ q k. fed-more k (a .x) (ready .places) (ready .few) (top .pre .0 .1 .0) h (omega (arith, most .0, less)) (omega (arith, top .pre .1 .1 .1))),
-    (record { places = length-set (r .held) (r .count) (a .x) ∙ ready .places; few = omega (arith, most .1, less); whole = ready .whole },
-    (omega (arith, top .pre .1 .1 .1), omega arith))))
+    (subst (λ k. goal (record { reader = k; at = a .at })) (sym (reader .reader-of2 .ensures)) (
+      (λ q k. fed-more k (a .x) (ready .places) (ready .few) (top .pre .0 .1 .0) h (omega (arith, most .0, less)) (omega (arith, top .pre .1 .1 .1))),
+      (
+        record { places = length-set (r .held) (r .count) (a .x) ∙ ready .places; few = omega (arith, most .1, less); whole = ready .whole },
+        (omega (arith, top .pre .1 .1 .1), omega arith),
+      ),
+    ))
 
 abbrev sized : tie.After-run-command → tie.After-operand-bytes
 sized c = search needs
@@ -174,10 +178,13 @@ returns-3 c =
     let b = operandBytes (getD (set (r .held) (r .count) (a .x)) 0 0) in
     subst goal (sym (fed .fed-of3 .ensures))
     (subst (λ k. goal (record { reader = k; at = o .at })) (sym (reader .reader-of3 .ensures))
-    (subst (λ k. goal (record { reader = record { held = set (r .held) (r .count) (a .x); count = 0; offset = r .offset + 1 + k; ended = false; waits = o .waits; counts = o .counts }; at = o .at })) (sym same)
-    ((λ q k. fed-whole k (a .x) (ready .places) (ready .few) (top .pre .0 .1 .0) h (o .counts) (omega (arith, same, enough run)) (done .0 (q .state) (k .running))),
-    (record { places = length-set (r .held) (r .count) (a .x) ∙ ready .places; few = omega arith; whole = done .1 .1 },
-    (done .1 .0, omega (arith, same, enough run))))))
+    (subst (λ k. goal (record { reader = record { held = set (r .held) (r .count) (a .x); count = 0; offset = r .offset + 1 + k; ended = false; waits = o .waits; counts = o .counts }; at = o .at })) (sym same) (
+      (λ q k. fed-whole k (a .x) (ready .places) (ready .few) (top .pre .0 .1 .0) h (o .counts) (omega (arith, same, enough run)) (done .0 (q .state) (k .running))),
+      (
+        record { places = length-set (r .held) (r .count) (a .x) ∙ ready .places; few = omega arith; whole = done .1 .1 },
+        (done .1 .0, omega (arith, same, enough run)),
+      ),
+    )))
 
 pub feed-byte-spec : {M : Type 1} → statement M
 feed-byte-spec =

@@ -15,23 +15,9 @@ use Rattle.log_commands.specs.Commands.{waitingLength}
 use Rattle.log_reader.specs.declared.Portion.{Portion}
 use Rattle.log_reader.specs.declared.Reader.{Reader}
 use Rattle.log_reader.specs.Reader.{Keeps, FedAs, ReadOn}
-use Rattle.log_reader.proofs.ReadLaws.{Read, read-none, read-more, read-all, read-stopped, read-goes}
+use Rattle.log_reader.proofs.ReadLaws.{Lengths, Read, read-none, read-more, read-all, read-stopped, read-goes}
 use Rattle.log_reader.proofs.read_portion.Statement.{statement}
 use Rattle.log_reader.proofs.read_portion.Tie as tie
-
--- the lists have kept their lengths
-record Lengths (table0₀ keys0₀ levels0₀ items0₀ table1₀ keys1₀ levels1₀ items1₀ waiting₀ pairs₀ out₀ table0 keys0 levels0 items0 table1 keys1 levels1 items1 waiting pairs out : List ℕ) : Type 0 where
-  pub table0-same : length table0 ≡ length table0₀
-  pub keys0-same : length keys0 ≡ length keys0₀
-  pub levels0-same : length levels0 ≡ length levels0₀
-  pub items0-same : length items0 ≡ length items0₀
-  pub table1-same : length table1 ≡ length table1₀
-  pub keys1-same : length keys1 ≡ length keys1₀
-  pub levels1-same : length levels1 ≡ length levels1₀
-  pub items1-same : length items1 ≡ length items1₀
-  pub waiting-same : length waiting ≡ length waiting₀
-  pub pairs-same : length pairs ≡ length pairs₀
-  pub out-same : length out ≡ length out₀
 
 -- both, of the loop
 record Loop (input : List ℕ) (r : Reader) (table0₀ keys0₀ levels0₀ items0₀ table1₀ keys1₀ levels1₀ items1₀ waiting₀ pairs₀ out₀ : List ℕ) (r′ : Reader) (table0 keys0 levels0 items0 table1 keys1 levels1 items1 waiting pairs out : List ℕ) (used at : ℕ) : Type 0 where
@@ -88,8 +74,8 @@ Goal c p =
     let r = a .reader in
     ((q : Reading) → Keeps q r (first top (r .counts .first)) (second top (r .counts .second)) (a .waiting .now)
     → FedAs (feed (take (p .used) (a .input .now)) q) 0 (p .at) (a .out .now) (l .out) (p .reader)
-      (chartOf (l .table0) (l .keys0) (l .levels0) (l .items0) (p .reader .counts .first .triangles) (p .reader .counts .first .entries))
-      (chartOf (l .table1) (l .keys1) (l .levels1) (l .items1) (p .reader .counts .second .triangles) (p .reader .counts .second .entries)) (l .waiting))
+    (chartOf (l .table0) (l .keys0) (l .levels0) (l .items0) (p .reader .counts .first .triangles) (p .reader .counts .first .entries))
+    (chartOf (l .table1) (l .keys1) (l .levels1) (l .items1) (p .reader .counts .second .triangles) (p .reader .counts .second .entries)) (l .waiting))
     × ReadOn r (length (a .input .now)) (length (l .out)) (p .reader) (p .used) (p .at)
 
 returns : tie.Need-returns Inv-loop μ-loop
@@ -121,9 +107,10 @@ feed-byte-requires c κs =
     let top = start l in
     let inv = l .loop .inv in
     let go = goes else in
-    let offset : l .loop .kept .offset + 13 < 2 ^ 64 = omega (arith, inv .read .grown, inv .read .within, top .pre .0 .1) in
-    ((inv .read .ready, (go .0, offset)),
-    (omega (arith, top .pre .1 .0, inv .lengths .waiting-same), (omega (arith, top .pre .1 .1, inv .lengths .pairs-same), omega (arith, go .1, inv .read .printed))))
+    let offset : l .loop .kept .offset + 13 < 2 ^ 64 = omega (arith, inv .read .grown, inv .read .within, top .pre .0 .1) in (
+      (inv .read .ready, (go .0, offset)),
+      (omega (arith, top .pre .1 .0, inv .lengths .waiting-same), (omega (arith, top .pre .1 .1, inv .lengths .pairs-same), omega (arith, go .1, inv .read .printed))),
+    )
 
 abbrev fed-arg : tie.After-feed-byte Inv-loop μ-loop → tie.After-feed-byte-arg Inv-loop μ-loop
 fed-arg c = search needs

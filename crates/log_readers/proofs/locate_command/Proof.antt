@@ -26,9 +26,10 @@ returns c =
     let f : tie.After-found-number = search needs in
     let w : tie.After-put-line = search needs in
     let a = start l .args in
-    let written = w .put-line .ensures in
-    ((λ s h. wrote-as (locate-printed (a .c) (a .p) (l .locate-in .result) (l .locate-in .ensures) (n .located-number .ensures) (f .found-number .ensures) s h) written),
-    written .room)
+    let written = w .put-line .ensures in (
+      (λ s h. wrote-as (locate-printed (a .c) (a .p) (l .locate-in .result) (l .locate-in .ensures) (n .located-number .ensures) (f .found-number .ensures) s h) written),
+      written .room,
+    )
 
 pub locate-command-spec : {M : Type 1} → statement M
 locate-command-spec =
