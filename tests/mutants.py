@@ -12,8 +12,8 @@ no record of that type that is built has it, in any crate (drop field). It is ju
  1. on the examples of its crate that name the definition, many mutants in one check; then on its whole crate. An error in
     specs/ itself: invalid, it is no definition. Any other refusal: killed.
  2. what passes is tried on the crates above whose texts name the definition, or one that is made of it, in the order of
-    crates.txt, until one refuses it; programs are left out, which state nothing of their own. After spec_log, the last crate
-    of definitions, come the executed cases: those that tests/definitions.py draws, as crates of their own.
+    crates.txt, until one refuses it; programs are left out, which state nothing of their own. Last come the executed cases, for
+    the crates up to spec_log, the last one of definitions: those that tests/definitions.py draws, as crates of their own.
 A field that is dropped is used by a proof where it is refused; it is not tried on examples in copies of their own.
 In step 1 a check may take 4 times the processor time that the right definition takes, at least 20 s; in step 2 it may take
 900 s; and 4 GB. A check of many mutants that takes more is done again for each of them. A mutant whose check alone takes more
@@ -756,8 +756,10 @@ class Run:
         def one(batch):
             if time.time() < self.until:
                 place = free.get()
-                work(place, batch)
-                free.put(place)
+                try:
+                    work(place, batch)
+                finally:
+                    free.put(place)
                 with self.lock:
                     for m in batch:
                         done.append(m)
@@ -834,7 +836,7 @@ def main():
             built = os.listdir(os.path.join(p.root, "target", "rlib"))
             p.prove([c for c in crates if c + ".rlib" not in built])
         cut = order.index("spec_log") + 1
-        for step, some in [("crates above", order[:cut]), ("executed cases", TRIALS), ("crates above", order[cut:])]:
+        for step, some in [("crates above", order), ("executed cases", TRIALS)]:
             if step == "executed cases" and any(not m.verdict and m.crate in order[:cut] for m in left) and time.time() < run.until:
                 run.say("preparing the executed cases")
                 reach = Reach(places[0].root, add_cases(work, places, crates))

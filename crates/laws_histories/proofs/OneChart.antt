@@ -1,15 +1,19 @@
--- Nothing of demand 2 is free: leaf cells with all their triangles are one list of entries, and an accepted event leaves one chart.
+-- Nothing of demand 2 is free: leaf cells with all their triangles are one list of entries, their keys rise, and an accepted event leaves
+-- one chart.
 -- The idea: the triangles that meet a cell and their order determine its list.
 -- Assumes nothing.
 use mathlib.Core.Path.{_≡_, sym, _∙_, ap, subst}
 use mathlib.Core.List.{List, map, flatMap, List·Memᴰ}
-use Prim.Native.Nat.{ℕ, _<_}
+use Prim.Native.Nat.{ℕ, suc, _+_, _<_}
 use native.Mathlib.Omega.{arith}
+use lib.ListN.{length, getD}
 use Rattle.theory_lists.proofs.EveryLaws.{flatMap-agree}
 use Rattle.theory_lists.proofs.Order.{Ordered, ordered-places}
 use Rattle.theory_lists.proofs.OrderLaws.{ordered-unique}
 use Rattle.theory_orthtree.specs.Entries.{Entry}
+use Rattle.theory_orthtree.proofs.EntriesLaws.{span-positive}
 use Rattle.spec_squares.specs.declared.Square.{Square}
+use Rattle.spec_squares.specs.Square.{arity, depth, wholeSquare, squareKey}
 use Rattle.spec_charts.specs.Table.{Table}
 use Rattle.spec_charts.specs.Cells.{cells, orMark, entryOf}
 use Rattle.spec_charts.specs.Edits.{Event}
@@ -39,6 +43,13 @@ one-index {c} {d} a b e =
     ∙ flatMap-agree _ _ (cells (chartTable c)) (λ s m. ap (λ is. map (λ i. entryOf s i) (orMark is)) (one-list (a .meeting s m) (other s m)))
     ∙ ap (λ t. cellsEntries (b .items) (cells t)) e
     ∙ sym (b .entries)
+
+-- in Z-order the keys of the cells rise
+pub keys-rise : {d : Chart} → LeafCells d → (n : ℕ) → suc n < length (cells (chartTable d))
+    → squareKey (getD (cells (chartTable d)) n wholeSquare) < squareKey (getD (cells (chartTable d)) (suc n) wholeSquare)
+keys-rise {d} l n h =
+    let s = getD (cells (chartTable d)) n wholeSquare in
+    omega (arith, l .order .next n h, span-positive arity depth (s .level) (omega arith))
 
 -- an accepted event leaves one chart
 pub one-chart : (e : Event) (c : Chart) {d d' : Chart} → AcceptedLeaves e c d → AcceptedLeaves e c d' → d ≡ d'

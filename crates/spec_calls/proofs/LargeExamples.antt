@@ -2,9 +2,10 @@
 -- Assumes nothing.
 use mathlib.Core.Path.{_≡_, refl}
 use mathlib.Core.Bool.{true, false}
-use mathlib.Core.List.{[], _∷_, _++_, map}
-use Prim.Native.Nat.{ℕ}
+use mathlib.Core.List.{List, [], _∷_, _++_, map}
+use Prim.Native.Nat.{ℕ, _<_}
 use native.Mathlib.Omega.{arith}
+use borrow.Author.Tests.{lt-leb}
 use lib.ListN.{length, take, replicate}
 use Rattle.theory_orthtree.specs.Entries.{entry}
 use Rattle.spec_plane.specs.declared.Point.{Point}
@@ -68,12 +69,21 @@ tableRule-large : tableRule [] 512 ≡ false
 unfolding evaluate
 tableRule-large = refl
 
+-- any more triangles are too many
+tableRule-few : (ns : List ℕ) (n : ℕ) → 512 < n → tableRule ns n ≡ false
+unfolding tableRule
+tableRule-few ns n h = rw (lt-leb n 512 h)
+
+chainRule-few : (c : Chart) → 512 < c .triangleCount → chainRule c ≡ false
+unfolding chainRule
+chainRule-few c h = rw (tableRule-few (c .table) (c .triangleCount) h)
+
 entryCountFits-large : map (λ m. entryCountFits m) (256 ∷ 512 ∷ 16384 ∷ 65537 ∷ 4294967297 ∷ []) ≡ true ∷ true ∷ true ∷ false ∷ false ∷ []
 unfolding evaluate
 entryCountFits-large = refl
 
--- one entry for triangle 0 of 2^32 triangles follows the entries' rule, not the table's; 2^32 + 1 entries are too many
-entriesRule-large : entriesRule (counting 4294967296 1) ∷ chainRule (counting 4294967296 1) ∷ entriesRule (counting 1 4294967297) ∷ [] ≡ true ∷ false ∷ false ∷ []
+-- one entry for triangle 0 of 2^32 triangles follows the entries' rule; 2^32 + 1 entries are too many
+entriesRule-large : entriesRule (counting 4294967296 1) ∷ entriesRule (counting 1 4294967297) ∷ [] ≡ true ∷ false ∷ []
 unfolding evaluate
 entriesRule-large = refl
 
