@@ -10,9 +10,10 @@ from .faults import FAILED, UNMET, WRONG, Fault, Faults, clean, listed, of_file,
 VARIABLE = "CHARTKEY_ENGINE"
 FORMS = ("--json", "--csv", "--log", "--bytes", "--from-bytes", "-q")
 PLAIN = ("--help", "-h", "--version")
+VERBS = {"check": (None, "--json"), "numbers": (None,)}  # and the forms that each has
 
-# what is asked: a word (check, numbers or None), a form or None, the paper or None for standard input, the program or None
-Asked = namedtuple("Asked", "word form name program")
+# what is asked: a verb or None, a form or None, the paper or None for standard input, the program or None
+Asked = namedtuple("Asked", "verb form name program")
 # what comes of it: exit status, bytes for standard output, text for standard error
 Outcome = namedtuple("Outcome", "status out err", defaults=(b"", ""))
 
@@ -24,7 +25,7 @@ class Usage(Exception):
 def help_text():
     """Within a screen; the lines of a paper come from the tables."""
     first, last = numbers.NUMBERS[0].number, numbers.NUMBERS[-1].number
-    head = f"""usage: chartkey [OPTIONS] [PAPER]  the key of a paper (none or -: standard input)
+    head = f"""usage: chartkey [OPTIONS] [PAPER]  the key of a paper (or of standard input)
        chartkey check [PAPER]      read it, tell its faults, run nothing
        chartkey numbers [N]        what the numbers {first} to {last} mean, and what to do
   --json --csv --log --bytes       other forms of the answer
@@ -48,11 +49,13 @@ exit status: 0 well, 1 refused, 2 wrong paper, 3 expectation not met, 4 failure
 
 def asked(arguments):
     """What the command line asks."""
-    names, form, program, options = [], None, None, True
+    verb, names, form, program, options = None, [], None, None, True
     left = iter(arguments)
     for word in left:
         if word == "--" and options:
             options = False
+        elif options and word in VERBS and not verb and not names:
+            verb = word
         elif not options or word == "-" or not word.startswith("-"):
             names.append(word)
         elif word == "--engine" or word.startswith("--engine="):
@@ -65,12 +68,11 @@ def asked(arguments):
             raise Usage(f"{form} and {word} are two forms, and one can be had")
         else:
             form = word
-    word = names.pop(0) if names and names[0] in ("check", "numbers") and arguments[0] == names[0] else None
     if len(names) > 1:
         raise Usage(f"one paper at a time: {clean(names[1])} is too much")
-    if (word == "check" and form not in (None, "--json")) or (word == "numbers" and form):
-        raise Usage(f"`{word}` has no form {form}")
-    return Asked(word, form, None if names in ([], ["-"]) and word != "numbers" else names[0] if names else None, program)
+    if verb and form not in VERBS[verb]:
+        raise Usage(f"`{verb}` has no form {form}")
+    return Asked(verb, form, None if names in ([], ["-"]) else names[0], program)
 
 
 def told_numbers(which):
@@ -165,7 +167,7 @@ def outcome(arguments, here, stdin, environ):
     ask = Asked(None, "--json" if "--json" in arguments else None, None, None)
     try:
         ask = asked(arguments)
-        if ask.word == "numbers":
+        if ask.verb == "numbers":
             return told_numbers(ask.name)
         name = "standard input" if ask.name is None else clean(ask.name)
         data = files.read(ask.name, stdin)
@@ -174,7 +176,7 @@ def outcome(arguments, here, stdin, environ):
         read = paper.read(data, name, ask.name)
         if read.faults.count:
             return faulty(ask, read)
-        if ask.word == "check":
+        if ask.verb == "check":
             return checked(ask, read)
         return Outcome(0, stream.to_bytes(read.calls)) if ask.form == "--bytes" else ran(ask, read, here, environ)
     except Usage as e:

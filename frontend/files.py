@@ -9,6 +9,7 @@ MOST_LINE = 4096  # characters of a line
 MARK = b"\xef\xbb\xbf"  # a byte order mark
 # control characters but tabs, separators of lines and paragraphs, marks that turn the direction of writing
 UNPRINTED = re.compile("[\x00-\x08\x0a-\x1f\x7f-\x9f\u2028\u2029\u202a-\u202e\u2066-\u2069]")
+STREAM = "a paper is text; a stream of commands is read with --from-bytes"
 
 
 class Unreadable(Exception):
@@ -58,8 +59,6 @@ def decoded(line):
         return text, (MOST_LINE + 1, 1, f"a line has at most {MOST_LINE} characters, not {len(text)}", None)
     found = UNPRINTED.search(text)
     if found:
-        return text, (found.start() + 1, 1, f"a character that is not printed: U+{ord(found.group()):04X}", STREAM)
+        code = ord(found.group())
+        return text, (found.start() + 1, 1, f"a character that is not printed: U+{code:04X}", STREAM if code < 9 else None)
     return text, None
-
-
-STREAM = "a paper is text; a stream of commands is read with --from-bytes"

@@ -145,11 +145,10 @@ def number_lines(row):
 def people(answers):
     """The default form."""
     texts = answers.paper.texts
-    head = "  ".join([texts["title"]] * bool(texts.get("title")) + [f"({texts['id']})"] * bool(texts.get("id")))
+    head = "  ".join(filter(None, (texts.get("title"), f"({texts['id']})" if "id" in texts else None)))
     todo = advice(answers)
-    parts = [head] * bool(head) + ["\n".join(table(answers))] * bool(answers.steps)
-    parts += ["\n".join(["What to do:"] + todo)] * bool(todo) + [keys(answers)] * bool(answers.overlays) + [summary(answers)]
-    return "\n\n".join(parts) + "\n"
+    parts = [head, "\n".join(table(answers)) if answers.steps else "", "\n".join(["What to do:"] + todo) if todo else ""]
+    return "\n\n".join(filter(None, parts + [keys(answers), summary(answers)])) + "\n"
 
 
 def only_key(answers):
