@@ -115,7 +115,8 @@ def faulty(ask, read):
     faults = read.faults
     if ask.form == "--json":
         return Outcome(faults.status, forms.errors_json(faults.kept, faults.count, faults.status).encode())
-    return Outcome(faults.status, b"", listed(faults, f"{plural(faults.count, 'error')}; nothing was run"))
+    rest = "" if read.whole else ", the rest was not read"
+    return Outcome(faults.status, b"", listed(faults, f"{plural(faults.count, 'error')}{rest}; nothing was run"))
 
 
 def program_of(ask, here, environ):

@@ -69,7 +69,7 @@ def trouble(status, said, length):
     """Why a run did not end well, or None."""
     if length > MOST_LOG:
         return f"the log is longer than {MOST_LOG} bytes"
-    words = f"; it said: {said.decode('utf-8', 'replace').strip()}" if said else ""
+    words = f"; it said: {' '.join(said.decode('utf-8', 'replace').split())}" if said else ""
     if status < 0:
         try:
             name = signal.Signals(-status).name

@@ -1,11 +1,15 @@
 """Faults: where they stand, what is wrong, and how they are shown. At most LIMIT are kept, the others are counted."""
 
+import re
 import unicodedata
 from collections import namedtuple
 
 LIMIT = 20
+ENOUGH = 1000  # faults of a paper, after which nothing more is read
 WINDOW = 100  # the most characters of a line that are shown
 WRONG, UNMET, FAILED = 2, 3, 4  # exit statuses
+# control characters but tabs, separators of lines and paragraphs, marks that turn the direction of writing
+UNPRINTED = re.compile("[\x00-\x08\x0a-\x1f\x7f-\x9f\u2028\u2029\u202a-\u202e\u2066-\u2069]")
 
 # line, column, length and text are None for a fault of a whole file; length is how many characters have a caret
 Fault = namedtuple("Fault", "file line column length message text hint", defaults=(None,))
@@ -13,7 +17,7 @@ Fault = namedtuple("Fault", "file line column length message text hint", default
 
 def of_file(file, message, hint=None):
     """A fault that stands in no line."""
-    return Fault(clean(file), None, None, None, message, None, hint)
+    return Fault(clean(file), None, None, None, clean(message), None, hint)
 
 
 class Faults:
@@ -32,9 +36,8 @@ class Faults:
 
 
 def clean(text):
-    """Text that can be printed: what is no character of UTF-8, and control characters but tabs, become U+FFFD."""
-    text = text.encode("utf-8", "surrogateescape").decode("utf-8", "replace")
-    return "".join(c if c == "\t" or unicodedata.category(c) not in ("Cc", "Zl", "Zp") else "\ufffd" for c in text)
+    """Text that can be printed: what is no character of UTF-8, and what is not printed, become U+FFFD."""
+    return UNPRINTED.sub("\ufffd", text.encode("utf-8", "surrogateescape").decode("utf-8", "replace"))
 
 
 def short(text, most=40):

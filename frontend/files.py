@@ -2,13 +2,12 @@
 
 import io
 import os
-import re
 
-MOST_BYTES = 16 * 2**20
+from .faults import UNPRINTED
+
+MOST_BYTES = 8 * 2**20
 MOST_LINE = 4096  # characters of a line
 MARK = b"\xef\xbb\xbf"  # a byte order mark
-# control characters but tabs, separators of lines and paragraphs, marks that turn the direction of writing
-UNPRINTED = re.compile("[\x00-\x08\x0a-\x1f\x7f-\x9f\u2028\u2029\u202a-\u202e\u2066-\u2069]")
 STREAM = "a paper is text; a stream of commands is read with --from-bytes"
 
 
@@ -39,13 +38,14 @@ def beside(paper, name):
 
 
 def lines(data):
-    """Number, text and fault of each line of a text. The fault is None, or column, length, message and hint of the first."""
+    """Number, text and fault of each line that is not empty. The fault is None, or column, length, message and hint of the first."""
     if data.startswith((b"\xff\xfe", b"\xfe\xff")):
         yield 1, data[:40].decode("utf-8", "replace"), (1, 1, "not UTF-8 text", "it begins as UTF-16 does: save it as UTF-8")
         return
     for number, line in enumerate(io.BytesIO(data[len(MARK) :] if data.startswith(MARK) else data), 1):
         line = line[:-2] if line.endswith(b"\r\n") else line[:-1] if line.endswith(b"\n") else line
-        yield (number, *decoded(line))
+        if line:
+            yield (number, *decoded(line))
 
 
 def decoded(line):

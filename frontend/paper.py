@@ -5,9 +5,9 @@ import re
 from collections import namedtuple
 
 from . import commands, files
-from .faults import FAILED, WRONG, Fault, Faults, clean, short
+from .faults import ENOUGH, FAILED, WRONG, Fault, Faults, clean, short
 
-MOST_COMMANDS = 250000
+MOST_COMMANDS = 100000
 BLANKS = " \t"
 TOKEN = re.compile(r'#|"[^"]*"?|[^ \t"#]+')
 POINT = re.compile(r"(\(?)([^,()]*),([^,()]*)(\)?)")
@@ -34,6 +34,7 @@ class Paper:
         self.calls = []
         self.expected = []
         self.faults = Faults()
+        self.whole = True  # it was read to its end
 
 
 class Stop(Exception):
@@ -47,7 +48,7 @@ def read(data, name, path=None):
         for number, text, fault in files.lines(data):
             reader.line(number, text, fault)
     except Stop:
-        pass
+        reader.paper.whole = False
     return reader.paper
 
 
@@ -59,6 +60,8 @@ class Place:
 
     def fault(self, column, length, message, hint=None, status=WRONG):
         self.faults.add(Fault(self.file, self.number, column, max(1, length), message, self.text, hint), status)
+        if self.faults.count == ENOUGH:
+            raise Stop
 
     def at(self, token, message, hint=None, status=WRONG):
         self.fault(token.column, len(token.text), message, hint, status)

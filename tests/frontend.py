@@ -249,6 +249,7 @@ def test_messages():
         count("kinds of faults")
     come = run(given=b"x\n" * 33)
     same("20 of 33 faults", (come.err.count("error:"), come.err.split("\n")[-3:]), (20, ["and 13 more", "33 errors; nothing was run", ""]))
+    same("enough faults", run(given=b"x\n" * 5000).err.split("\n")[-2], "1000 errors, the rest was not read; nothing was run")
     same("13 more", json.loads(run("--json", given=b"x\n" * 33).out)["more"], 13)
     same("wide characters", run(given="locate 港 0,0 深 ".encode()).err.split("\n")[2], "      |        ^")
 
@@ -306,6 +307,8 @@ def test_statuses(folder):
         ("a stream that is whole", 0, b"\7", ["--from-bytes"]),
         ("no path can be so", 4, b"", ["a\0b"]),
         ("a name that is not UTF-8", 4, b"", ["\udcff.txt"]),
+        ("a program that is not UTF-8", 4, b"", ["--engine", "\udcff"]),
+        ("an option that is not UTF-8", 2, b"", ["--\udcff\x1b"]),
     ]
     for what, status, given, arguments in cases:
         for form in ([], ["--json"]) if not {"--csv", "--from-bytes", "numbers", "--sheet"} & set(arguments) else ([],):
@@ -327,7 +330,7 @@ def test_statuses(folder):
 
 def hostile(data, what, with_engine=False):
     try:
-        for arguments in (["check"], ["check", "--json"], ["--from-bytes"]) + ((["--json"],) if with_engine else ()):
+        for arguments in (["check", "--json"], ["--from-bytes"]) + ((["check"], ["--json"], []) if with_engine else ()):
             run(*arguments, given=data)
         count("hostile inputs")
     except Exception as e:
@@ -348,13 +351,25 @@ def test_hostile(draw):
         for k in range(250):
             at = draw.randrange(len(text))
             hostile(text[:at] + bytes([draw.randrange(256)]) + text[at + 1 :], "a byte changed", k < 8)
-    for data in (b"(" * 10**6, b"a " * 10**6, b'"' * 10**6, b"\n" * 10**6, b"," * 10**6, b"\0" * 10**6, b"\xf0" * 10**6, b"9" * 10**6):
-        hostile(data, "a megabyte")
+    for data in (b"(", b"a ", b'"', b",", b"\0", b"\xf0", b"9"):
+        hostile(data * 10**6, "a megabyte")
+    hostile(b"\n" * 10**5, "empty lines")
+
+
+def test_limits(folder):
     same("too long a paper", run(given=b"\n" * (files.MOST_BYTES + 1)).status, 4)
-    most = paper.MOST_COMMANDS
-    same("too many commands", run("check", given=b"overlay\n" * (most + 1)).status, 2)
-    same("as many commands as there may be", run("check", given=b"overlay\n" * most).status, 0)
-    same("too long a stream", run("--from-bytes", given=b"\7" * (most + 1)).status, 2)
+    most, paper.MOST_COMMANDS = paper.MOST_COMMANDS, 1000
+    try:
+        same("too many commands", run("check", given=b"overlay\n" * 1001).status, 2)
+        same("as many commands as there may be", run("check", given=b"overlay\n" * 1000).status, 0)
+        same("too long a stream", run("--from-bytes", given=b"\7" * 1001).status, 2)
+        same("as long a stream as there may be", run("--from-bytes", given=b"\7" * 1000).status, 0)
+        with open(os.path.join(folder, "ten.csv"), "wb") as f:
+            f.write(b"0,0,5,0,0,5\n" * 10)
+        come = run("check", "--json", given=b'triangles "%s"\n' % os.path.join(folder, "ten.csv").encode() * 10**4)
+        same("too many by tables", [e["line"] for e in json.loads(come.out)["errors"]], [101])
+    finally:
+        paper.MOST_COMMANDS = most
 
 
 # ---- round trips
@@ -509,9 +524,9 @@ def test_programs(folder):
     same("a log of another paper", run(given=b"overlay\n", program=sham(folder, good)).status, 4)
     unread = sham(folder, "sys.stdout.write('overlay log\\n')")
     same("a program that reads nothing", run(given=b"triangle 0,0 5,0 0,5\n" * 512, program=unread).status, 0)
-    same("a long stream that is not read", run(given=b"overlay\n" * 200000, program=unread).status, 4)
-    come = run(given=b"overlay\n" * 30000)
-    same("a long paper", (come.status, come.out.split(b"\n")[-2]), (0, b"30000 overlays, 0 pairs; nothing refused"))
+    same("a long stream that is not read", run(given=b"overlay\n" * 100000, program=unread).status, 4)
+    come = run(given=b"overlay\n" * 20000)
+    same("a long paper", (come.status, come.out.split(b"\n")[-2]), (0, b"20000 overlays, 0 pairs; nothing refused"))
 
 
 # ---- processes
@@ -586,14 +601,14 @@ def test_help():
 
 def test_words():
     """The words of the numbers stand in frontend/numbers.py alone; crates/ and CLAIMS.md quote document 01, and stored answers are answers."""
-    listed = subprocess.run(["git", "ls-files", "-co", "--exclude-standard"], cwd=ROOT, stdout=subprocess.PIPE, check=True).stdout.decode().split("\n")
+    listed = [os.path.relpath(os.path.join(at, n), ROOT) for at, _, names in os.walk(ROOT) for n in names]
     parts = [p.strip(" ;(") for row in numbers.NUMBERS for text in (row.says, row.todo) for p in re.split(r"\{.\}", text)]
     parts = [p for p in parts if len(p) > 14]
     same("enough words", len(parts) >= 2 * len(numbers.NUMBERS) - 4, True)
     for name in listed:
-        if name in ("", "frontend/numbers.py", "docs/CLAIMS.md") or re.match(r"crates/|examples/.*(?<!\.txt)$", name):
+        if name in ("frontend/numbers.py", "docs/CLAIMS.md") or re.match(r"crates/|\.git/|target/|.*\.pyc$|examples/.*(?<!\.txt)$", name):
             continue
-        text = read(os.path.join(ROOT, name)).decode("utf-8", "replace") if os.path.isfile(os.path.join(ROOT, name)) else ""
+        text = read(os.path.join(ROOT, name)).decode("utf-8", "replace")
         for part in parts:
             if part in " ".join(text.split()):
                 fault(f"{name} repeats the words of a number: {part}")
@@ -647,6 +662,7 @@ def main():
             test_tables_of_triangles(folder)
             test_statuses(folder)
             test_hostile(draw)
+            test_limits(folder)
             test_round_trips(draw)
             test_wrong_logs(folder, draw)
             test_programs(folder)
