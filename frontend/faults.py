@@ -68,7 +68,8 @@ def rendered(fault):
     gutter = f"{fault.line:>5}"
     margin = " " * len(gutter)
     text, before, carets = window(fault)
-    lines = [f"{fault.file}:{fault.line}:{fault.column}: error: {fault.message}", f"{gutter} | {text}", f"{margin} | {blanks(before)}{carets}"]
+    head = f"{fault.file}:{fault.line}:{fault.column}: error: {fault.message}"
+    lines = [head, f"{gutter} | {text}", f"{margin} | {blanks(before)}{carets}"]
     return "\n".join(lines + ([f"{margin} = {fault.hint}"] if fault.hint else [])) + "\n"
 
 

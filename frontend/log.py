@@ -64,7 +64,8 @@ class Reader:
         """The numbers of the next line."""
         line = self.next(of)
         if not LINE.fullmatch(line):
-            raise self.misfit(f"{'the program calls the stream bad' if line.startswith(b'bad ') else 'no line of numbers'}, where {of} belongs")
+            what = "the program calls the stream bad" if line.startswith(b"bad ") else "no line of numbers"
+            raise self.misfit(f"{what}, where {of} belongs")
         return [int(word) for word in line.split(b" ")]
 
     def step(self, call):

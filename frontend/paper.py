@@ -67,19 +67,30 @@ class Place:
         self.fault(token.column, len(token.text), message, hint, status)
 
 
-def close(word, words):
+def words(text):
+    """The words of a line, up to its comment."""
+    tokens = []
+    for found in TOKEN.finditer(text):
+        if found.group() == "#":
+            break
+        tokens.append(Token(found.group(), found.start() + 1))
+    return tokens
+
+
+def close(word, known):
     """A hint where a known word is like this one."""
-    found = difflib.get_close_matches(word.lower(), words, 1) if len(word) <= 30 else []
+    found = difflib.get_close_matches(word.lower(), known, 1) if len(word) <= 30 else []
     return f"did you mean `{found[0]}`?" if found else None
 
 
-def number(place, token, what, most=commands.MOST):
-    """The number of a token, or None after a fault."""
+def number(place, token, what, most=commands.MOST, hint=None):
+    """The number of a token, or None after a fault; the hint is for one that is missing."""
     text = token.text
-    if re.fullmatch(r"[0-9]+", text) and len(text.lstrip("0")) <= 10 and int(text.lstrip("0") or "0") <= most:
-        return int(text.lstrip("0") or "0")
+    digits = text.lstrip("0") or "0"
+    if re.fullmatch(r"[0-9]+", text) and len(digits) <= 10 and int(digits) <= most:
+        return int(digits)
     if not text:
-        place.fault(token.column, 1, f"{what} is missing", "a point is x,y without a blank")
+        place.fault(token.column, 1, f"{what} is missing", hint)
     elif re.fullmatch(r"[-+]?[0-9]+", text):
         place.at(token, f"{what} is 0 to {most}, not {short(text)}")
     else:
@@ -90,10 +101,10 @@ def number(place, token, what, most=commands.MOST):
 def point(place, token, what):
     """The point of a token, or None after a fault."""
     found = POINT.fullmatch(token.text)
+    hint = "a point is x,y or (x,y) without a blank"
     if not found or bool(found.group(1)) != bool(found.group(4)):
-        place.at(token, f"`{short(token.text)}` is no point", "a point is x,y or (x,y) without a blank")
-        return None
-    both = [number(place, Token(found.group(k), token.column + found.start(k)), what) for k in (2, 3)]
+        return place.at(token, f"`{short(token.text)}` is no point", hint)
+    both = [number(place, Token(found.group(k), token.column + found.start(k)), what, hint=hint) for k in (2, 3)]
     return None if None in both else tuple(both)
 
 
@@ -147,16 +158,11 @@ class Reader:
         if fault:
             self.group = False
             return place.fault(*fault)
-        tokens = []
-        for found in TOKEN.finditer(text):
-            if found.group() == "#":
-                break
-            tokens.append(Token(found.group(), found.start() + 1))
-        if tokens:
-            self.command(place, tokens)
+        tokens = words(text)
+        return self.command(place, tokens) if tokens else None
 
     def command(self, place, tokens):
-        head, rest = tokens[0], tokens[1:]
+        head = tokens[0]
         row = commands.by_word(head.text)
         if row:
             self.group = False
@@ -167,8 +173,8 @@ class Reader:
             getattr(self, head.text)(place, tokens)
         else:
             self.group = False
-            words = [row.word for row in commands.COMMANDS] + list(LINES)
-            place.at(head, f"unknown command `{short(head.text)}`", close(head.text, words))
+            known = [row.word for row in commands.COMMANDS] + list(LINES)
+            place.at(head, f"unknown command `{short(head.text)}`", close(head.text, known))
 
     def fits(self, place, tokens, count, form):
         """Whether as many words follow the first as are wanted."""
@@ -214,7 +220,7 @@ class Reader:
         if self.fits(place, tokens, 1, LINES[tokens[0].text]):
             self.paper.texts[tokens[0].text] = quoted(place, tokens[1])
 
-    id = title
+    id = title  # the same but for its word
 
     def question(self, place, tokens):
         self.once(place, tokens[0])
@@ -233,16 +239,19 @@ class Reader:
 
     def table(self, place, token, name):
         """Values and place of each line of a file of triangles, or None after faults."""
+        path = files.beside(self.path, name)
         try:
-            data = files.read(files.beside(self.path, name), None)
+            data = files.read(path, None)
         except files.Unreadable as e:
             return place.at(token, f"{short(name)}: {e}", status=FAILED)
         before = self.faults.count
         rows = []
         for line_number, text, fault in files.lines(data):
-            values = table_row(Place(self.faults, clean(name), line_number, text), fault)
+            values = table_row(Place(self.faults, clean(path), line_number, text), fault)
             if values:
                 rows.append((values, f"{clean(name)}:{line_number}"))
+            if len(rows) > MOST_COMMANDS:
+                break
         return rows if self.faults.count == before else None
 
     def expect(self, place, tokens):

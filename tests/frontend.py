@@ -132,7 +132,7 @@ SCHEMA = json.loads(read(os.path.join(ROOT, "docs", "chartkey.schema.json")))
 
 
 def test_schema():
-    same("docs/chartkey.schema.json is what the tables make", read(os.path.join(ROOT, "docs", "chartkey.schema.json")).decode(), schema.text())
+    same("docs/chartkey.schema.json is what the tables make", SCHEMA, schema.schema())
     good = json.loads(run("--json", os.path.join(EXAMPLES, "turning-basin.txt")).out)
     step = good["steps"][0]
     for change in ({"line": 0}, {"number": 1}, {"chart": "sea"}, {"entries": None}, {"extra": 1}, {"meaning": "x"}, {"command": "overlay"}):
@@ -262,7 +262,8 @@ def test_tables_of_triangles(folder):
     with open(place, "wb") as f:
         f.write(b'triangles "t.csv"\ntriangles "t.csv"\noverlay x\n')
     found = json.loads(run("check", "--json", place).out)["errors"]
-    want = [("t.csv", 4, 16), ("t.csv", 5, 1), ("t.csv", 6, 1), ("t.csv", 7, 1), ("t.csv", 8, 5), (place, 3, 9)]
+    table = os.path.join(folder, "t.csv")
+    want = [(table, 4, 16), (table, 5, 1), (table, 6, 1), (table, 7, 1), (table, 8, 5), (place, 3, 9)]
     same("faults of a table", [(e["file"], e["line"], e["column"]) for e in found], want)
     same("hint of a heading", [e["hint"] for e in found][3], "a heading starts with #")
     with open(os.path.join(folder, "t.csv"), "wb") as f:
@@ -339,8 +340,9 @@ def hostile(data, what, with_engine=False):
 
 def test_hostile(draw):
     texts = [read(os.path.join(EXAMPLES, n)) for n in sorted(os.listdir(EXAMPLES)) if n.endswith(".txt")]
-    words = [w.encode() for row in commands.COMMANDS for w in [row.word] + [o.letter for o in row.operands]] + [w.encode() for w in paper.LINES]
-    words += [b"bed", b"design", b"0,0", b"(1,2)", b'"', b'"x.csv"', b"#", b"\n", b"\n", b"\n", b"\t", b"\r", b"refused", b"pairs", b"7", b"-", b"99999"]
+    words = [w.encode() for row in commands.COMMANDS for w in [row.word] + [o.letter for o in row.operands]]
+    words += [w.encode() for w in paper.LINES] + [b"refused", b"pairs", b"7", b"-", b"99999", b"bed", b"design", b"0,0", b"(1,2)"]
+    words += [b'"', b'"x.csv"', b"#", b"\n", b"\n", b"\n", b"\t", b"\r"]
     for k in range(400):
         hostile(bytes(draw.randrange(256) for _ in range(draw.randrange(60))), "random bytes", k < 30)
         hostile(b" ".join(draw.choice(words) for _ in range(draw.randrange(40))), "random words", k < 30)
@@ -402,19 +404,25 @@ def told_bad(printed):
     return int(found.group(1)) if found else None
 
 
+def stored():
+    """Name, stream and log of the cases and of the stored streams."""
+    for name, given, wanted in streams.cases(faults):
+        yield name, b"".join(map(streams.command, streams.parts(given))), streams.log(wanted)
+    for name in sorted(n[:-4] for n in os.listdir(VECTORS) if n.endswith(".bin")):
+        yield name, read(os.path.join(VECTORS, name + ".bin")), read(os.path.join(VECTORS, name + ".log"))
+
+
 def test_round_trips(draw):
     for k in range(300):
         round_trip(f"drawn {k}", drawn(draw), None)
-    both = [(name, b"".join(map(streams.command, streams.parts(given))), streams.log(wanted)) for name, given, wanted in streams.cases(faults)]
-    both += [(n, read(os.path.join(VECTORS, n)), read(os.path.join(VECTORS, n[:-4] + ".log"))) for n in sorted(os.listdir(VECTORS)) if n[-4:] == ".bin"]
-    for name, data, printed in both:
+    for name, data, printed in stored():
         round_trip(name, data, told_bad(printed))
         if told_bad(printed) is None:
             come = run("--log", given=run("--from-bytes", given=data).out)
             same(f"{name}: its log", (come.out, come.status < 2), (printed, True))
             run("--json", given=run("--from-bytes", given=data).out)
-    damaged = [(drawn(draw) + draw.choice((b"\0", b"\x08", b"7", b"\x02\x02", b"\x03\1\0\0", b"\1" + 11 * b"x", b"\6\0\1\0\1"))) for _ in range(60)]
-    for data in damaged:
+    ends = (b"\0", b"\x08", b"7", b"\x02\x02", b"\x03\1\0\0", b"\1" + 11 * b"x", b"\6\0\1\0\1")
+    for data in [drawn(draw) + draw.choice(ends) for _ in range(60)]:
         done = subprocess.run(PROGRAM, input=data, stdout=subprocess.PIPE, check=True)
         round_trip(f"damaged {data[-14:]}", data, told_bad(done.stdout))
 
@@ -568,7 +576,8 @@ def test_processes(folder):
 def test_interrupt(folder):
     ready = os.path.join(folder, "ready")
     program = sham(folder, f"open({ready!r}, 'w').close()\ntime.sleep(30)")
-    child = subprocess.Popen([sys.executable, SCRIPT, "--engine", program], stdin=subprocess.PIPE, stdout=subprocess.PIPE, stderr=subprocess.PIPE)
+    pipes = dict.fromkeys(("stdin", "stdout", "stderr"), subprocess.PIPE)
+    child = subprocess.Popen([sys.executable, SCRIPT, "--engine", program], **pipes)
     child.stdin.close()
     for _ in range(200):
         if os.path.exists(ready):
@@ -590,7 +599,7 @@ def test_help():
     text = run("--help").out.decode()
     lines = text.split("\n")[:-1]
     same("help fits a screen", (len(lines) <= 24, max(map(len, lines)) <= 80), (True, True))
-    for word in [commands.form(row) for row in commands.COMMANDS] + list(cli.FORMS) + ["--engine", "check", "numbers", *list(paper.LINES.values())]:
+    for word in [commands.form(row) for row in commands.COMMANDS] + [*cli.FORMS, *cli.VERBS, "--engine", *paper.LINES.values()]:
         if word not in text:
             fault("help does not tell", word)
     same("-h is --help", run("-h", "x", "y").out.decode(), text)
@@ -600,13 +609,13 @@ def test_help():
 
 
 def test_words():
-    """The words of the numbers stand in frontend/numbers.py alone; crates/ and CLAIMS.md quote document 01, and stored answers are answers."""
+    """The words of the numbers stand in frontend/numbers.py alone. Left out: what quotes document 01, and stored answers."""
     listed = [os.path.relpath(os.path.join(at, n), ROOT) for at, _, names in os.walk(ROOT) for n in names]
     parts = [p.strip(" ;(") for row in numbers.NUMBERS for text in (row.says, row.todo) for p in re.split(r"\{.\}", text)]
     parts = [p for p in parts if len(p) > 14]
     same("enough words", len(parts) >= 2 * len(numbers.NUMBERS) - 4, True)
     for name in listed:
-        if name in ("frontend/numbers.py", "docs/CLAIMS.md") or re.match(r"crates/|\.git/|target/|.*\.pyc$|examples/.*(?<!\.txt)$", name):
+        if re.match(r"frontend/numbers\.py|docs/CLAIMS\.md|crates/|\.git/|target/|.*\.pyc$|examples/.*(?<!\.txt)$", name):
             continue
         text = read(os.path.join(ROOT, name)).decode("utf-8", "replace")
         for part in parts:
