@@ -280,19 +280,22 @@ def test_tables_of_triangles(folder):
     same("dropped as expected", (whole["status"], whole["refused"], whole["unexpected"]), (0, 3, 0))
 
 
-def test_statuses(folder):
-    flat = b"triangle 0,0 5,5 9,9\nload bed\n"
-    cases = [
+FLAT = b"triangle 0,0 5,5 9,9\nload bed\n"
+
+
+def status_cases(folder):
+    """A name, the status, what standard input has, and the arguments."""
+    return [
         ("nothing refused", 0, b"overlay\n", []),
         ("an empty paper", 0, b"", []),
         ("line ends of two bytes, a byte order mark, brackets", 0, b"\xef\xbb\xbfload bed # x\r\n\r\n \tlocate bed (1,2)", []),
-        ("foreseen", 0, flat + b"expect refused 5\n", []),
-        ("refused", 1, flat, []),
+        ("foreseen", 0, FLAT + b"expect refused 5\n", []),
+        ("refused", 1, FLAT, []),
         ("wrong paper", 2, b"load", []),
         ("wrong paper, checked", 2, b"load", ["check"]),
-        ("another refusal than foreseen", 3, flat + b"expect refused 11\n", []),
+        ("another refusal than foreseen", 3, FLAT + b"expect refused 11\n", []),
         ("accepted, where refused was foreseen", 3, b"load bed\nexpect refused 5", []),
-        ("not met, and refused", 3, flat + b"overlay\nexpect pairs 1\n", []),
+        ("not met, and refused", 3, FLAT + b"overlay\nexpect pairs 1\n", []),
         ("no such program", 4, b"overlay\n", ["--engine", "/no/such/program"]),
         ("a folder as program", 4, b"overlay\n", ["--engine", folder]),
         ("no such paper", 4, b"", [os.path.join(folder, "none.txt")]),
@@ -311,7 +314,10 @@ def test_statuses(folder):
         ("a program that is not UTF-8", 4, b"", ["--engine", "\udcff"]),
         ("an option that is not UTF-8", 2, b"", ["--\udcff\x1b"]),
     ]
-    for what, status, given, arguments in cases:
+
+
+def test_statuses(folder):
+    for what, status, given, arguments in status_cases(folder):
         for form in ([], ["--json"]) if not {"--csv", "--from-bytes", "numbers", "--sheet"} & set(arguments) else ([],):
             come = run(*form, *arguments, given=given)
             same(what, (come.status, bool(come.err) or form != [] or status < 2), (status, True))
@@ -321,7 +327,7 @@ def test_statuses(folder):
     same("expectations not met", (come.status, come.err), (3, want))
     same("the last line", come.out.decode().split("\n")[-2], "0 pairs; nothing refused; 2 expectations not met")
     for form in ("-q", "--csv", "--log"):
-        come = run(form, given=flat)
+        come = run(form, given=FLAT)
         same(f"a refusal beside {form}", (come.status, come.err.split("\n")[0]),
              (1, f"standard input:2:1: error: refused 5: {numbers.meaning(5, 0, None, 'line 1')}"))
 
