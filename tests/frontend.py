@@ -16,6 +16,8 @@ import signal
 import subprocess
 import sys
 import tempfile
+import time
+import traceback
 
 ROOT = os.path.dirname(os.path.dirname(os.path.abspath(__file__)))
 sys.path.insert(0, ROOT)
@@ -580,22 +582,27 @@ def test_processes(folder):
 
 
 def test_interrupt(folder):
+    """Ctrl-C while the program runs; a shell that starts the test in the background has it ignored, so it is set anew."""
     ready = os.path.join(folder, "ready")
     program = sham(folder, f"open({ready!r}, 'w').close()\ntime.sleep(30)")
     pipes = dict.fromkeys(("stdin", "stdout", "stderr"), subprocess.PIPE)
-    child = subprocess.Popen([sys.executable, SCRIPT, "--engine", program], **pipes)
+    before = signal.signal(signal.SIGINT, signal.default_int_handler)
+    try:
+        child = subprocess.Popen([sys.executable, SCRIPT, "--engine", program], **pipes)
+    finally:
+        signal.signal(signal.SIGINT, before)
     child.stdin.close()
-    for _ in range(200):
-        if os.path.exists(ready):
+    for _ in range(400):
+        if os.path.exists(ready) or child.poll() is not None:
             break
-        try:
-            child.wait(0.05)
-        except subprocess.TimeoutExpired:
-            pass
+        time.sleep(0.05)
     child.send_signal(signal.SIGINT)
-    same("Ctrl-C", (child.wait(10), child.stderr.read()), (130, b""))
-    child.stdout.close()
-    child.stderr.close()
+    try:
+        same("Ctrl-C", (child.wait(10), child.stderr.read()), (130, b""))
+    finally:
+        child.kill()
+        child.stdout.close()
+        child.stderr.close()
 
 
 # ---- help, words, tables
@@ -667,26 +674,27 @@ def test_moved_rows():
         commands.COMMANDS = whole
 
 
+def tests(folder, draw):
+    """Each test with what it is given."""
+    yield test_examples, ()
+    if STORE:
+        return
+    yield from ((test, ()) for test in (test_schema, test_messages, test_help, test_words, test_moved_rows))
+    with_folder = (test_tables_of_triangles, test_statuses, test_limits, test_programs, test_processes, test_interrupt)
+    yield from ((test, (folder,)) for test in with_folder)
+    yield from ((test, (draw,)) for test in (test_hostile, test_round_trips))
+    yield test_wrong_logs, (folder, draw)
+
+
 def main():
-    draw = random.Random(20261116)
     with tempfile.TemporaryDirectory() as folder:
-        test_examples()
-        if not STORE:
-            test_schema()
-            test_messages()
-            test_tables_of_triangles(folder)
-            test_statuses(folder)
-            test_hostile(draw)
-            test_limits(folder)
-            test_round_trips(draw)
-            test_wrong_logs(folder, draw)
-            test_programs(folder)
-            test_processes(folder)
-            test_interrupt(folder)
-            test_help()
-            test_words()
-            test_moved_rows()
-            same("every status was met", statuses, {0, 1, 2, 3, 4})
+        for test, given in tests(folder, random.Random(20261116)):
+            try:
+                test(*given)
+            except Exception:
+                fault(f"{test.__name__} broke off: {traceback.format_exc(limit=-3)}")
+    if not STORE:
+        same("every status was met", statuses, {0, 1, 2, 3, 4})
     print("\n".join(faults) if faults else "chartkey: " + ", ".join(f"{n} {what}" for what, n in counts.items()))
     sys.exit(1 if faults else 0)
 
