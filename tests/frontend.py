@@ -6,12 +6,14 @@ message and a status. `--store` writes the stored forms of examples/ anew, by th
 
 usage: frontend.py [--store] PROGRAM [ARGUMENT ..]"""
 
+import errno
 import io
 import json
 import os
 import random
 import re
 import shlex
+import shutil
 import signal
 import subprocess
 import sys
@@ -212,6 +214,7 @@ KINDS_OF_FAULTS = [
     (b"overlay\nexpect refused 7", [(2, 16, "`overlay` is never refused with 7", "12")]),
     (b"locate bed 1,1\nexpect refused 7", [(2, 8, "`locate` never answers `refused N`", "nowhere")]),
     (b"overlai\nexpect entries 2", [(1, 1, "unknown command", "overlay")]),
+    (b"overlay\nload b\x01ed\nexpect entries 2", [(2, 7, "U+0001", "--from-bytes")]),
     (b"title x", [(1, 7, "between double quotes", '"x"')]),
     (b'title "x', [(1, 7, "does not end", "")]),
     (b'title "', [(1, 7, "does not end", "")]),
@@ -366,6 +369,22 @@ def test_hostile(draw):
     hostile(b"\n" * 10**5, "empty lines")
 
 
+def test_no_permission():
+    """A file that may not be read; every user meets it here, also one who may read all."""
+
+    def refusing(path, mode):
+        raise PermissionError(errno.EACCES, os.strerror(errno.EACCES), path)
+
+    files.open = refusing
+    try:
+        for form in ([], ["--json"], ["--from-bytes"]):
+            come = run(*form, "paper.txt")
+            same("no permission", (come.status, "Permission denied" in (come.err or come.out.decode())), (4, True))
+        same("no permission for a table", run(given=b'triangles "t.csv"').status, 4)
+    finally:
+        del files.open
+
+
 def test_limits(folder):
     same("too long a paper", run(given=b"\n" * (files.MOST_BYTES + 1)).status, 4)
     most, paper.MOST_COMMANDS = paper.MOST_COMMANDS, 1000
@@ -460,6 +479,8 @@ SHAMS = [
     ("digits of another script", LOG.replace(b"40", "٤٠".encode()), 3, "no line of numbers"),
     ("two blanks", LOG.replace(b"2 0 40", b"2  0 40"), 3, "no line of numbers"),
     ("a leading nought", LOG.replace(b"40", b"040"), 3, "no line of numbers"),
+    ("a leading nought in the command", LOG.replace(b"2 0 40", b"02 0 40"), 3, "no line of numbers"),
+    ("a number of 5,000 digits", LOG.replace(b"40", b"4" * 5000), 3, "no line of numbers"),
     ("line ends of two bytes", LOG.replace(b"\n", b"\r\n"), 1, "does not begin with"),
     ("a number that the command never gives", LOG.replace(b"3 7", b"3 12"), 4, "never refused with 12"),
     ("a number that there is not", LOG.replace(b"3 7", b"3 13"), 4, "never refused with 13"),
@@ -559,14 +580,6 @@ def test_processes(folder):
         same(f"UTF-8 by {locale}", (done.returncode, "≤".encode() in done.stdout), (0, True))
     same("standard input", process("-", given=read(example)).stdout, key)
     same("version", process("--version").stdout.decode(), f"chartkey {VERSION}\n")
-    bare = os.path.join(folder, "bare")
-    os.makedirs(bare)
-    for name in ("chartkey", "frontend"):
-        os.symlink(os.path.join(ROOT, name), os.path.join(bare, name))
-    found = cli.outcome([example], bare, None, {})
-    same("not built", (found.status, "`make run`" in found.err), (4, True))
-    os.symlink(os.path.abspath(PROGRAM[0]), os.path.join(bare, "overlay_log"))
-    same("beside the script", cli.engine.found(bare), [os.path.join(bare, "overlay_log")])
     full = subprocess.run([sys.executable, SCRIPT, "numbers"], stdout=open("/dev/full", "wb"), stderr=subprocess.PIPE)
     same("nothing can be written", (full.returncode, b"cannot write" in full.stderr, b"Trace" in full.stderr), (4, True, False))
     shell = f"{shlex.quote(sys.executable)} {shlex.quote(SCRIPT)}"
@@ -579,6 +592,25 @@ def test_processes(folder):
     many.stdin.close()
     same("a closed pipe", (many.stderr.read(), many.wait()), (b"", 0))
     many.stderr.close()
+
+
+def test_places(folder):
+    """Where the program is looked for, when none is named; a link to the script stands in another folder."""
+    example = os.path.join(EXAMPLES, "turning-basin.txt")
+    bare, link = os.path.join(folder, "bare"), os.path.join(folder, "link")
+    os.makedirs(os.path.join(bare, "target", "bin"))
+    os.symlink(os.path.join(ROOT, "frontend"), os.path.join(bare, "frontend"))
+    shutil.copy(SCRIPT, bare)
+    os.symlink(os.path.join(bare, "chartkey"), link)
+    done = process(example, script=link, environ={cli.VARIABLE: ""})
+    same("not built", (done.returncode, b"`make run`" in done.stderr), (4, True))
+    for place in (os.path.join("target", "bin", "overlay_log"), "overlay_log"):
+        with open(os.path.join(bare, place), "w", encoding="utf-8") as f:
+            f.write(f"#!/bin/sh\nexec {engine()}\n")
+        same(f"{place} may not be run", process(example, script=link, environ={cli.VARIABLE: ""}).returncode, 4)
+        os.chmod(os.path.join(bare, place), 0o755)
+        done = process("--json", example, script=link, environ={cli.VARIABLE: ""})
+        same(f"{place} is found", (done.returncode, json.loads(done.stdout).get("engine")), (0, VERSION))
 
 
 def test_interrupt(folder):
@@ -679,8 +711,9 @@ def tests(folder, draw):
     yield test_examples, ()
     if STORE:
         return
-    yield from ((test, ()) for test in (test_schema, test_messages, test_help, test_words, test_moved_rows))
-    with_folder = (test_tables_of_triangles, test_statuses, test_limits, test_programs, test_processes, test_interrupt)
+    yield from ((test, ()) for test in (test_schema, test_messages, test_no_permission, test_help, test_words, test_moved_rows))
+    with_folder = (test_tables_of_triangles, test_statuses, test_limits, test_programs, test_processes)
+    with_folder += (test_places, test_interrupt)
     yield from ((test, (folder,)) for test in with_folder)
     yield from ((test, (draw,)) for test in (test_hostile, test_round_trips))
     yield test_wrong_logs, (folder, draw)
