@@ -720,6 +720,8 @@ def tests(folder, draw):
 
 
 def main():
+    if not PROGRAM:
+        sys.exit(__doc__.split("\n")[-1])
     with tempfile.TemporaryDirectory() as folder:
         for test, given in tests(folder, random.Random(20261116)):
             try:
