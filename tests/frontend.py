@@ -1,0 +1,737 @@
+#!/usr/bin/env python3
+"""Holds chartkey to what docs/PAPERS.md says of it: stored keys, exit statuses, messages, forms, schema, round trips, wrong logs.
+
+It draws random bytes, papers with a byte changed and streams from a fixed seed, and fails when chartkey ends with anything but a
+message and a status. `--store` writes the stored forms of examples/ anew, by the program given: look at what changed.
+
+usage: frontend.py [--store] PROGRAM [ARGUMENT ..]"""
+
+import errno
+import io
+import json
+import os
+import random
+import re
+import shlex
+import shutil
+import signal
+import subprocess
+import sys
+import tempfile
+import time
+import traceback
+
+ROOT = os.path.dirname(os.path.dirname(os.path.abspath(__file__)))
+sys.path.insert(0, ROOT)
+from frontend import VERSION, cli, commands, files, forms, log, numbers, paper, schema, stream
+
+sys.path.append(os.path.join(ROOT, "tests"))
+import streams
+
+STORE = sys.argv[1:2] == ["--store"]
+PROGRAM = sys.argv[2:] if STORE else sys.argv[1:]
+EXAMPLES = os.path.join(ROOT, "examples")
+VECTORS = os.path.join(ROOT, "tests", "vectors")
+SCRIPT = os.path.join(ROOT, "chartkey")
+# the form of each kind of stored file
+STORED = {".key": [], ".json": ["--json"], ".csv": ["--csv"], ".log": ["--log"], ".bin": ["--bytes"]}
+PAPERS = 4
+faults = []
+counts = {}
+statuses = set()
+
+
+def fault(*parts):
+    faults.append(" ".join(str(p) if len(str(p)) < 700 else str(p)[:700] + " .." for p in parts))
+
+
+def count(what, n=1):
+    counts[what] = counts.get(what, 0) + n
+
+
+def same(what, got, want):
+    count("comparisons")
+    if got != want:
+        fault(f"{what}:\n  wanted {want!r}\n  got    {got!r}")
+
+
+def read(path):
+    with open(path, "rb") as f:
+        return f.read()
+
+
+def engine():
+    """The program as one word list, wherever chartkey is called."""
+    first = os.path.abspath(PROGRAM[0]) if os.path.exists(PROGRAM[0]) else PROGRAM[0]
+    return shlex.join([first] + PROGRAM[1:])
+
+
+def run(*arguments, given=b"", program=None):
+    """The outcome of a command line inside this process. What it prints as JSON fits the schema."""
+    come = cli.outcome(list(arguments), ROOT, io.BytesIO(given), {cli.VARIABLE: program or engine()})
+    statuses.add(come.status)
+    if not isinstance(come.out, bytes) or come.status not in range(5):
+        fault("no outcome:", arguments, come)
+    come.err.encode("utf-8")
+    if "--json" in arguments:
+        whole = json.loads(come.out)
+        count("JSON outputs")
+        for wrong in misfits(whole, SCHEMA, "output"):
+            fault("schema:", arguments, given[:60], wrong)
+        same("JSON has the status", whole["status"], come.status)
+        same("JSON leaves standard error empty", come.err, "")
+    return come
+
+
+def process(*arguments, given=b"", script=SCRIPT, **more):
+    """chartkey as a process of its own; a traceback is a fault."""
+    environ = {**os.environ, cli.VARIABLE: engine(), **more.pop("environ", {})}
+    done = subprocess.run([sys.executable, script, *arguments], input=given, capture_output=True, env=environ, timeout=60, **more)
+    count("processes")
+    if b"Traceback" in done.stderr or b"Exception" in done.stderr:
+        fault("traceback:", arguments, done.stderr.decode())
+    return done
+
+
+# ---- a validator for the part of JSON Schema that the schema uses
+
+KINDS = {"object": dict, "array": list, "string": str, "integer": int, "null": type(None)}
+
+
+def is_kind(value, kind):
+    return isinstance(value, KINDS[kind]) and not isinstance(value, bool)
+
+
+def misfits(value, shape, where):
+    """What of a value does not fit a schema."""
+    for word, wanted in shape.items():
+        if word == "oneOf":
+            fitting = sum(not list(misfits(value, s, where)) for s in wanted)
+            wrong = fitting != 1 and f"fits {fitting} of the shapes"
+        elif word == "type":
+            wrong = not any(is_kind(value, kind) for kind in ([wanted] if isinstance(wanted, str) else wanted)) and f"is no {wanted}"
+        elif word in ("const", "enum"):
+            wrong = value not in (wanted if word == "enum" else [wanted]) and f"is none of {wanted}"
+        elif word in ("minimum", "maximum"):
+            wrong = is_kind(value, "integer") and (value < wanted if word == "minimum" else value > wanted) and f"beyond {wanted}"
+        elif word in ("minItems", "maxItems"):
+            wrong = isinstance(value, list) and (len(value) < wanted if word == "minItems" else len(value) > wanted) and "its length"
+        elif word == "required":
+            wrong = isinstance(value, dict) and [name for name in wanted if name not in value]
+        elif word == "additionalProperties" and wanted is False:
+            wrong = isinstance(value, dict) and [name for name in value if name not in shape["properties"]]
+        elif word in ("properties", "items"):
+            parts = [(k, value[k], s) for k, s in wanted.items() if k in value] if word == "properties" and isinstance(value, dict) else []
+            parts += [(k, v, wanted) for k, v in enumerate(value)] if word == "items" and isinstance(value, list) else []
+            for k, part, s in parts:
+                yield from misfits(part, s, f"{where}.{k}")
+            wrong = False
+        else:
+            wrong = word not in ("$schema", "title") and f"the validator does not know {word}"
+        if wrong:
+            yield f"{where}: {word}: {wrong}: {str(value)[:200]}"
+
+
+SCHEMA = json.loads(read(os.path.join(ROOT, "docs", "chartkey.schema.json")))
+
+
+def test_schema():
+    same("docs/chartkey.schema.json is what the tables make", SCHEMA, schema.schema())
+    good = json.loads(run("--json", os.path.join(EXAMPLES, "turning-basin.txt")).out)
+    step = good["steps"][0]
+    for change in ({"line": 0}, {"number": 1}, {"chart": "sea"}, {"entries": None}, {"extra": 1}, {"meaning": "x"}, {"command": "overlay"}):
+        if not list(misfits({**good, "steps": [{**step, **change}]}, SCHEMA, "output")):
+            fault("the schema takes a wrong step:", change)
+    for change in ({"status": 2}, {"title": 5}, {"steps": {}}, {"errors": []}):
+        if not list(misfits({**good, **change}, SCHEMA, "output")):
+            fault("the schema takes a wrong answer:", change)
+
+
+# ---- examples
+
+
+def test_examples():
+    names = sorted(n[:-4] for n in os.listdir(EXAMPLES) if n.endswith(".txt"))
+    same("papers in examples/", len(names), PAPERS)
+    for name in names:
+        path = os.path.join(EXAMPLES, name + ".txt")
+        for kind, form in STORED.items():
+            stored = os.path.join(EXAMPLES, name + kind)
+            if kind == ".csv" and name + ".csv" in read(path).decode():
+                continue
+            if kind == ".key" or os.path.exists(stored):
+                come = run(*form, path)
+                if STORE:
+                    with open(stored, "wb") as f:
+                        f.write(come.out)
+                same(f"{name}{kind}", (come.status, come.out, come.err), (0, read(stored), ""))
+                count("stored forms")
+    steps = json.loads(run("--json", os.path.join(EXAMPLES, "every-number.txt")).out)["steps"]
+    same("numbers that a paper can meet", sorted({s["number"] for s in steps}), [0] + list(range(4, 13)))
+    same("most triangles", max(s.get("triangles", 0) for s in steps), 512)
+
+
+# ---- messages and statuses
+
+BAD = b"""triangel 0,0 5,0 0,5
+triangle 0,0 70000,0 0,5
+\ttriangle 0,0\t5,-1 0,5
+"""
+BAD_TOLD = """standard input:1:1: error: unknown command `triangel`
+    1 | triangel 0,0 5,0 0,5
+      | ^^^^^^^^
+      = did you mean `triangle`?
+standard input:2:14: error: a coordinate is 0 to 65535, not 70000
+    2 | triangle 0,0 70000,0 0,5
+      |              ^^^^^
+standard input:3:17: error: a coordinate is 0 to 65535, not -1
+    3 | \ttriangle 0,0\t5,-1 0,5
+      | \t            \t  ^^
+3 errors; nothing was run
+"""
+# a paper, and line, column, a part of the message and a part of the hint of each of its faults
+KINDS_OF_FAULTS = [
+    (b"overlay x", [(1, 9, "`x` is too much here", "written `overlay`")]),
+    (b"load", [(1, 5, "`load` ends too early: CHART is missing", "written `load CHART`")]),
+    (b"load sea", [(1, 6, "`sea` is no chart", "bed and design")]),
+    (b"load Bed", [(1, 6, "`Bed` is no chart", "did you mean `bed`?")]),
+    (b"OVERLAY", [(1, 1, "unknown command `OVERLAY`", "did you mean `overlay`?")]),
+    (b"split bed 0 in 5,5", [(1, 13, "`at` belongs here, not `in`", "")]),
+    (b"split bed x at 5;5", [(1, 11, "a triangle's number is a whole number, not `x`", ""), (1, 16, "`5;5` is no point", "x,y")]),
+    (b"locate bed (5,5", [(1, 12, "`(5,5` is no point", "x,y")]),
+    (b"locate bed 5, 5", [(1, 14, "a coordinate is missing", "without a blank")]),
+    (b"locate bed (5,1.5)", [(1, 15, "a coordinate is a whole number, not `1.5`", "")]),
+    ("locate bed ５,٥".encode(), [(1, 12, "a whole number, not `５`", ""), (1, 14, "a whole number, not `٥`", "")]),
+    (b"locate bed 1_0,0x5", [(1, 12, "a whole number", ""), (1, 16, "a whole number", "")]),
+    (b"flip bed 65536 0", [(1, 10, "a triangle's number is 0 to 65535, not 65536", "")]),
+    (b"flip bed " + 9 * b"123456789" + b" 0", [(1, 10, "not 12345678912345678912345678912345678912..", "")]),
+    (b"expect accepted", [(1, 1, "no command stands above it", "")]),
+    (b"overlay\nexpect", [(2, 7, "ANSWER is missing", "written")]),
+    (b"overlay\nexpect pair 2", [(2, 8, "unknown answer `pair`", "`pairs`")]),
+    (b"overlay\nexpect zebra", [(2, 8, "unknown answer `zebra`", "accepted | refused N")]),
+    (b"overlay\nexpect pairs", [(2, 13, "N is missing", "expect pairs N")]),
+    (b"overlay\nexpect entries 2", [(2, 8, "`overlay` never answers `entries N`", "pairs N, meetings N")]),
+    (b"overlay\nexpect refused 7", [(2, 16, "`overlay` is never refused with 7", "12")]),
+    (b"locate bed 1,1\nexpect refused 7", [(2, 8, "`locate` never answers `refused N`", "nowhere")]),
+    (b"overlai\nexpect entries 2", [(1, 1, "unknown command", "overlay")]),
+    (b"overlay\nload b\x01ed\nexpect entries 2", [(2, 7, "U+0001", "--from-bytes")]),
+    (b"title x", [(1, 7, "between double quotes", '"x"')]),
+    (b'title "x', [(1, 7, "does not end", "")]),
+    (b'title "', [(1, 7, "does not end", "")]),
+    (b'title " "', [(1, 7, "empty", "")]),
+    (b'title "a"\nid "b"\ntitle "c"', [(3, 1, "a second `title`; the first is in line 1", "")]),
+    (b"question\nquestion", [(2, 1, "a second `question`; the first is in line 1", "")]),
+    (b'triangles "no such file.csv"', [(1, 11, "no such file.csv: cannot read it: No such file", "")]),
+    (b'triangles "."', [(1, 11, "cannot read it", "")]),
+    (b"triangles x.csv", [(1, 11, "between double quotes", '"x.csv"')]),
+    (b"overlay\xff", [(1, 8, "not UTF-8 text: byte FF", "--from-bytes")]),
+    (b"title \"\xc3", [(1, 8, "not UTF-8 text: byte C3", "--from-bytes")]),
+    (b"\xff\xfeo\0v\0", [(1, 1, "not UTF-8 text", "UTF-16")]),
+    (b"over\0lay", [(1, 5, "U+0000", "--from-bytes")]),
+    (b"overlay\rload bed", [(1, 8, "U+000D", "")]),
+    (b"# \x1b[2J", [(1, 3, "U+001B", "")]),
+    ("title \"a\u2028b\"".encode(), [(1, 9, "U+2028", "")]),
+    (b"# " + 10**6 * b"x", [(1, 4097, "at most 4096 characters, not 1000002", "")]),
+    ("# é\nlocate béd 0,0".encode(), [(2, 8, "`béd` is no chart", "`bed`")]),
+]
+
+
+def test_messages():
+    come = run(given=BAD)
+    same("three faults", (come.status, come.out, come.err), (2, b"", BAD_TOLD))
+    for given, wanted in KINDS_OF_FAULTS:
+        come = run("--json", given=given)
+        found = json.loads(come.out)["errors"]
+        same(f"places of {given[:60]}", [(e["line"], e["column"]) for e in found], [w[:2] for w in wanted])
+        for e, (_, _, message, hint) in zip(found, wanted):
+            if message not in e["message"] or hint not in (e["hint"] or "") or (e["hint"] and not hint):
+                fault("message of", given[:60], e)
+        told = run(given=given)
+        same(f"places as text of {given[:60]}", [m for m in re.findall(r"^standard input:(\d+):(\d+): error: ", told.err, re.M)],
+             [(str(line), str(column)) for line, column, _, _ in wanted])
+        if max(map(len, told.err.split("\n"))) > 200:
+            fault("a line of a message is too long:", given[:60])
+        count("kinds of faults")
+    come = run(given=b"x\n" * 33)
+    same("20 of 33 faults", (come.err.count("error:"), come.err.split("\n")[-3:]), (20, ["and 13 more", "33 errors; nothing was run", ""]))
+    same("enough faults", run(given=b"x\n" * 5000).err.split("\n")[-2], "1000 errors, the rest was not read; nothing was run")
+    same("13 more", json.loads(run("--json", given=b"x\n" * 33).out)["more"], 13)
+    same("wide characters", run(given="locate 港 0,0 深 ".encode()).err.split("\n")[2], "      |        ^")
+
+
+def test_tables_of_triangles(folder):
+    """Faults of a file of triangles have its own name; it is found beside the paper."""
+    with open(os.path.join(folder, "t.csv"), "wb") as f:
+        f.write(b"\xef\xbb\xbf0,0,5,0,0,5\r\n\n# none\n 1 , 2 ,3\t,4,5,99999 # x\n1,2,3\n,,,,,\na,b,c,d,e,f\n1,2,,4,5,6\n")
+    place = os.path.join(folder, "p.txt")
+    with open(place, "wb") as f:
+        f.write(b'triangles "t.csv"\ntriangles "t.csv"\noverlay x\n')
+    found = json.loads(run("check", "--json", place).out)["errors"]
+    table = os.path.join(folder, "t.csv")
+    want = [(table, 4, 16), (table, 5, 1), (table, 6, 1), (table, 7, 1), (table, 8, 5), (place, 3, 9)]
+    same("faults of a table", [(e["file"], e["line"], e["column"]) for e in found], want)
+    same("hint of a heading", [e["hint"] for e in found][3], "a heading starts with #")
+    with open(os.path.join(folder, "t.csv"), "wb") as f:
+        f.write(b"0,0,0,5,5,0\n" * 2 + b"\n")
+    with open(place, "wb") as f:
+        f.write(b'triangles "t.csv"\nexpect accepted\nload bed')
+    come = run(place)
+    same("where the faulty triangle is written", (come.status, "(t.csv:1)" in come.out.decode()), (1, True))
+    with open(place, "wb") as f:
+        f.write(b'triangles "t.csv"\n' * 257 + b"expect refused 4\nload bed\nexpect refused 5\n")
+    whole = json.loads(run("--json", place).out)
+    same("dropped triangles", [(s["line"], s.get("from"), s["number"]) for s in whole["steps"]],
+         [(257, "t.csv:1", 4), (257, "t.csv:2", 4), (258 + 1, None, 5)])
+    same("dropped as expected", (whole["status"], whole["refused"], whole["unexpected"]), (0, 3, 0))
+
+
+FLAT = b"triangle 0,0 5,5 9,9\nload bed\n"
+
+
+def status_cases(folder):
+    """A name, the status, what standard input has, and the arguments."""
+    return [
+        ("nothing refused", 0, b"overlay\n", []),
+        ("an empty paper", 0, b"", []),
+        ("line ends of two bytes, a byte order mark, brackets", 0, b"\xef\xbb\xbfload bed # x\r\n\r\n \tlocate bed (1,2)", []),
+        ("foreseen", 0, FLAT + b"expect refused 5\n", []),
+        ("refused", 1, FLAT, []),
+        ("wrong paper", 2, b"load", []),
+        ("wrong paper, checked", 2, b"load", ["check"]),
+        ("another refusal than foreseen", 3, FLAT + b"expect refused 11\n", []),
+        ("accepted, where refused was foreseen", 3, b"load bed\nexpect refused 5", []),
+        ("not met, and refused", 3, FLAT + b"overlay\nexpect pairs 1\n", []),
+        ("no such program", 4, b"overlay\n", ["--engine", "/no/such/program"]),
+        ("a folder as program", 4, b"overlay\n", ["--engine", folder]),
+        ("no such paper", 4, b"", [os.path.join(folder, "none.txt")]),
+        ("a folder as paper", 4, b"", [folder]),
+        ("a missing table beside a fault", 4, b'triangles "none.csv"\nload', []),
+        ("unknown option", 2, b"", ["--sheet"]),
+        ("two forms", 2, b"", ["--csv", "--log"]),
+        ("two papers", 2, b"", ["a", "b"]),
+        ("no program", 2, b"", ["--engine"]),
+        ("half a program", 2, b"", ["--engine", "'a"]),
+        ("no such number", 2, b"", ["numbers", "99"]),
+        ("a form that `check` has not", 2, b"", ["check", "--csv"]),
+        ("a stream that is whole", 0, b"\7", ["--from-bytes"]),
+        ("no path can be so", 4, b"", ["a\0b"]),
+        ("a name that is not UTF-8", 4, b"", ["\udcff.txt"]),
+        ("a program that is not UTF-8", 4, b"", ["--engine", "\udcff"]),
+        ("an option that is not UTF-8", 2, b"", ["--\udcff\x1b"]),
+    ]
+
+
+def test_statuses(folder):
+    for what, status, given, arguments in status_cases(folder):
+        for form in ([], ["--json"]) if not {"--csv", "--from-bytes", "numbers", "--sheet"} & set(arguments) else ([],):
+            come = run(*form, *arguments, given=given)
+            same(what, (come.status, bool(come.err) or form != [] or status < 2), (status, True))
+    come = run(given=b" overlay\n expect pairs 1 # no\nexpect meetings 1\nlocate bed 1,1\nexpect triangle 7\n")
+    want = "standard input:2:2: error: expected pairs 1, found pairs 0\n    2 |  expect pairs 1 # no\n      |  ^^^^^^^^^^^^^^\n"
+    want += "standard input:5:1: error: expected triangle 7, found nowhere\n    5 | expect triangle 7\n      | ^^^^^^^^^^^^^^^^^\n"
+    same("expectations not met", (come.status, come.err), (3, want))
+    same("the last line", come.out.decode().split("\n")[-2], "0 pairs; nothing refused; 2 expectations not met")
+    for form in ("-q", "--csv", "--log"):
+        come = run(form, given=FLAT)
+        same(f"a refusal beside {form}", (come.status, come.err.split("\n")[0]),
+             (1, f"standard input:2:1: error: refused 5: {numbers.meaning(5, 0, None, 'line 1')}"))
+
+
+# ---- hostile bytes
+
+
+def hostile(data, what, with_engine=False):
+    try:
+        for arguments in (["check", "--json"], ["--from-bytes"]) + ((["check"], ["--json"], []) if with_engine else ()):
+            run(*arguments, given=data)
+        count("hostile inputs")
+    except Exception as e:
+        fault(f"{what}: {type(e).__name__}: {e}: {data[:80]}")
+
+
+def test_hostile(draw):
+    texts = [read(os.path.join(EXAMPLES, n)) for n in sorted(os.listdir(EXAMPLES)) if n.endswith(".txt")]
+    words = [w.encode() for row in commands.COMMANDS for w in [row.word] + [o.letter for o in row.operands]]
+    words += [w.encode() for w in paper.LINES] + [b"refused", b"pairs", b"7", b"-", b"99999", b"bed", b"design", b"0,0", b"(1,2)"]
+    words += [b'"', b'"x.csv"', b"#", b"\n", b"\n", b"\n", b"\t", b"\r"]
+    for k in range(400):
+        hostile(bytes(draw.randrange(256) for _ in range(draw.randrange(60))), "random bytes", k < 30)
+        hostile(b" ".join(draw.choice(words) for _ in range(draw.randrange(40))), "random words", k < 30)
+    first = texts[-1]
+    for k in range(len(first) + 1):
+        hostile(first[:k], "a prefix", k % 40 == 0)
+    for text in texts:
+        for k in range(250):
+            at = draw.randrange(len(text))
+            hostile(text[:at] + bytes([draw.randrange(256)]) + text[at + 1 :], "a byte changed", k < 8)
+    for data in (b"(", b"a ", b'"', b",", b"\0", b"\xf0", b"9"):
+        hostile(data * 10**6, "a megabyte")
+    hostile(b"\n" * 10**5, "empty lines")
+
+
+def test_no_permission():
+    """A file that may not be read; every user meets it here, also one who may read all."""
+
+    def refusing(path, mode):
+        raise PermissionError(errno.EACCES, os.strerror(errno.EACCES), path)
+
+    files.open = refusing
+    try:
+        for form in ([], ["--json"], ["--from-bytes"]):
+            come = run(*form, "paper.txt")
+            same("no permission", (come.status, "Permission denied" in (come.err or come.out.decode())), (4, True))
+        same("no permission for a table", run(given=b'triangles "t.csv"').status, 4)
+    finally:
+        del files.open
+
+
+def test_limits(folder):
+    same("too long a paper", run(given=b"\n" * (files.MOST_BYTES + 1)).status, 4)
+    most, paper.MOST_COMMANDS = paper.MOST_COMMANDS, 1000
+    try:
+        same("too many commands", run("check", given=b"overlay\n" * 1001).status, 2)
+        same("as many commands as there may be", run("check", given=b"overlay\n" * 1000).status, 0)
+        same("too long a stream", run("--from-bytes", given=b"\7" * 1001).status, 2)
+        same("as long a stream as there may be", run("--from-bytes", given=b"\7" * 1000).status, 0)
+        with open(os.path.join(folder, "ten.csv"), "wb") as f:
+            f.write(b"0,0,5,0,0,5\n" * 10)
+        come = run("check", "--json", given=b'triangles "%s"\n' % os.path.join(folder, "ten.csv").encode() * 10**4)
+        same("too many by tables", [e["line"] for e in json.loads(come.out)["errors"]], [101])
+    finally:
+        paper.MOST_COMMANDS = most
+
+
+# ---- round trips
+
+
+def drawn(draw):
+    """A stream of whole commands, by the table of bytes that document 01 has."""
+    data = b""
+    for _ in range(draw.randrange(40)):
+        byte = draw.randrange(1, 8)
+        data += bytes([byte]) + (bytes([draw.randrange(2)]) if 2 <= byte <= 6 else b"")
+        data += b"".join(draw.choice((0, 1, 255, 256, 65535, draw.randrange(65536))).to_bytes(2, "little")
+                         for _ in range({1: 6, 2: 0, 3: 3, 4: 2, 5: 2, 6: 2, 7: 0}[byte]))
+    return data
+
+
+def round_trip(name, data, bad):
+    """Stream to paper to stream; bad is the offset of the first command that is not whole, or None."""
+    text = run("--from-bytes", given=data).out
+    back = run("--bytes", given=text)
+    last = text.split(b"\n")[-2:-1]
+    same(f"{name}: the end of the paper", last == [b"# bad at %d" % bad] if bad is not None else b"#" not in text, True)
+    same(f"{name}: paper to bytes", (back.status, back.out), (0, data if bad is None else data[:bad]))
+    same(f"{name}: bytes to the same paper", run("--from-bytes", given=back.out).out, text if bad is None else text[: text.rindex(b"#")])
+    count("round trips")
+
+
+def told_bad(printed):
+    found = re.search(rb"\nbad (\d+)\n$", printed)
+    return int(found.group(1)) if found else None
+
+
+def stored():
+    """Name, stream and log of the cases and of the stored streams."""
+    for name, given, wanted in streams.cases(faults):
+        yield name, b"".join(map(streams.command, streams.parts(given))), streams.log(wanted)
+    for name in sorted(n[:-4] for n in os.listdir(VECTORS) if n.endswith(".bin")):
+        yield name, read(os.path.join(VECTORS, name + ".bin")), read(os.path.join(VECTORS, name + ".log"))
+
+
+def test_round_trips(draw):
+    for k in range(300):
+        round_trip(f"drawn {k}", drawn(draw), None)
+    for name, data, printed in stored():
+        round_trip(name, data, told_bad(printed))
+        if told_bad(printed) is None:
+            come = run("--log", given=run("--from-bytes", given=data).out)
+            same(f"{name}: its log", (come.out, come.status < 2), (printed, True))
+            run("--json", given=run("--from-bytes", given=data).out)
+    ends = (b"\0", b"\x08", b"7", b"\x02\x02", b"\x03\1\0\0", b"\1" + 11 * b"x", b"\6\0\1\0\1")
+    for data in [drawn(draw) + draw.choice(ends) for _ in range(60)]:
+        done = subprocess.run(PROGRAM, input=data, stdout=subprocess.PIPE, check=True)
+        round_trip(f"damaged {data[-14:]}", data, told_bad(done.stdout))
+
+
+# ---- logs that do not fit
+
+PAPER = b"triangle 0,0 65535,0 0,65535\nload bed\ntriangle 0,0 65535,0 0,65535\ntriangle 0,0 9,0 0,9\nload design\n"
+PAPER += b"split bed 0 at 5,6\nlocate bed 1,1\noverlay\nload bed\n"
+LOG = b"overlay log\n2 0 7\n2 0 40\n3 7\n6 0 0\n7 0 2 7\n0 0\n0 1\n2 0 1\n"
+# what a program does wrong: its log, and the line of the log and a part of the message that chartkey gives
+SHAMS = [
+    ("prints nothing", b"", 1, "the log is cut: its heading is missing"),
+    ("a wrong heading", LOG.replace(b"log", b"lag"), 1, "does not begin with"),
+    ("a cut log", LOG[:-7], 8, "the log is cut: pair 2 of 2"),
+    ("no last line feed", LOG[:-1], 9, "the log is cut"),
+    ("another command", LOG.replace(b"3 7", b"4 8"), 4, "another answer"),
+    ("one pair too few", LOG.replace(b"\n0 1\n", b"\n"), 8, "no pair"),
+    ("one pair too many", LOG.replace(b"\n0 1\n", b"\n0 1\n0 2\n"), 9, "another answer"),
+    ("an extra line", LOG + b"2 0 1\n", 10, "goes on after the last answer"),
+    ("an empty extra line", LOG + b"\n", 10, "goes on after the last answer"),
+    ("an answer too few", LOG.replace(b"6 0 0\n", b""), 5, "another answer"),
+    ("a number too many", LOG.replace(b"2 0 40", b"2 0 40 1"), 3, "another count of numbers"),
+    ("a number too few", LOG.replace(b"2 0 40", b"2 0"), 3, "another count of numbers"),
+    ("a refusal with a number beside", LOG.replace(b"3 7", b"3 7 1"), 4, "another count of numbers"),
+    ("one number", LOG.replace(b"3 7", b"3"), 4, "another answer"),
+    ("letters", LOG.replace(b"40", b"4o"), 3, "no line of numbers"),
+    ("digits of another script", LOG.replace(b"40", "٤٠".encode()), 3, "no line of numbers"),
+    ("two blanks", LOG.replace(b"2 0 40", b"2  0 40"), 3, "no line of numbers"),
+    ("a leading nought", LOG.replace(b"40", b"040"), 3, "no line of numbers"),
+    ("a leading nought in the command", LOG.replace(b"2 0 40", b"02 0 40"), 3, "no line of numbers"),
+    ("a number of 5,000 digits", LOG.replace(b"40", b"4" * 5000), 3, "no line of numbers"),
+    ("line ends of two bytes", LOG.replace(b"\n", b"\r\n"), 1, "does not begin with"),
+    ("a number that the command never gives", LOG.replace(b"3 7", b"3 12"), 4, "never refused with 12"),
+    ("a number that there is not", LOG.replace(b"3 7", b"3 13"), 4, "never refused with 13"),
+    ("a triangle that is not there", LOG.replace(b"6 0 0", b"6 0 1"), 5, "cannot have 1"),
+    ("a faulty triangle that is not there", LOG.replace(b"2 0 40", b"2 5 2"), 3, "not there"),
+    ("a pair that is not there", LOG.replace(b"\n0 1\n", b"\n0 2\n"), 8, "not there"),
+    ("a pair twice", LOG.replace(b"\n0 1\n", b"\n0 0\n"), 8, "not after"),
+    ("no entry", LOG.replace(b"2 0 40", b"2 0 0"), 3, "cannot have 0"),
+    ("too many entries", LOG.replace(b"2 0 40", b"2 0 16385"), 3, "cannot have 16385"),
+    ("`bad`", LOG[: LOG.index(b"3 7")] + b"bad 30\n", 4, "calls the stream bad"),
+    ("`bad` at the end", LOG + b"bad 70\n", 10, "goes on after the last answer"),
+    ("a refusal of a triangle that waits", LOG.replace(b"2 0 7", b"1 4\n2 0 7"), 2, "another answer"),
+]
+
+
+def sham(folder, text):
+    """A program that does as the text says, in Python."""
+    path = os.path.join(folder, "sham.py")
+    with open(path, "w", encoding="utf-8") as f:
+        f.write("import os, signal, sys, time\n" + text)
+    return shlex.join([sys.executable, "-S", path])
+
+
+def test_wrong_logs(folder, draw):
+    calls = paper.read(PAPER, "p").calls
+    same("the good log", len(log.read(LOG, calls)[0]), 6)
+    for what, printed, line, message in SHAMS:
+        program = sham(folder, f"sys.stdin.buffer.read()\nsys.stdout.buffer.write({printed!r})")
+        come = run(given=PAPER, program=program)
+        first = come.err.split("\n")[0]
+        same(what, (come.status, come.out, first.startswith(f"log:{line}:1: error: "), message in first), (4, b"", True, True))
+        same(f"{what}: its bytes", run("--log", given=PAPER, program=program)[:2], (4, printed))
+        count("wrong logs")
+    for k in range(len(LOG)):
+        must_not_fit(LOG[:k], calls, "a prefix")
+    lines = LOG.split(b"\n")[:-1]
+    for k in range(len(lines)):
+        must_not_fit(b"".join(l + b"\n" for l in lines[:k] + lines[k + 1 :]), calls, "a line left out")
+        must_not_fit(b"".join(l + b"\n" for l in lines[: k + 1] + lines[k:]), calls, "a line twice")
+    for _ in range(2000):
+        at = draw.randrange(len(LOG))
+        try:
+            log.read(LOG[:at] + bytes([draw.randrange(256)]) + LOG[at + 1 :], calls)
+        except log.Misfit:
+            pass
+    waits = paper.read(b"triangle 0,0 5,0 0,5\n" * 513, "p").calls
+    same("the 513th", [s.number for s in log.read(b"overlay log\n1 4\n", waits)[0]], [4])
+    must_not_fit(b"overlay log\n1 0\n", waits, "the 513th accepted")
+    must_not_fit(b"overlay log\n", waits, "the 513th without an answer")
+    must_not_fit(b"overlay log\n1 4\n", waits[:-1], "the 512th refused")
+
+
+def must_not_fit(printed, calls, what):
+    try:
+        log.read(printed, calls)
+        fault(f"{what} is taken: {printed}")
+    except log.Misfit as e:
+        count("wrong logs")
+        if not 1 <= e.line <= printed.count(b"\n") + 1:
+            fault(f"{what}: no such line {e.line}: {printed}")
+
+
+def test_programs(folder):
+    """Programs that end badly."""
+    good = f"sys.stdin.buffer.read()\nsys.stdout.buffer.write({LOG!r})\nsys.stdout.flush()\n"
+    for text, message in [
+        (good + "sys.exit(3)", "ended with status 3"),
+        (good + "sys.stderr.write('a warning')", "wrote to standard error; it said: a warning"),
+        (good + "sys.stderr.buffer.write(bytes([255]) * 10**6)", "wrote to standard error"),
+        (good + "os.kill(os.getpid(), signal.SIGKILL)", "ended by signal 9 (SIGKILL)"),
+        ("sys.exit(1)", "ended with status 1"),
+        ("while True: sys.stdout.write('x' * 10**6)", "longer than"),
+    ]:
+        program = sham(folder, text)
+        for form in ([], ["--json"]):
+            come = run(*form, given=PAPER, program=program)
+            same(message, (come.status, message in (come.err or come.out.decode())), (4, True))
+    same("a log of another paper", run(given=b"overlay\n", program=sham(folder, good)).status, 4)
+    unread = sham(folder, "sys.stdout.write('overlay log\\n')")
+    same("a program that reads nothing", run(given=b"triangle 0,0 5,0 0,5\n" * 512, program=unread).status, 0)
+    same("a long stream that is not read", run(given=b"overlay\n" * 100000, program=unread).status, 4)
+    come = run(given=b"overlay\n" * 20000)
+    same("a long paper", (come.status, come.out.split(b"\n")[-2]), (0, b"20000 overlays, 0 pairs; nothing refused"))
+
+
+# ---- processes
+
+
+def test_processes(folder):
+    example = os.path.join(EXAMPLES, "turning-basin.txt")
+    key = read(os.path.join(EXAMPLES, "turning-basin.key"))
+    link = os.path.join(folder, "key of charts")
+    os.symlink(SCRIPT, link)
+    same("by a link, from another folder", process(example, script=link, cwd=folder).stdout, key)
+    for locale in ({"LC_ALL": "C", "PYTHONUTF8": "0", "PYTHONCOERCECLOCALE": "0"}, {"PYTHONIOENCODING": "ascii"}):
+        done = process("numbers", "5", environ=locale)
+        same(f"UTF-8 by {locale}", (done.returncode, "≤".encode() in done.stdout), (0, True))
+    same("standard input", process("-", given=read(example)).stdout, key)
+    same("version", process("--version").stdout.decode(), f"chartkey {VERSION}\n")
+    full = subprocess.run([sys.executable, SCRIPT, "numbers"], stdout=open("/dev/full", "wb"), stderr=subprocess.PIPE)
+    same("nothing can be written", (full.returncode, b"cannot write" in full.stderr, b"Trace" in full.stderr), (4, True, False))
+    shell = f"{shlex.quote(sys.executable)} {shlex.quote(SCRIPT)}"
+    for tail, status in ((" --help >&-", 4), (" --help <&-", 0), (" <&-", 4), (" load 2>&-", 4)):
+        done = subprocess.run(["bash", "-c", shell + tail], stdout=subprocess.PIPE, stderr=subprocess.PIPE)
+        same(f"chartkey{tail}", (done.returncode, b"Trace" in done.stderr), (status, False))
+    many = subprocess.Popen([sys.executable, SCRIPT, "--from-bytes"], stdin=subprocess.PIPE, stdout=subprocess.PIPE, stderr=subprocess.PIPE)
+    many.stdout.close()
+    many.stdin.write(b"\7" * 100000)
+    many.stdin.close()
+    same("a closed pipe", (many.stderr.read(), many.wait()), (b"", 0))
+    many.stderr.close()
+
+
+def test_places(folder):
+    """Where the program is looked for, when none is named; a link to the script stands in another folder."""
+    example = os.path.join(EXAMPLES, "turning-basin.txt")
+    bare, link = os.path.join(folder, "bare"), os.path.join(folder, "link")
+    os.makedirs(os.path.join(bare, "target", "bin"))
+    os.symlink(os.path.join(ROOT, "frontend"), os.path.join(bare, "frontend"))
+    shutil.copy(SCRIPT, bare)
+    os.symlink(os.path.join(bare, "chartkey"), link)
+    done = process(example, script=link, environ={cli.VARIABLE: ""})
+    same("not built", (done.returncode, b"`make run`" in done.stderr), (4, True))
+    for place in (os.path.join("target", "bin", "overlay_log"), "overlay_log"):
+        with open(os.path.join(bare, place), "w", encoding="utf-8") as f:
+            f.write(f"#!/bin/sh\nexec {engine()}\n")
+        same(f"{place} may not be run", process(example, script=link, environ={cli.VARIABLE: ""}).returncode, 4)
+        os.chmod(os.path.join(bare, place), 0o755)
+        done = process("--json", example, script=link, environ={cli.VARIABLE: ""})
+        same(f"{place} is found", (done.returncode, json.loads(done.stdout).get("engine")), (0, VERSION))
+
+
+def test_interrupt(folder):
+    """Ctrl-C while the program runs; a shell that starts the test in the background has it ignored, so it is set anew."""
+    ready = os.path.join(folder, "ready")
+    program = sham(folder, f"open({ready!r}, 'w').close()\ntime.sleep(30)")
+    pipes = dict.fromkeys(("stdin", "stdout", "stderr"), subprocess.PIPE)
+    before = signal.signal(signal.SIGINT, signal.default_int_handler)
+    try:
+        child = subprocess.Popen([sys.executable, SCRIPT, "--engine", program], **pipes)
+    finally:
+        signal.signal(signal.SIGINT, before)
+    child.stdin.close()
+    for _ in range(400):
+        if os.path.exists(ready) or child.poll() is not None:
+            break
+        time.sleep(0.05)
+    child.send_signal(signal.SIGINT)
+    try:
+        same("Ctrl-C", (child.wait(10), child.stderr.read()), (130, b""))
+    finally:
+        child.kill()
+        child.stdout.close()
+        child.stderr.close()
+
+
+# ---- help, words, tables
+
+
+def test_help():
+    text = run("--help").out.decode()
+    lines = text.split("\n")[:-1]
+    same("help fits a screen", (len(lines) <= 24, max(map(len, lines)) <= 80), (True, True))
+    for word in [commands.form(row) for row in commands.COMMANDS] + [*cli.FORMS, *cli.VERBS, "--engine", *paper.LINES.values()]:
+        if word not in text:
+            fault("help does not tell", word)
+    same("-h is --help", run("-h", "x", "y").out.decode(), text)
+    told = run("numbers").out.decode()
+    same("each number once", [int(n) for n in re.findall(r"^ ?(\d+)  ", told, re.M)], list(range(13)))
+    same("one number", run("numbers", "12").out.decode() in told, True)
+
+
+def test_words():
+    """The words of the numbers stand in frontend/numbers.py alone. Left out: what quotes document 01, and stored answers."""
+    listed = [os.path.relpath(os.path.join(at, n), ROOT) for at, _, names in os.walk(ROOT) for n in names]
+    parts = [p.strip(" ;(") for row in numbers.NUMBERS for text in (row.says, row.todo) for p in re.split(r"\{.\}", text)]
+    parts = [p for p in parts if len(p) > 14]
+    same("enough words", len(parts) >= 2 * len(numbers.NUMBERS) - 4, True)
+    for name in listed:
+        if re.match(r"frontend/numbers\.py|docs/CLAIMS\.md|crates/|\.git/|target/|.*\.pyc$|examples/.*(?<!\.txt)$", name):
+            continue
+        text = read(os.path.join(ROOT, name)).decode("utf-8", "replace")
+        for part in parts:
+            if part in " ".join(text.split()):
+                fault(f"{name} repeats the words of a number: {part}")
+        count("files without the words")
+
+
+MOVED = b"""triangle 0,0 65535,0 0,65535 7
+load bed
+split bed 10,10
+locate bed 10,10
+locate bed 65535,65535
+expect nowhere
+overlay
+"""
+MOVED_LOG = b"overlay log\n2 0 7\n3 0 19\n6 0 2 4\n6 0 65535\n7 0 0 9\n"
+
+
+def test_moved_rows():
+    """What document 02 asks of commands 1, 3 and 6 moves rows of the table, and nothing else."""
+    whole, rows = commands.COMMANDS, list(commands.COMMANDS)
+    position = commands.Field("position", "position", 0, 6, "position {}", "position {}")
+    rows[0] = rows[0]._replace(operands=rows[0].operands + (commands.number("class", "K", "a class"),))
+    rows[2] = rows[2]._replace(operands=(commands.CHART, commands.point("point", "P")), count=commands.UNTOLD)
+    rows[5] = rows[5]._replace(prints=(commands.FOUND, position))
+    commands.COMMANDS = tuple(rows)
+    try:
+        one = paper.read(MOVED, "moved")
+        same("no fault", one.faults.kept, [])
+        data = stream.to_bytes(one.calls)
+        same("seven numbers, no triangle", (data[13:15], data[17:22], len(data)), (b"\7\0", b"\3\0\12\0\12", 36))
+        same("back", "".join(l + "\n" for l in stream.as_paper(data)), MOVED.decode().replace("expect nowhere\n", ""))
+        answers = forms.Answers(one, *log.read(MOVED_LOG, one.calls))
+        same("status", answers.status, 0)
+        told = forms.people(answers)
+        for part in ("accepted: 19 entries", "triangle 2, position 4", "nowhere\n", "in no pair: design (none)"):
+            same(f"tells {part!r}", part in told, True)
+        same("schema", list(misfits(json.loads(forms.answers_json(answers, None)), schema.schema(), "output")), [])
+        same("help", "triangle A B C K" in cli.help_text() and "position N" in cli.help_text(), True)
+        same("a class", paper.read(b"triangle 0,0 1,0 0,1 x", "p").faults.kept[0].message, "a class is a whole number, not `x`")
+    finally:
+        commands.COMMANDS = whole
+
+
+def tests(folder, draw):
+    """Each test with what it is given."""
+    yield test_examples, ()
+    if STORE:
+        return
+    yield from ((test, ()) for test in (test_schema, test_messages, test_no_permission, test_help, test_words, test_moved_rows))
+    with_folder = (test_tables_of_triangles, test_statuses, test_limits, test_programs, test_processes)
+    with_folder += (test_places, test_interrupt)
+    yield from ((test, (folder,)) for test in with_folder)
+    yield from ((test, (draw,)) for test in (test_hostile, test_round_trips))
+    yield test_wrong_logs, (folder, draw)
+
+
+def main():
+    if not PROGRAM:
+        sys.exit(__doc__.split("\n")[-1])
+    with tempfile.TemporaryDirectory() as folder:
+        for test, given in tests(folder, random.Random(20261116)):
+            try:
+                test(*given)
+            except Exception:
+                fault(f"{test.__name__} broke off: {traceback.format_exc(limit=-3)}")
+    if not STORE:
+        same("every status was met", statuses, {0, 1, 2, 3, 4})
+    print("\n".join(faults) if faults else "chartkey: " + ", ".join(f"{n} {what}" for what, n in counts.items()))
+    sys.exit(1 if faults else 0)
+
+
+main()
