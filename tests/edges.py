@@ -83,7 +83,7 @@ def closed_output(words, ignored=False):
     """a closed pipe ends it without a message, though its input is open"""
     program = feeding.Program(words, SECONDS)
     talk = feeding.Talk(words, program.said, SECONDS, ignore_closed_pipe=ignored)
-    os.read(talk.back, 5)
+    fault = talk.heard(5, "no heading before any input")
     os.close(talk.back)
     for _ in range(3):
         talk.say(NOWHERE)
@@ -92,8 +92,8 @@ def closed_output(words, ignored=False):
     talk.hush()
     said = program.held(program.said)
     if status is None or said:
-        return f"status {status}, said {said[:80]}" + " (no end)" * (status is None)
-    return None
+        return f"said {said[:80]}" + f", no end within {SECONDS} seconds" * (status is None)
+    return fault or None
 
 
 def closed_output_unsignalled(words):
@@ -156,7 +156,7 @@ def memory(words):
         while told < upto:
             talk.say(NOWHERE * 1000)
             told, size = told + 1000 * len(NOWHERE), size + 1000 * len(b"6 0 65535\n")
-            fault = talk.heard(size, f"the commands before offset {told}")
+            fault = talk.heard(size, f"no answer to the commands before offset {told}")
             if fault or len(talk.printed) < size:
                 talk.hush()
                 program.ended(talk.child, "no answer")

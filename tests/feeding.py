@@ -11,16 +11,18 @@ import collections
 import fcntl
 import os
 import select
+import shutil
 import signal
 import struct
+import sys
 import termios
 import time
 
 import streams
 
 WAYS = ["whole", "bytes", "pieces", "answers"]
-SECONDS = 10  # in which a program must end, and answer
-PIECES = 30
+SECONDS = 5  # in which a program must end, and answer
+PIECES = 12
 # what it printed, its status, what it said on standard error, and what else went wrong
 Done = collections.namedtuple("Done", "printed status said fault")
 
@@ -63,6 +65,8 @@ class Program:
     """A command program, and the files that its streams, logs and messages stand in."""
 
     def __init__(self, words, seconds=SECONDS):
+        if not shutil.which(words[0]):
+            sys.exit(f"{words[0]} is not there; `make run` builds the command program, `make model` the reference model")
         self.words, self.seconds = words, seconds
         self.source, self.sink, self.said = (os.memfd_create(name) for name in ("input", "output", "said"))
 
@@ -137,13 +141,13 @@ class Program:
 
     def answers(self, stream, log, _rng):
         talk = Talk(self.words, self.said, self.seconds)
-        fault = talk.heard(streams.line_end(log, 0), "the heading, before any input")
+        fault = talk.heard(streams.line_end(log, 0), "no heading before any input")
         at = 0
         for step in () if fault else streams.steps(stream, log):
             talk.say(stream[at : step.end])
             if step.end > len(stream):
                 talk.hush()
-            fault = talk.heard(step.shown, f"the command at offset {at}")
+            fault = talk.heard(step.shown, f"no answer to the command at offset {at}")
             at = step.end
             if fault:
                 break
@@ -180,11 +184,11 @@ class Talk:
             os.close(self.into)
             self.into = None
 
-    def heard(self, size, what):
-        """Reads until so much has been printed; what went wrong."""
+    def heard(self, size, missing):
+        """Reads until so much has been printed; what is missing, if it is."""
         while len(self.printed) < size:
             if not ready(self.back, select.POLLIN, self.seconds):
-                return f"no answer to {what} within {self.seconds} seconds"
+                return f"{missing} within {self.seconds} seconds"
             part = os.read(self.back, 1 << 16)
             if not part:
                 return ""
