@@ -196,8 +196,9 @@ class Talk:
         return ""
 
     def rest(self):
-        """Reads to the end of what is printed."""
-        while ready(self.back, select.POLLIN, self.seconds):
+        """Reads to the end of what is printed; what went wrong."""
+        stop = time.monotonic() + self.seconds
+        while time.monotonic() < stop and ready(self.back, select.POLLIN, self.seconds):
             part = os.read(self.back, 1 << 16)
             if not part:
                 return ""

@@ -110,7 +110,7 @@ class Model:
             sys.exit(f"{words[0]} is not there; `make model` builds the reference model")
 
     def start(self, *more):
-        p = subprocess.Popen([*self.words, *map(str, more)], stdin=subprocess.PIPE, stdout=subprocess.PIPE, process_group=0)
+        p = subprocess.Popen([*self.words, *map(str, more)], stdin=subprocess.PIPE, stdout=subprocess.PIPE, start_new_session=True)
         self.started.append(p)
         return p
 
@@ -191,6 +191,8 @@ def shortest(stream, log_of, differs):
 
 def first_difference(printed, log):
     """The first line in which two logs differ."""
+    if printed == log:
+        return "  both logs are the same"
     ours, theirs = printed.split(b"\n"), log.split(b"\n")
     k = next((k for k, (a, b) in enumerate(zip(ours, theirs)) if a != b), min(len(ours), len(theirs)))
     shown = [(lines[k] if k < len(lines) else b"").decode(errors="replace") for lines in (ours, theirs)]
@@ -245,7 +247,8 @@ class Progress:
         now = time.monotonic()
         if now - self.shown >= (0.1 if self.terminal else 10):
             self.shown = now
-            print("\r" + self.line(count, 0) + "\x1b[K" if self.terminal else self.line(count, 0), end="" if self.terminal else "\n", flush=True)
+            line = self.line(count, 0)
+            print(f"\r{line}\x1b[K" if self.terminal else line, end="" if self.terminal else "\n", flush=True)
 
     def last(self, count, differences):
         print("\r\x1b[K" * self.terminal + self.line(count, differences))
