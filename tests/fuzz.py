@@ -8,7 +8,7 @@ its log (model/gen/small.rs has the kinds and their shares), and N and K also dr
 --only K` runs one stream again, in all ways. Without a seed one is drawn; without an end it runs for a minute.
 
 A difference is a log that is not the model's, a status other than 0, something on standard error, an answer that does not come, or
-no end. It is shortened as far as it stays one, printed, and kept under target/fuzz/; the status is then 1. A run of 2,000
+no end. It is shortened as far as it stays one, printed, and kept under target/fuzz/; the status is then 1. A run of 4,000
 streams and more fails as well when something of `WANTED` was not met. Ctrl-C ends it with the tally and status 130."""
 
 import argparse
@@ -29,7 +29,7 @@ from crates import ROOT
 KEPT = os.path.join(ROOT, "target", "fuzz")
 CHARTKEY = os.path.join(ROOT, "chartkey")
 ENDLESS = 1 << 40
-FEW = 2000  # a run of fewer need not meet all that is wanted
+FEW = 4000  # a run of fewer need not meet all that is wanted
 SHORTENING = 20  # seconds
 LONGEST_BY_BYTES = 1500
 
@@ -234,45 +234,45 @@ class Progress:
     """One line, rewritten on a terminal at most ten times a second, else a new one every ten seconds."""
 
     def __init__(self, seed):
-        self.seed, self.start, self.shown = seed, time.monotonic(), time.monotonic()
+        self.seed, self.count, self.start, self.shown = seed, 0, time.monotonic(), time.monotonic()
         self.terminal = sys.stdout.isatty()
 
-    def line(self, count, differences):
+    def line(self, differences):
         took = time.monotonic() - self.start
-        rate = f"{count / max(took, 0.001):,.0f}/s"
+        rate = f"{self.count / max(took, 0.001):,.0f}/s"
         clock = f"{int(took) // 60:02}:{int(took) % 60:02}"
-        return f"fuzz  {count:,} streams  {rate}  {differences} difference{'s' * (differences != 1)}  seed {self.seed}  {clock}"
+        return f"fuzz  {self.count:,} streams  {rate}  {differences} difference{'s' * (differences != 1)}  seed {self.seed}  {clock}"
 
-    def show(self, count):
+    def next(self):
+        self.count += 1
         now = time.monotonic()
         if now - self.shown >= (0.1 if self.terminal else 10):
             self.shown = now
-            line = self.line(count, 0)
+            line = self.line(0)
             print(f"\r{line}\x1b[K" if self.terminal else line, end="" if self.terminal else "\n", flush=True)
 
-    def last(self, count, differences):
-        print("\r\x1b[K" * self.terminal + self.line(count, differences))
+    def last(self, differences):
+        print("\r\x1b[K" * self.terminal + self.line(differences), flush=True)
 
 
 def drawn(program, model, log_of, options, seen, progress):
-    """Runs the numbered streams until the end that was asked for, or a difference; how many there were of both."""
+    """Runs the numbered streams until the end that was asked for, or a difference; whether there was one."""
     stop = time.monotonic() + (options.seconds or 60) if options.streams is None else float("inf")
-    count = 0
     for number, kind, stream, log in model.streams(options.seed, 0, options.streams or ENDLESS):
         rng = random.Random(f"{options.seed} {number}")
         way = way_of(rng, stream)
         done = program.run(stream, way, log, rng)
-        count += 1
         seen.update([f"kind {kind}", f"fed {way}", *met(stream, log)])
         if difference(done, log):
-            progress.last(count, 1)
+            progress.count += 1
+            progress.last(1)
             report(program, log_of, options.seed, number, kind, way, stream, log, done)
-            return count, 1
-        progress.show(count)
+            return True
+        progress.next()
         if time.monotonic() > stop:
             break
-    progress.last(count, 0)
-    return count, 0
+    progress.last(0)
+    return False
 
 
 def only(program, model, log_of, options):
@@ -302,26 +302,27 @@ def arguments():
     return options
 
 
-def run(options, model, seen):
+def run(options, model, seen, progress):
     """The status of the whole run."""
     program, log_of = feeding.Program(options.program), model.answerer()
     if options.only is not None:
         return only(program, model, log_of, options)
     faults = edges.faults(options.program)
     print("\n".join(faults) if faults else f"{len(edges.CHECKS)} fixed checks of reading, writing, length and memory pass", flush=True)
-    count, differences = drawn(program, model, log_of, options, seen, Progress(options.seed))
+    progress.start = time.monotonic()
+    differs = drawn(program, model, log_of, options, seen, progress)
     tally(seen)
-    met_all = differences or engines.all_met(dict.fromkeys(WANTED, 1), seen)
-    return 1 if faults or differences or count >= FEW and not met_all else 0
+    met_all = differs or engines.all_met(dict.fromkeys(WANTED, 1), seen)
+    return 1 if faults or differs or progress.count >= FEW and not met_all else 0
 
 
 def main():
     options, seen = arguments(), collections.Counter()
-    model = Model(options.model.split())
+    model, progress = Model(options.model.split()), Progress(options.seed)
     try:
-        return run(options, model, seen)
+        return run(options, model, seen, progress)
     except KeyboardInterrupt:
-        print()
+        progress.last(0)
         tally(seen)
         return 130
     finally:

@@ -78,7 +78,8 @@ def main():
     for name, data, want in blocks + pairs:
         for way in WAYS:
             run(program, f"{name}, fed {way}" if PORTIONS else name, way, data, want)
-    print("\n".join(faults) if faults else f"{len(blocks)} cases and {len(pairs)} streams, all as stored" + f", fed in {len(WAYS)} ways" * PORTIONS)
+    fed = f", fed in {len(WAYS)} ways" * PORTIONS
+    print("\n".join(faults) if faults else f"{len(blocks)} cases and {len(pairs)} streams, all as stored{fed}")
     sys.exit(1 if faults else 0)
 
 
