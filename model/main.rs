@@ -11,9 +11,9 @@
 //!                      touch, full, many, bad, edge, or of the short ones
 //!                      tiny, patch, far, refused, wild, noise, spoilt,
 //!                      waiting, pairs, entries; SEED is decimal
-//!   model streams SEED FROM COUNT  the numbered streams FROM, FROM + 1, ..
-//!                      of a seed: for each a line `KIND BYTES BYTES`, then
-//!                      the stream and its log, of so many bytes
+//!   model streams SEED FROM COUNT STEP  the numbered streams FROM, FROM +
+//!                      STEP, .. of a seed: for each a line `KIND BYTES
+//!                      BYTES`, then the stream and its log, of so many bytes
 //!   model logs         for each line `BYTES` and stream of so many bytes on
 //!                      standard input, a line `BYTES` and the log
 //!
@@ -89,9 +89,9 @@ fn main() {
             let (out, ok) = run_calls(&text(read_all()));
             (out.into_bytes(), i32::from(!ok))
         }
-        ["streams", seed, from, count] => {
-            let [Ok(seed), Ok(from), Ok(count)] = [seed, from, count].map(|w| w.parse()) else { usage() };
-            std::process::exit(i32::from(write_streams(seed, from, count).is_err()))
+        ["streams", seed, from, count, step] => {
+            let [Ok(seed), Ok(from), Ok(count), Ok(step)] = [seed, from, count, step].map(|w| w.parse()) else { usage() };
+            std::process::exit(i32::from(write_streams(seed, from, count, step).is_err()))
         }
         ["logs"] => std::process::exit(i32::from(answer_streams().is_err())),
         ["gen", kind, seed] => {
@@ -107,7 +107,7 @@ fn main() {
 }
 
 fn usage() -> ! {
-    eprintln!("usage: model log | entries | calls | gen KIND SEED | streams SEED FROM COUNT | logs");
+    eprintln!("usage: model log | entries | calls | gen KIND SEED | streams SEED FROM COUNT STEP | logs");
     std::process::exit(2)
 }
 
@@ -122,10 +122,10 @@ fn text(bytes: Vec<u8>) -> String {
 }
 
 /// Numbered streams with their logs, each written as soon as it is made.
-fn write_streams(seed: u64, from: u64, count: u64) -> Result<()> {
+fn write_streams(seed: u64, from: u64, count: u64, step: u64) -> Result<()> {
     let mut out = std::io::stdout().lock();
-    for number in from..from.saturating_add(count) {
-        let (kind, bytes) = gen::numbered(seed, number);
+    for k in 0..count {
+        let (kind, bytes) = gen::numbered(seed, from + k * step);
         let log = run_log(&bytes).into_bytes();
         let head = format!("{kind} {} {}\n", bytes.len(), log.len());
         out.write_all(&[head.into_bytes(), bytes, log].concat())?;

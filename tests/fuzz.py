@@ -1,11 +1,12 @@
 #!/usr/bin/env python3
 """Drives a command program and the reference model with drawn streams and compares their logs byte for byte.
 
-usage: fuzz.py [--seed N] [--seconds S | --streams N | --only K] [--model "CMD .."] PROGRAM [ARGUMENT ..]
+usage: fuzz.py [--seed N] [--seconds S | --streams N | --only K] [--jobs J] [--model "CMD .."] PROGRAM [ARGUMENT ..]
 
-First the fixed checks of tests/edges.py. Then stream 0, 1, 2, .. of the seed: `model streams N K 1` makes stream K of seed N with
-its log (model/gen/small.rs has the kinds and their shares), and N and K also draw how it is fed (tests/feeding.py). So `--seed N
---only K` runs one stream again, in all ways. Without a seed one is drawn; without an end it runs for a minute.
+First the fixed checks of tests/edges.py. Then stream 0, 1, 2, .. of the seed, by as many workers as there are processors: `model
+streams N K 1 1` makes stream K of seed N with its log (model/gen/small.rs has the kinds and their shares), and N and K also draw how
+it is fed (tests/feeding.py). So `--seed N --only K` runs one stream again, in all ways. Without a seed one is drawn; without an end it
+runs for a minute.
 
 A difference is a log that is not the model's, a status other than 0, something on standard error, an answer that does not come, or
 no end. It is shortened as far as it stays one, printed, and kept under target/fuzz/; the status is then 1. A run of 4,000
@@ -13,9 +14,12 @@ streams and more fails as well when something of `WANTED` was not met. Ctrl-C en
 
 import argparse
 import collections
+import multiprocessing
+import multiprocessing.connection
 import os
 import random
 import shutil
+import signal
 import subprocess
 import sys
 import time
@@ -114,9 +118,9 @@ class Model:
         self.started.append(p)
         return p
 
-    def streams(self, seed, first, count):
-        made = self.start("streams", seed, first, count).stdout
-        for number in range(first, first + count):
+    def streams(self, seed, first, count, step=1):
+        made = self.start("streams", seed, first, count, step).stdout
+        for number in range(first, first + count * step, step):
             head = made.readline().decode().split()
             if not head:
                 sys.exit(f"the model {' '.join(self.words)} ended before stream {number}")
@@ -234,8 +238,11 @@ class Progress:
     """One line, rewritten on a terminal at most ten times a second, else a new one every ten seconds."""
 
     def __init__(self, seed):
-        self.seed, self.count, self.start, self.shown = seed, 0, time.monotonic(), time.monotonic()
-        self.terminal = sys.stdout.isatty()
+        self.seed, self.count, self.terminal = seed, 0, sys.stdout.isatty()
+        self.begin()
+
+    def begin(self):
+        self.start = self.shown = time.monotonic()
 
     def line(self, differences):
         took = time.monotonic() - self.start
@@ -243,8 +250,7 @@ class Progress:
         clock = f"{int(took) // 60:02}:{int(took) % 60:02}"
         return f"fuzz  {self.count:,} streams  {rate}  {differences} difference{'s' * (differences != 1)}  seed {self.seed}  {clock}"
 
-    def next(self):
-        self.count += 1
+    def show(self):
         now = time.monotonic()
         if now - self.shown >= (0.1 if self.terminal else 10):
             self.shown = now
@@ -255,24 +261,68 @@ class Progress:
         print("\r\x1b[K" * self.terminal + self.line(differences), flush=True)
 
 
-def drawn(program, model, log_of, options, seen, progress):
-    """Runs the numbered streams until the end that was asked for, or a difference; whether there was one."""
+def work(options, place, told):
+    """Runs every J-th stream until the end that was asked for, or a difference; tells ten times a second what it ran and met."""
+    signal.signal(signal.SIGINT, signal.SIG_IGN)
+    program, model = feeding.Program(options.program), Model(options.model.split())
     stop = time.monotonic() + (options.seconds or 60) if options.streams is None else float("inf")
-    for number, kind, stream, log in model.streams(options.seed, 0, options.streams or ENDLESS):
+    count, seen, last = 0, collections.Counter(), time.monotonic()
+    share = ENDLESS if options.streams is None else len(range(place, options.streams, options.jobs))
+    for number, kind, stream, log in model.streams(options.seed, place, share, options.jobs):
         rng = random.Random(f"{options.seed} {number}")
         way = way_of(rng, stream)
         done = program.run(stream, way, log, rng)
+        count += 1
         seen.update([f"kind {kind}", f"fed {way}", *met(stream, log)])
+        now = time.monotonic()
         if difference(done, log):
-            progress.count += 1
-            progress.last(1)
-            report(program, log_of, options.seed, number, kind, way, stream, log, done)
-            return True
-        progress.next()
-        if time.monotonic() > stop:
+            told.send((count, seen, (number, kind, way, stream, log, done)))
+            return model.close()
+        if now - last > 0.1 or now > stop:
+            told.send((count, seen, None))
+            count, seen, last = 0, collections.Counter(), now
+        if now > stop:
             break
-    progress.last(0)
-    return False
+    told.send((count, seen, None))
+    return model.close()
+
+
+def drawn(program, log_of, options, seen, progress):
+    """Lets the workers run, and reports the first difference; whether there was one."""
+    ends = [multiprocessing.Pipe(duplex=False) for _ in range(options.jobs)]
+    workers = [multiprocessing.Process(target=work, args=(options, k, told)) for k, (_, told) in enumerate(ends)]
+    for worker, (_, told) in zip(workers, ends):
+        worker.start()
+        told.close()
+    found = None
+    try:
+        for count, met_there, found in messages([heard for heard, _ in ends]):
+            seen.update(met_there)
+            progress.count += count
+            if found:
+                break
+            progress.show()
+        failed = not found and any(worker.join() or worker.exitcode for worker in workers)
+    finally:
+        for worker in workers:
+            worker.terminate()
+            worker.join()
+    progress.last(int(found is not None))
+    if failed:
+        sys.exit("a worker failed")
+    if found:
+        report(program, log_of, options.seed, *found)
+    return found is not None
+
+
+def messages(ends):
+    """What the workers tell, until all have ended."""
+    while ends:
+        for end in multiprocessing.connection.wait(ends):
+            try:
+                yield end.recv()
+            except EOFError:
+                ends.remove(end)
 
 
 def only(program, model, log_of, options):
@@ -294,6 +344,7 @@ def arguments():
     end.add_argument("--seconds", type=float)
     end.add_argument("--streams", type=int)
     end.add_argument("--only", type=int)
+    usage.add_argument("--jobs", type=int, default=len(os.sched_getaffinity(0)))
     usage.add_argument("--model", default=engines.MODEL)
     usage.add_argument("program", nargs=argparse.REMAINDER)
     options = usage.parse_args()
@@ -309,8 +360,8 @@ def run(options, model, seen, progress):
         return only(program, model, log_of, options)
     faults = edges.faults(options.program)
     print("\n".join(faults) if faults else f"{len(edges.CHECKS)} fixed checks of reading, writing, length and memory pass", flush=True)
-    progress.start = time.monotonic()
-    differs = drawn(program, model, log_of, options, seen, progress)
+    progress.begin()
+    differs = drawn(program, log_of, options, seen, progress)
     tally(seen)
     met_all = differs or engines.all_met(dict.fromkeys(WANTED, 1), seen)
     return 1 if faults or differs or progress.count >= FEW and not met_all else 0
