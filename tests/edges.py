@@ -136,8 +136,12 @@ def longest_input(words):
     waiting = {"command": TRIANGLE, "line": b"1 4\n", "silent": streams.MOST_WAITING}
     start = time.monotonic()
     fault = long_input(words, **waiting)
-    if fault or (time.monotonic() - start) * SIXTEEN_MEGABYTES / MEGABYTE > SECONDS_FOR_LONGEST:
+    took = time.monotonic() - start
+    if fault:
         return fault
+    if took * SIXTEEN_MEGABYTES / MEGABYTE > SECONDS_FOR_LONGEST:
+        print(f"passed over: an offset beyond {SIXTEEN_MEGABYTES:,}, since a megabyte took {took:.2f} seconds")
+        return None
     return long_input(words, least=SIXTEEN_MEGABYTES, **waiting)
 
 
