@@ -1,5 +1,5 @@
 # make alone prints the targets. Each target first tells what it needs and is not here.
-TARGETS := run test bench stack model map mutants
+TARGETS := run test fuzz bench stack model map mutants
 
 run.does := proves, builds and runs the command program on document 01's example
 run.needs := rt rustc python3
@@ -10,6 +10,12 @@ test.does := the whole gate: proofs, must-fail edits, programs, reference model,
 test.needs := rt rustc python3
 test.takes := some 24 minutes
 test.by := bash tests/run.sh
+
+fuzz.does := drawn command streams by the command program and by the reference model, log for log; SEED=7, SECONDS=600 or STREAMS=100000
+fuzz.needs := rustc python3
+fuzz.takes := a minute, or what SECONDS says; Ctrl-C ends it with the tally
+fuzz.by = bash tests/model.sh build && python3 tests/fuzz.py $(fuzz.options) target/bin/overlay_log
+fuzz.options = $(if $(SEED),--seed $(SEED)) $(if $(SECONDS),--seconds $(SECONDS)) $(if $(STREAMS),--streams $(STREAMS))
 
 bench.does := time per build beside hand-written engines in C, in one run, as ratios
 bench.needs := rt cc python3

@@ -1,6 +1,9 @@
 //! Random command streams, fixed by kind and seed.
 
+mod small;
+
 use crate::model::*;
+pub use small::numbered;
 use std::collections::BTreeMap;
 
 /// A small generator of random numbers (splitmix64).
@@ -714,12 +717,7 @@ impl Stream {
 /// The stream of a kind, or none for an unknown kind.
 pub fn stream(kind: &str, seed: u64) -> Option<Vec<u8>> {
     let salt = kind.bytes().fold(seed, |s, b| s.wrapping_mul(257).wrapping_add(b as u64));
-    let mut s = Stream {
-        bytes: Vec::new(),
-        tables: [Vec::new(), Vec::new()],
-        waiting: Vec::new(),
-        rng: Rng::new(salt),
-    };
+    let mut s = Stream::new(salt);
     match kind {
         "mesh" => s.mesh(),
         "soup" => s.soup(),
@@ -728,6 +726,7 @@ pub fn stream(kind: &str, seed: u64) -> Option<Vec<u8>> {
         "many" => s.many(),
         "bad" => s.bad(),
         "edge" => s.edge(),
+        _ if s.small(kind) => {}
         _ => return None,
     }
     Some(s.bytes)

@@ -8,12 +8,20 @@
 //!                      would refuse otherwise prints `refused NUMBER TRIANGLE`.
 //!   model calls        script of calls on raw buffers, see below
 //!   model gen KIND SEED  random command stream; KIND is one of mesh, soup,
-//!                      touch, full, many, bad, edge; SEED is decimal
+//!                      touch, full, many, bad, edge, or of the short ones
+//!                      tiny, patch, far, refused, wild, noise, spoilt,
+//!                      waiting, pairs, entries; SEED is decimal
+//!   model streams SEED FROM COUNT STEP  the numbered streams FROM, FROM +
+//!                      STEP, .. of a seed: for each a line `KIND BYTES
+//!                      BYTES`, then the stream and its log, of so many bytes
+//!   model logs         for each line `BYTES` and stream of so many bytes on
+//!                      standard input, a line `BYTES` and the log
 //!
-//! The model's own tests draw streams by `gen`; no script does. The streams of
-//! tests/vectors are named by the same kinds and by seeds, but they came with
-//! their logs from another program: `gen` of that kind and seed draws another
-//! stream. The model reads them like every other (tests/log_cases.py).
+//! tests/fuzz.py draws by `streams`, the model's own tests by `gen`. The
+//! streams of tests/vectors are named by the same kinds and by seeds, but they
+//! came with their logs from another program: `gen` of that kind and seed
+//! draws another stream. The model reads them like every other
+//! (tests/log_cases.py).
 //!
 //! Script of `model calls`
 //!
@@ -69,7 +77,7 @@ mod model;
 mod tests;
 
 use model::*;
-use std::io::{Read, Write};
+use std::io::{BufRead, Read, Result, Write};
 
 fn main() {
     let args: Vec<String> = std::env::args().skip(1).collect();
@@ -81,6 +89,11 @@ fn main() {
             let (out, ok) = run_calls(&text(read_all()));
             (out.into_bytes(), i32::from(!ok))
         }
+        ["streams", seed, from, count, step] => {
+            let [Ok(seed), Ok(from), Ok(count), Ok(step)] = [seed, from, count, step].map(|w| w.parse()) else { usage() };
+            std::process::exit(i32::from(write_streams(seed, from, count, step).is_err()))
+        }
+        ["logs"] => std::process::exit(i32::from(answer_streams().is_err())),
         ["gen", kind, seed] => {
             let Ok(seed) = seed.parse() else { usage() };
             let Some(bytes) = gen::stream(kind, seed) else { usage() };
@@ -94,7 +107,7 @@ fn main() {
 }
 
 fn usage() -> ! {
-    eprintln!("usage: model log | entries | calls | gen KIND SEED");
+    eprintln!("usage: model log | entries | calls | gen KIND SEED | streams SEED FROM COUNT STEP | logs");
     std::process::exit(2)
 }
 
@@ -106,6 +119,34 @@ fn read_all() -> Vec<u8> {
 
 fn text(bytes: Vec<u8>) -> String {
     String::from_utf8(bytes).expect("text")
+}
+
+/// Numbered streams with their logs, each written as soon as it is made.
+fn write_streams(seed: u64, from: u64, count: u64, step: u64) -> Result<()> {
+    let mut out = std::io::stdout().lock();
+    for k in 0..count {
+        let (kind, bytes) = gen::numbered(seed, from + k * step);
+        let log = run_log(&bytes).into_bytes();
+        let head = format!("{kind} {} {}\n", bytes.len(), log.len());
+        out.write_all(&[head.into_bytes(), bytes, log].concat())?;
+        out.flush()?;
+    }
+    Ok(())
+}
+
+/// The logs of streams as they come, until the input ends.
+fn answer_streams() -> Result<()> {
+    let (mut input, mut out) = (std::io::stdin().lock(), std::io::stdout().lock());
+    let mut head = String::new();
+    while input.read_line(&mut head)? > 0 {
+        let mut bytes = vec![0; head.trim().parse().expect("a length")];
+        input.read_exact(&mut bytes)?;
+        let log = run_log(&bytes).into_bytes();
+        out.write_all(&[format!("{}\n", log.len()).into_bytes(), log].concat())?;
+        out.flush()?;
+        head.clear();
+    }
+    Ok(())
 }
 
 fn entries_text(input: &str) -> String {

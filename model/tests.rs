@@ -1,7 +1,7 @@
 //! Marked cases of document 01, the readings on raw buffers, and the model's
 //! means checked against plainer ones.
 
-use crate::gen::{stream, Rng};
+use crate::gen::{numbered, stream, Rng};
 use crate::model::*;
 use crate::run_calls;
 
@@ -563,4 +563,23 @@ fn streams_hold_together() {
         }
     }
     assert!(stream("other", 0).is_none());
+}
+
+#[test]
+fn numbered_streams() {
+    let mut kinds = std::collections::BTreeSet::new();
+    let mut cuts = Vec::new();
+    for number in 0..300 {
+        let (kind, bytes) = numbered(5, number);
+        kinds.insert(kind);
+        assert_eq!(numbered(5, number), (kind, bytes.clone()));
+        if kind == "cuts" {
+            cuts.push(bytes);
+        }
+    }
+    assert_eq!(kinds.len(), 18);
+    // cut at each byte in turn: one longer than another of the same stream starts with it
+    cuts.sort_by_key(|c| c.len());
+    assert_eq!(cuts.iter().map(|c| c.len()).collect::<Vec<_>>(), (0..24).collect::<Vec<_>>());
+    assert!(cuts.windows(2).all(|w| w[1].starts_with(&w[0])));
 }

@@ -4,19 +4,23 @@
 It fails as well when there are not as many cases and streams as it counts below, when a block of cases.txt is
 not a name, an input and an output (two blocks that run together are none), when a name repeats, when tests/vectors/ holds other
 files than its MANIFEST lists or a file with another SHA-256, and when the program ends with a status other than 0, says
-something on its standard error, or does not end within a minute.
+something on its standard error, or does not end within a minute. With --portions each is run again, fed one byte at a time, in
+pieces, and with each command only when the one before it is answered (tests/feeding.py).
 
-usage: log_cases.py PROGRAM [ARGUMENT ..]"""
+usage: log_cases.py [--portions] PROGRAM [ARGUMENT ..]"""
 
 import hashlib
 import os
-import subprocess
+import random
 import sys
 
+import feeding
 import streams
 
 VECTORS = os.path.join(os.path.dirname(os.path.abspath(__file__)), "vectors")
-PROGRAM = sys.argv[1:]
+PORTIONS = sys.argv[1:2] == ["--portions"]
+PROGRAM = sys.argv[1 + PORTIONS :]
+WAYS = feeding.WAYS if PORTIONS else ["whole"]
 # how many there are: a new case or stream is counted here
 CASES = 20
 STREAMS = 17
@@ -51,19 +55,17 @@ def stored():
             yield name, read(os.path.join(VECTORS, name)), read(os.path.join(VECTORS, name[:-4] + ".log"))
 
 
-def run(name, data, want):
+def run(program, name, way, data, want):
     """Whether the program does what it should."""
-    try:
-        done = subprocess.run(PROGRAM, input=data, stdout=subprocess.PIPE, stderr=subprocess.PIPE, timeout=SECONDS)
-    except subprocess.TimeoutExpired:
-        faults.append(f"{name}: no end within {SECONDS} seconds")
-        return
-    if done.returncode != 0:
-        faults.append(f"{name}: ended with status {done.returncode}")
-    if done.stderr:
-        faults.append(f"{name}: said {done.stderr[:300]}")
-    if done.stdout != want:
-        faults.append(f"differs: {name}\n  wanted {want[:300]}\n  got    {done.stdout[:300]}")
+    done = program.run(data, way, want, random.Random(0))
+    if done.fault:
+        faults.append(f"{name}: {done.fault}")
+    elif done.status != 0:
+        faults.append(f"{name}: ended with status {done.status}")
+    if done.said:
+        faults.append(f"{name}: said {done.said[:300]}")
+    if done.printed != want:
+        faults.append(f"differs: {name}\n  wanted {want[:300]}\n  got    {done.printed[:300]}")
 
 
 def main():
@@ -72,9 +74,12 @@ def main():
         faults.append(f"cases.txt has {len(blocks)} cases, not {CASES}")
     if len(pairs) != STREAMS:
         faults.append(f"tests/vectors has {len(pairs)} streams, not {STREAMS}")
+    program = feeding.Program(PROGRAM, SECONDS)
     for name, data, want in blocks + pairs:
-        run(name, data, want)
-    print("\n".join(faults) if faults else f"{len(blocks)} cases and {len(pairs)} streams, all as stored")
+        for way in WAYS:
+            run(program, f"{name}, fed {way}" if PORTIONS else name, way, data, want)
+    fed = f", fed in {len(WAYS)} ways" * PORTIONS
+    print("\n".join(faults) if faults else f"{len(blocks)} cases and {len(pairs)} streams, all as stored{fed}")
     sys.exit(1 if faults else 0)
 
 

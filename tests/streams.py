@@ -1,5 +1,6 @@
 """Command streams as tests/cases.txt writes them: commands between semicolons, points as x,y, U and V by their names."""
 
+import collections
 import os
 import re
 
@@ -56,3 +57,45 @@ def cases(faults):
             faults.append(f"cases.txt: a name that repeats or is none: {name!r}")
         names.add(name)
         yield name, given, wanted
+
+
+# ---- streams and logs, command by command
+
+SIZES = {code: 1 + 2 * n - (2 <= code <= 6) for code, n in OPERANDS.items()}
+MOST_WAITING = 512
+# one command: what it is (its number, or why it is bad), where it ends in the stream, its first line, where the log then ends
+Step = collections.namedtuple("Step", "what end line shown")
+
+
+def fault_at(stream, at):
+    """Why the command at an offset is bad, or nothing."""
+    code, there = stream[at], len(stream) - at
+    if code not in SIZES:
+        return "unknown byte"
+    if 2 <= code <= 6 and there > 1 and stream[at + 1] > 1:
+        return f"{code} with c above 1"
+    return f"{code} cut after {there} of {SIZES[code]} bytes" if there < SIZES[code] else None
+
+
+def line_end(log, at, lines=1):
+    for _ in range(lines):
+        at = log.index(b"\n", at) + 1
+    return at
+
+
+def steps(stream, log):
+    """The commands of a stream, with what its log has for each."""
+    at, shown, waiting = 0, line_end(log, 0), 0
+    while at < len(stream):
+        fault, code = fault_at(stream, at), stream[at]
+        at += SIZES.get(code, 1)
+        if fault:
+            yield Step("bad: " + fault, at, log[shown:-1], len(log))
+            return
+        line = b""
+        if code != 1 or waiting == MOST_WAITING:
+            end = line_end(log, shown)
+            line = log[shown : end - 1]
+            shown = line_end(log, end, int(line.split()[2])) if line.startswith(b"7 0 ") else end
+        waiting = 0 if code == 2 else min(waiting + (code == 1), MOST_WAITING)
+        yield Step(str(code), at, line, shown)
