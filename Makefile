@@ -1,9 +1,9 @@
 # make alone prints the targets. Each target first tells what it needs and is not here.
 TARGETS := run test fuzz bench stack model map mutants
 
-run.does := proves, builds and runs the command program on document 01's example
-run.needs := rt rustc python3
-run.takes := as long as the proofs that are not made yet; some 6 minutes for all
+run.does := proves and builds the command program, and shows a paper with its key, and document 01's example
+run.needs := rt python3
+run.takes := some 6 minutes the first time, then seconds
 run.by := bash tests/demo.sh
 
 test.does := the whole gate: proofs, must-fail edits, programs, reference model, definitions executed, pages; .ci/run calls it

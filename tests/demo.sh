@@ -1,11 +1,22 @@
 #!/usr/bin/env bash
-# Runs the command program on document 01's example. The program does not exist yet, so what there is is run: the crates
-# are proved, document 01's example among the facts that the checker computes, and the reference model prints its log.
+# make run: proves what the command program needs and builds it, then shows a paper and its key, and document 01's example as bytes and
+# as the log that the program prints.
 set -eu
 cd "$(dirname "$0")/.."
-echo "The command program does not exist yet. Proving the definitions, with document 01's example among their facts:"
+program=target/bin/overlay_log
 mkdir -p target
-bash tests/prove.sh target/run.log check || { echo "not proved; target/run.log has what rt says"; exit 1; }
-bash tests/model.sh build
-echo "What the reference model prints for document 01's example (1 U, 2 0, 1 V, 2 1, 7):"
-printf '\1\0\0\0\0\377\377\0\0\0\0\377\377\2\0\1\377\377\377\377\0\0\377\377\377\377\0\0\2\1\7' | target/model/model log
+if [ ! -x "$program" ]; then
+    echo "The first time the command program and all crates below it are proved, which takes some 6 minutes on 2 cores; then seconds."
+fi
+bash tests/prove.sh target/run.log check overlay_log || { echo "not proved; target/run.log has what rt says"; exit 1; }
+echo
+echo "== the paper examples/turning-basin.txt"
+cat examples/turning-basin.txt
+echo
+echo "== its key, by ./chartkey examples/turning-basin.txt"
+./chartkey examples/turning-basin.txt
+echo
+echo "== document 01's example, 1 U, 2 0, 1 V, 2 1, 7, as bytes"
+od -An -v -tx1 crates/overlay_log/stdin
+echo "== its log, by $program"
+"$program" <crates/overlay_log/stdin

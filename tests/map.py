@@ -32,13 +32,17 @@ STOREYS = {
     "overlay": "what an overlay lists",
     "call": "the public calls",
     "replay": "lists of calls, and demand 3 as running code",
+    "log": "the command program, from bytes to bytes",
     "bench": "for the benchmark",
     "test": "test programs",
 }
+NAMED = {"overlay_log": "log"}  # the command program, which is named by what it prints first
 KIT = ["io", "libc", "os", "check", "bytes"]  # the kit's libraries
 # what a crate lists and does not name: the crate that it comes through, and the type of the values that pass; C functions have none
 PASSING = {
     "call_edits": {"edit_rows": ("edit_steps", "Edited")},
+    "log_readers": {"replay_lists": ("log_events", "Counts")},
+    "overlay_log": {"log_events": ("log_reader", "BothCounts"), "replay_lists": ("log_events", "Counts")},
     "test_calls": {"spec_plane": ("test_changes", "Point")},
     "test_readers": {"io": ("test_support", None), "libc": ("test_support", None)},
     "test_replay": {"replay_lists": ("replay", "Counts")},
@@ -48,7 +52,7 @@ faults = []
 
 
 def storey(name):
-    return name.split("_")[0]
+    return NAMED.get(name) or name.split("_")[0]
 
 
 # ---- the texts of a crate
