@@ -19,7 +19,7 @@ use Rattle.spec_log.specs.Log.{State, Step, tableIn, withChart, withWaiting, ev
 use Rattle.replay_calls.specs.Encoding.{IsCall, callLength, callEvent}
 use Rattle.log_lines.specs.Bytes.{Wrote}
 use Rattle.log_state.specs.State.{Charts, Ran}
-use Rattle.log_commands.specs.Commands.{wordAt, editNumbers, editLength, callHead, waitingIn, Running, RanCommand, Waited}
+use Rattle.log_commands.specs.Commands.{wordAt, editLength, callHead, waitingIn, Running, RanCommand, Waited}
 use Rattle.log_commands.proofs.WaitLaws.{word-after, wait-charts}
 
 -- the same step, said otherwise

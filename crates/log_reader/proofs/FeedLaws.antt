@@ -2,8 +2,8 @@
 -- The idea: the bytes held and one more are the first bytes of the array, and what comes after a command's operands plays no part in it.
 -- Assumes nothing.
 use mathlib.Core.Path.{_≡_, refl, sym, _∙_, ap, subst}
-use mathlib.Core.Bool.{Bool, true, false, not, _&&_, _||_}
-use mathlib.Core.List.{List, [], _∷_, _++_}
+use mathlib.Core.Bool.{Bool, true, false, not}
+use mathlib.Core.List.{List, [], _∷_}
 use Prim.Native.Nat.{ℕ, zero, suc, _+_, _≤_, _<_}
 use native.Mathlib.Omega.{arith}
 use native.Mathlib.Numerals.{add-one}
@@ -12,13 +12,13 @@ use lib.Dec.{leb}
 use lib.ListN.{length, getD, take, drop, set, take-append-drop, length-drop, length-set}
 use lib.Seq.{take-suc-set, length-take-le}
 use Rattle.spec_calls.specs.Buffers.{Chart}
-use Rattle.spec_log.specs.Log.{State, badLine, known, takesChart, operandBytes, stepOf}
-use Rattle.log_portions.specs.Portions.{Progress, more, whole, bad, fineSoFar, progressOf, Reading, Fed, settle, joinByte, feedByte}
+use Rattle.spec_log.specs.Log.{badLine, operandBytes, stepOf}
+use Rattle.log_portions.specs.Portions.{Progress, more, whole, bad, fineSoFar, progressOf, Reading, settle, joinByte, feedByte}
 use Rattle.log_portions.proofs.PortionLaws.{step-prefix, fine-known}
 use Rattle.log_lines.specs.Bytes.{Wrote}
 use Rattle.log_lines.proofs.LineLaws.{wrote-none, wrote-as}
 use Rattle.log_events.specs.declared.BothCounts.{BothCounts}
-use Rattle.log_commands.specs.Commands.{Running, RanCommand}
+use Rattle.log_commands.specs.Commands.{RanCommand}
 use Rattle.log_reader.specs.declared.Reader.{Reader}
 use Rattle.log_reader.specs.Reader.{Keeps, FedAs}
 

@@ -3,7 +3,6 @@
 use mathlib.Core.Path.{_≡_, refl, sym, _∙_, ap, ap₂}
 use mathlib.Core.Bool.{Bool, true, false}
 use mathlib.Core.List.{List, [], _∷_, _++_}
-use mathlib.Core.Option.{Option, none, some}
 use Prim.Native.Nat.{ℕ, zero, suc, _+_, _^_, _≤_, _<_}
 use native.Mathlib.Omega.{arith}
 use borrow.Author.Tests.{ltb-false, eq-eqb, ne-eqb}
@@ -14,7 +13,7 @@ use Rattle.theory_lists.proofs.EveryLaws.{every-nil}
 use Rattle.spec_plane.specs.declared.Point.{Point}
 use Rattle.spec_charts.specs.declared.Refusal.{Refusal}
 use Rattle.spec_charts.specs.declared.Refusal.the-variants.{TooManyPairs}
-use Rattle.spec_charts.specs.Refusals.{Outcome, refused, done, refuseIf, outcomeNumber}
+use Rattle.spec_charts.specs.Refusals.{Outcome, done, refuseIf, outcomeNumber}
 use Rattle.spec_charts.specs.Overlay.{Pair, OverlayAnswer, pairsListed, overlayOf, withinPairs, maxPairs}
 use Rattle.spec_calls.specs.Buffers.{Chart, chartTable, chartEntries, pairsLength}
 use Rattle.spec_calls.specs.Calls.{locateCall, overlayCall, overlaidBy}
@@ -23,7 +22,7 @@ use Rattle.spec_log.specs.Log.{State, line, tableIn, locatedNumbers, locateStep
 use Rattle.base_answers.specs.declared.Located.{Located}
 use Rattle.base_answers.specs.declared.Located.the-variants.{At, Nowhere, Refused}
 use Rattle.base_answers.specs.Outcomes.{locatedOutcome, locatedOf}
-use Rattle.log_lines.specs.Bytes.{Wrote, pairLines}
+use Rattle.log_lines.specs.Bytes.{pairLines}
 use Rattle.log_lines.proofs.LineLaws.{line-short}
 use Rattle.log_state.specs.State.{Charts, chartIn, overlaidLines}
 use Rattle.log_state.proofs.HoldingLaws.{locate-told, overlay-told}

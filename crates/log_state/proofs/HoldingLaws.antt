@@ -2,34 +2,31 @@
 -- The idea: such a chart passes refusals 1, 2 and 3, so a call comes to what its event, locate or overlay comes to on the tables; and no
 -- refusal has the number 0, so what is printed is read from the number.
 -- Assumes nothing.
-use mathlib.Core.Path.{_≡_, refl, sym, _∙_, ap, subst}
-use mathlib.Core.Bool.{true, false}
-use mathlib.Core.List.{List, [], _∷_, _++_, flatMap, append-assoc}
-use Prim.Native.Nat.{ℕ, zero, suc, _-_, _≤_, _<_}
+use mathlib.Core.Path.{_≡_, refl, sym, _∙_, ap}
+use mathlib.Core.Bool.{false}
+use mathlib.Core.List.{List, [], _∷_, _++_, append-assoc}
+use Prim.Native.Nat.{ℕ, _-_, _≤_}
 use native.Mathlib.Omega.{arith}
 use borrow.Author.Tests.{ne-eqb}
-use lib.Dec.{eqb}
 use lib.ListN.{length, drop, replicate}
 use Rattle.spec_plane.specs.declared.Point.{Point}
 use Rattle.spec_charts.specs.Table.{Table}
 use Rattle.spec_charts.specs.Cells.{entriesOf}
-use Rattle.spec_charts.specs.declared.Refusal.{Refusal}
 use Rattle.spec_charts.specs.Refusals.{rowOf, Outcome, refused, done, outcomeNumber, outcomeValue, doneOr}
 use Rattle.spec_charts.specs.Edits.{Event, load, eventOn, afterEvent}
 use Rattle.spec_charts.specs.Overlay.{OverlayAnswer, pairNumbers, overlayOf}
 use Rattle.spec_charts.specs.Reading.{located}
 use Rattle.laws_charts.proofs.OutcomeLaws.{row-positive}
 use Rattle.spec_calls.specs.Buffers.{Chart, tooShort, chartTable, chartEntries, indexedChart, chartWith, padded, pairsLength}
-use Rattle.spec_calls.specs.Calls.{Changed, Located, changedBy, locateCall, overlaidBy, overlayCall}
+use Rattle.spec_calls.specs.Calls.{locateCall, overlaidBy, overlayCall}
 use Rattle.spec_calls.specs.History.{eventCall}
 use Rattle.laws_calls.proofs.IndexedLaws.{Editable, indexed-table, indexed-entries, indexed-editable}
-use Rattle.laws_calls.proofs.OverwriteLaws.{Indexable}
 use Rattle.laws_calls.proofs.AcceptedLaws.{after-fits}
 use Rattle.laws_calls.proofs.EditCalls.{event-chart, event-number, event-value}
 use Rattle.laws_calls.proofs.ReaderLaws.{located-done}
 use Rattle.laws_histories.proofs.ChartHistory.{load-empty, empty-fits}
 use Rattle.laws_histories.proofs.IndexedOverlay.{overlay-passes}
-use Rattle.spec_log.specs.Log.{State, eventNumbers, refusalNumbers, overlayLines, line}
+use Rattle.spec_log.specs.Log.{eventNumbers, refusalNumbers, overlayLines, line}
 use Rattle.log_lines.specs.Bytes.{pairLines}
 use Rattle.log_lines.proofs.LineLaws.{pair-lines}
 use Rattle.log_state.specs.State.{Holding, toldNumbers, overlaidLines}

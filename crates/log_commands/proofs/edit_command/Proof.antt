@@ -1,14 +1,12 @@
 -- The command byte and its operands are the numbers of its call.
 use mathlib.Core.Path.{_≡_, sym, _∙_, ap, subst}
-use Prim.Native.Nat.{ℕ, _≤_}
 use native.Mathlib.Omega.{arith}
 use borrow.Author.Needs.{needs}
-use mathlib.Core.List.{List}
 use lib.ListN.{length, getD, take}
 use lib.Seq.{length-take-le}
 use Rattle.replay_calls.specs.Encoding.{IsCall}
 use Rattle.log_commands.specs.Commands.{editNumbers, editLength}
-use Rattle.log_commands.proofs.CommandLaws.{ran-as, edit-call, edit-ran}
+use Rattle.log_commands.proofs.CommandLaws.{edit-call, edit-ran}
 use Rattle.log_commands.proofs.edit_command.Statement.{statement}
 use Rattle.log_commands.proofs.edit_command.Tie as tie
 

@@ -1,5 +1,4 @@
 -- Fewer than 3,072 numbers wait, so there is room for six more; or as many wait, and the triangle is dropped.
-use mathlib.Core.Path.{_≡_}
 use native.Mathlib.Omega.{arith}
 use borrow.Author.Needs.{needs}
 use lib.ListN.{drop}

@@ -1,11 +1,6 @@
-use mathlib.Core.Path.{_≡_, sym, _∙_, ap, subst}
-use mathlib.Core.List.{List, [], _∷_, _++_}
-use Prim.Native.Nat.{ℕ, _+_, _/_, _%_, _≤_, _<_}
+use Prim.Native.Nat.{ℕ, _+_, _≤_, _<_}
 use native.Mathlib.Omega.{arith}
 use borrow.Author.Needs.{needs}
-use lib.ListN.{length, length-append}
-use Rattle.spec_log.specs.Log.{decimal}
-use Rattle.log_lines.specs.Bytes.{Wrote}
 use Rattle.log_lines.proofs.LineLaws.{room-one, length-more, wrote-digit, wrote-digits, wrote-length}
 use borrow.Fn.Kinds.{In}
 use borrow.Fn.PlainCycle.{Measures, is, falls, and}

@@ -1,4 +1,3 @@
-use native.Mathlib.Omega.{arith}
 use borrow.Author.Needs.{needs}
 use Rattle.log_lines.proofs.LineLaws.{heading-is, wrote-as}
 use Rattle.log_lines.proofs.put_heading.Statement.{statement}

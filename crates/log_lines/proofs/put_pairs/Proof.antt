@@ -1,5 +1,5 @@
 -- After k pairs their lines stand in the output, of at most twelve bytes each.
-use mathlib.Core.Path.{_∙_, ap, ap₂}
+use mathlib.Core.Path.{ap, ap₂}
 use mathlib.Core.List.{[], _∷_}
 use Prim.Native.Nat.{_+_, _*_, _-_, _≤_}
 use native.Mathlib.Omega.{arith}

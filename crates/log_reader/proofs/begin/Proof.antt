@@ -2,13 +2,11 @@
 use mathlib.Core.Path.{_≡_, refl, sym, subst}
 use mathlib.Core.Bool.{false}
 use mathlib.Core.List.{List, [], _∷_}
-use Prim.Native.Nat.{ℕ, _+_, _≤_}
+use Prim.Native.Nat.{ℕ, _+_}
 use native.Mathlib.Omega.{arith}
 use borrow.Author.Needs.{needs}
-use lib.ListN.{length, replicate}
 use Rattle.spec_calls.specs.Buffers.{Chart, chartOf, tooShort}
 use Rattle.spec_calls.specs.Lent.{held}
-use Rattle.replay_lists.specs.declared.Counts.{Counts}
 use Rattle.log_portions.specs.Portions.{startReading}
 use Rattle.log_reader.specs.declared.Reader.{Reader}
 use Rattle.log_reader.specs.Reader.{Ready, Keeps}

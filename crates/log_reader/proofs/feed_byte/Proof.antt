@@ -1,8 +1,8 @@
 -- The bytes held and one more are no command's, want more, or are a whole command's, which is run.
-use mathlib.Core.Path.{_≡_, sym, _∙_, ap, subst}
-use mathlib.Core.Bool.{true, false, not}
+use mathlib.Core.Path.{_≡_, sym, _∙_, subst}
+use mathlib.Core.Bool.{false}
 use mathlib.Core.List.{List}
-use Prim.Native.Nat.{ℕ, _+_, _^_, _≤_, _<_}
+use Prim.Native.Nat.{ℕ, _+_, _≤_, _<_}
 use native.Mathlib.Omega.{arith}
 use borrow.Author.Needs.{needs}
 use lib.ListN.{length, getD, set, length-set}
@@ -13,7 +13,6 @@ use Rattle.replay_lists.specs.declared.Counts.{Counts}
 use Rattle.log_portions.specs.Portions.{Reading, feedByte}
 use Rattle.log_lines.proofs.LineLaws.{bad-short}
 use Rattle.log_reader.specs.declared.Fed.{Fed}
-use Rattle.log_reader.specs.declared.Reader.{Reader}
 use Rattle.log_reader.specs.Reader.{Ready, Keeps, FedAs}
 use Rattle.log_reader.proofs.FeedLaws.{fed-bad, fed-more, fed-whole}
 use Rattle.log_reader.proofs.feed_byte.Statement.{statement}

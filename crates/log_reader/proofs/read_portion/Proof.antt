@@ -1,17 +1,16 @@
 -- After `used` bytes what they print stands in the output, and the reader keeps the reading after them; no list has changed its length.
-use mathlib.Core.Path.{_≡_, refl, sym, _∙_, ap, subst}
+use mathlib.Core.Path.{_≡_, refl, sym, _∙_, subst}
 use mathlib.Core.Bool.{false}
 use mathlib.Core.List.{List}
 use Prim.Native.Nat.{ℕ, _+_, _-_, _^_, _≤_, _<_}
 use native.Mathlib.Omega.{arith}
 use borrow.Author.Needs.{needs}
 use lib.ListN.{length, take}
-use Rattle.spec_calls.specs.Buffers.{Chart, chartOf, pairsLength}
+use Rattle.spec_calls.specs.Buffers.{Chart, chartOf}
 use Rattle.spec_calls.specs.Lent.{held}
 use Rattle.replay_lists.specs.declared.Counts.{Counts}
 use Rattle.log_portions.specs.Portions.{Reading, feed}
 use Rattle.log_readers.specs.Readers.{overlayRoom}
-use Rattle.log_commands.specs.Commands.{waitingLength}
 use Rattle.log_reader.specs.declared.Portion.{Portion}
 use Rattle.log_reader.specs.declared.Reader.{Reader}
 use Rattle.log_reader.specs.Reader.{Keeps, FedAs, ReadOn}

@@ -1,9 +1,8 @@
 -- The overlay, then its lines.
-use mathlib.Core.Path.{_≡_, sym, ap, subst}
+use mathlib.Core.Path.{sym, ap, subst}
 use Prim.Native.Nat.{_≤_}
 use native.Mathlib.Omega.{arith}
 use borrow.Author.Needs.{needs}
-use lib.ListN.{length}
 use Rattle.spec_charts.specs.Overlay.{maxPairs}
 use Rattle.spec_calls.specs.Buffers.{Chart}
 use Rattle.spec_calls.specs.Lent.{held}

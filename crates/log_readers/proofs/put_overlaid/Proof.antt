@@ -1,5 +1,5 @@
 -- What is printed goes by the number of the answer.
-use mathlib.Core.Path.{refl, sym, _∙_}
+use mathlib.Core.Path.{refl}
 use native.Mathlib.Omega.{arith}
 use borrow.Author.Needs.{needs}
 use Rattle.spec_calls.specs.Calls.{Overlaid}
