@@ -8,7 +8,7 @@ run.by := bash tests/demo.sh
 
 test.does := the whole gate: proofs, must-fail edits, programs, reference model, definitions executed, pages; .ci/run calls it
 test.needs := rt rustc python3
-test.takes := some 24 minutes
+test.takes := some 36 minutes
 test.by := bash tests/run.sh
 
 fuzz.does := drawn command streams by the command program and by the reference model, log for log; SEED=7, SECONDS=600 or STREAMS=100000
