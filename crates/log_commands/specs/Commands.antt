@@ -8,9 +8,10 @@ use lib.Dec.{eqb}
 use lib.ListN.{length, getD, take, drop}
 use Rattle.spec_charts.specs.Table.{numbersPerTriangle, tableLength}
 use Rattle.spec_calls.specs.Buffers.{Chart}
-use Rattle.spec_log.specs.Log.{State, Step, waitStep}
+use Rattle.spec_log.specs.Log.{State, Step, waitStep, loadStep, stepOf}
 use Rattle.log_lines.specs.Bytes.{Wrote}
-use Rattle.log_state.specs.State.{Charts}
+use Rattle.log_state.specs.State.{Charts, Ran}
+use Rattle.log_events.specs.Both.{Both}
 
 -- the 16-bit number at places k and k + 1, low byte first
 abbrev pub wordAt : List ℕ → ℕ → ℕ
@@ -57,3 +58,18 @@ pub record Waited (ws : List ℕ) (at next : ℕ) (before after : List ℕ) (n m
   pub waits : (s : State) → s .waiting ≡ waitingIn waiting n → waitStep ws s .after .waiting ≡ waitingIn waiting′ m
   pub whole : Whole m
   pub room : next ≤ length after
+
+-- command 2 was made on chart c, whatever state the buffers held
+abbrev pub RanLoad : ℕ → Both → List ℕ → ℕ → Both → ℕ → ℕ → List ℕ → List ℕ → Type 0
+RanLoad c b waiting n b′ at next before after = (s : State) → Running s (b .first) (b .second) waiting n
+    → Ran (loadStep c s) at next before after (b′ .first) (b′ .second)
+
+-- a command that is an edit was made of the bytes held
+abbrev pub RanEdit : List ℕ → Both → Both → ℕ → ℕ → List ℕ → List ℕ → Type 0
+RanEdit held b b′ at next before after = (s : State) → Charts s (b .first) (b .second)
+    → Ran (stepOf (getD held 0 0) (drop 1 held) s) at next before after (b′ .first) (b′ .second)
+
+-- any command was
+abbrev pub RanHeld : List ℕ → Both → List ℕ → ℕ → Both → List ℕ → ℕ → ℕ → ℕ → List ℕ → List ℕ → Type 0
+RanHeld held b waiting n b′ waiting′ n′ at next before after = (s : State) → Running s (b .first) (b .second) waiting n
+    → RanCommand (stepOf (getD held 0 0) (drop 1 held) s) at next before after (b′ .first) (b′ .second) waiting′ n′

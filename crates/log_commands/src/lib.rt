@@ -9,12 +9,11 @@ ghost use mathlib.Core.Path.{_≡_};
 ghost use Prim.Native.Nat.{_+_, _≤_, _<_};
 ghost use lib.ListN.{length, getD, drop};
 ghost use Rattle.spec_calls.specs.Buffers.{pairsLength};
-ghost use Rattle.spec_calls.specs.Lent.{given, leftChart};
-ghost use Rattle.spec_log.specs.Log.{State, wordsOf, loadStep, stepOf};
+ghost use Rattle.spec_log.specs.Log.{wordsOf};
+ghost use Rattle.log_events.specs.Both.{bothGiven, bothLeft};
 ghost use Rattle.log_events.specs.Events.{lineRoom};
 ghost use Rattle.log_readers.specs.Readers.{overlayRoom};
-ghost use Rattle.log_state.specs.State.{Charts, Ran};
-ghost use Rattle.log_commands.specs.Commands.{Whole, waitingLength, Waited, Running, RanCommand};
+ghost use Rattle.log_commands.specs.Commands.{Whole, waitingLength, Waited, RanLoad, RanEdit, RanHeld};
 
 // The numbers before those of the waiting table, so that with them it is the call that loads it.
 const CALL_HEAD: usize = 2;
@@ -69,7 +68,7 @@ fn load_command(
     at: usize,
 ) -> Printed
     requires { ⌜ Whole waits × ((waitingLength ≤ length (now waiting)) × (at + lineRoom ≤ length (now out))) ⌝ }
-    ensures { λ r. ⌜ ((s : State) → Running s (given table0 keys0 levels0 items0 (counts .first .triangles) (counts .first .entries)) (given table1 keys1 levels1 items1 (counts .second .triangles) (counts .second .entries)) (now (waiting .entry)) waits → Ran (loadStep c s) at (r .at) (now (out .entry)) (now (out .exit)) (leftChart table0 keys0 levels0 items0 (r .counts .first .triangles) (r .counts .first .entries)) (leftChart table1 keys1 levels1 items1 (r .counts .second .triangles) (r .counts .second .entries))) ⌝ }
+    ensures { λ r. ⌜ RanLoad c (bothGiven table0 keys0 levels0 items0 table1 keys1 levels1 items1 counts) (now (waiting .entry)) waits (bothLeft table0 keys0 levels0 items0 table1 keys1 levels1 items1 (r .counts)) at (r .at) (now (out .entry)) (now (out .exit)) ⌝ }
     ensures { λ r. ⌜ r .at ≤ length (now (out .exit)) ⌝ }
 {
     waiting[0] = replay_calls::LOAD;
@@ -108,7 +107,7 @@ fn edit_command(
     at: usize,
 ) -> Printed
     requires { ⌜ ((3 ≤ getD (now held) 0 0) × (getD (now held) 0 0 ≤ 5)) × (at + lineRoom ≤ length (now out)) ⌝ }
-    ensures { λ r. ⌜ ((s : State) → Charts s (given table0 keys0 levels0 items0 (counts .first .triangles) (counts .first .entries)) (given table1 keys1 levels1 items1 (counts .second .triangles) (counts .second .entries)) → Ran (stepOf (getD (now (held .entry)) 0 0) (drop 1 (now (held .entry))) s) at (r .at) (now (out .entry)) (now (out .exit)) (leftChart table0 keys0 levels0 items0 (r .counts .first .triangles) (r .counts .first .entries)) (leftChart table1 keys1 levels1 items1 (r .counts .second .triangles) (r .counts .second .entries))) ⌝ }
+    ensures { λ r. ⌜ RanEdit (now (held .entry)) (bothGiven table0 keys0 levels0 items0 table1 keys1 levels1 items1 counts) (bothLeft table0 keys0 levels0 items0 table1 keys1 levels1 items1 (r .counts)) at (r .at) (now (out .entry)) (now (out .exit)) ⌝ }
     ensures { λ r. ⌜ r .at ≤ length (now (out .exit)) ⌝ }
 {
     let numbers = words::edit_numbers(held);
@@ -163,7 +162,7 @@ pub fn run_command(
     at: usize,
 ) -> Done
     requires { ⌜ Whole waits × ((waitingLength ≤ length (now waiting)) × ((pairsLength ≤ length (now pairs)) × (at + overlayRoom ≤ length (now out)))) ⌝ }
-    ensures { λ r. ⌜ ((s : State) → Running s (given table0 keys0 levels0 items0 (counts .first .triangles) (counts .first .entries)) (given table1 keys1 levels1 items1 (counts .second .triangles) (counts .second .entries)) (now (waiting .entry)) waits → RanCommand (stepOf (getD (now (held .entry)) 0 0) (drop 1 (now (held .entry))) s) at (r .at) (now (out .entry)) (now (out .exit)) (leftChart table0 keys0 levels0 items0 (r .counts .first .triangles) (r .counts .first .entries)) (leftChart table1 keys1 levels1 items1 (r .counts .second .triangles) (r .counts .second .entries)) (now (waiting .exit)) (r .waits)) ⌝ }
+    ensures { λ r. ⌜ RanHeld (now (held .entry)) (bothGiven table0 keys0 levels0 items0 table1 keys1 levels1 items1 counts) (now (waiting .entry)) waits (bothLeft table0 keys0 levels0 items0 table1 keys1 levels1 items1 (r .counts)) (now (waiting .exit)) (r .waits) at (r .at) (now (out .entry)) (now (out .exit)) ⌝ }
     ensures { λ r. ⌜ (r .at ≤ length (now (out .exit))) × Whole (r .waits) ⌝ }
 {
     let b = held[0];

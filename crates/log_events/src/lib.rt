@@ -5,16 +5,15 @@ use log_lines::put_line;
 use replay_lists::Counts;
 ghost use mathlib.Core.Path.{_≡_};
 ghost use Prim.Native.Nat.{_+_, _≤_};
-ghost use lib.ListN.{length, getD};
+ghost use lib.ListN.{length};
 ghost use Rattle.spec_charts.specs.Refusals.{outcomeNumber, outcomeValue};
-ghost use Rattle.spec_charts.specs.Edits.{eventOn};
-ghost use Rattle.spec_calls.specs.Lent.{given, leftChart};
-ghost use Rattle.spec_log.specs.Log.{State, line, tableIn, eventStep};
+ghost use Rattle.spec_log.specs.Log.{line};
 ghost use Rattle.base_answers.specs.Outcomes.{verdictOutcome};
-ghost use Rattle.replay_calls.specs.Encoding.{IsCall, callEvent};
+ghost use Rattle.replay_calls.specs.Encoding.{IsCall};
 ghost use Rattle.log_lines.specs.Bytes.{Wrote};
-ghost use Rattle.log_state.specs.State.{Charts, Ran, toldNumbers};
-ghost use Rattle.log_events.specs.Events.{CalledOn, lineRoom};
+ghost use Rattle.log_state.specs.State.{toldNumbers};
+ghost use Rattle.log_events.specs.Both.{bothGiven, bothLeft};
+ghost use Rattle.log_events.specs.Events.{Called, RanCall, lineRoom};
 
 // The counts of both charts.
 pub struct BothCounts {
@@ -62,7 +61,7 @@ fn change(
     counts: BothCounts,
 ) -> Told
     requires { ⌜ IsCall (now call) ⌝ }
-    ensures { λ r. ⌜ CalledOn c (callEvent (now (call .entry))) (given table0 keys0 levels0 items0 (counts .first .triangles) (counts .first .entries)) (given table1 keys1 levels1 items1 (counts .second .triangles) (counts .second .entries)) (r .changed) (leftChart table0 keys0 levels0 items0 (r .counts .first .triangles) (r .counts .first .entries)) (leftChart table1 keys1 levels1 items1 (r .counts .second .triangles) (r .counts .second .entries)) ⌝ }
+    ensures { λ r. ⌜ Called c (now (call .entry)) (bothGiven table0 keys0 levels0 items0 table1 keys1 levels1 items1 counts) (r .changed) (bothLeft table0 keys0 levels0 items0 table1 keys1 levels1 items1 (r .counts)) ⌝ }
 {
     let first = counts.first;
     let second = counts.second;
@@ -139,7 +138,7 @@ pub fn event_command(
     at: usize,
 ) -> Printed
     requires { ⌜ IsCall (now call) × (at + lineRoom ≤ length (now out)) ⌝ }
-    ensures { λ r. ⌜ ((s : State) → Charts s (given table0 keys0 levels0 items0 (counts .first .triangles) (counts .first .entries)) (given table1 keys1 levels1 items1 (counts .second .triangles) (counts .second .entries)) → Ran (eventStep (getD (now (call .entry)) 0 0) c (eventOn (callEvent (now (call .entry))) (tableIn c s)) s) at (r .at) (now (out .entry)) (now (out .exit)) (leftChart table0 keys0 levels0 items0 (r .counts .first .triangles) (r .counts .first .entries)) (leftChart table1 keys1 levels1 items1 (r .counts .second .triangles) (r .counts .second .entries))) ⌝ }
+    ensures { λ r. ⌜ RanCall c (now (call .entry)) (bothGiven table0 keys0 levels0 items0 table1 keys1 levels1 items1 counts) (bothLeft table0 keys0 levels0 items0 table1 keys1 levels1 items1 (r .counts)) at (r .at) (now (out .entry)) (now (out .exit)) ⌝ }
     ensures { λ r. ⌜ r .at ≤ length (now (out .exit)) ⌝ }
 {
     let command = call[0];

@@ -5,9 +5,11 @@ use mathlib.Core.Bool.{false}
 use mathlib.Core.List.{List}
 use Prim.Native.Nat.{ℕ, _+_, _≤_, _<_}
 use lib.ListN.{length, take}
-use Rattle.spec_calls.specs.Buffers.{Chart}
-use Rattle.log_portions.specs.Portions.{Reading, Fed}
+use Rattle.spec_calls.specs.Buffers.{Chart, tooShort}
+use Rattle.log_portions.specs.Portions.{Reading, startReading, Fed}
 use Rattle.log_lines.specs.Bytes.{Wrote}
+use Rattle.log_events.specs.declared.BothCounts.{BothCounts}
+use Rattle.log_events.specs.Both.{Both}
 use Rattle.log_readers.specs.Readers.{overlayRoom}
 use Rattle.log_commands.specs.Commands.{Whole, Running}
 use Rattle.log_reader.specs.declared.Reader.{Reader}
@@ -38,3 +40,16 @@ pub record ReadOn (r : Reader) (n room : ℕ) (r′ : Reader) (used at : ℕ) : 
   pub printed : at ≤ room
   pub grown : r′ .offset + r′ .count ≤ r .offset + r .count + used
   pub onward : 0 < n → r .ended ≡ false → overlayRoom ≤ room → 0 < used
+
+-- a byte or a portion was read, whatever reading the reader kept
+abbrev pub FedFrom : (Reading → Fed) → Reader → Both → List ℕ → Reader → Both → List ℕ → ℕ → ℕ → List ℕ → List ℕ → Type 0
+FedFrom f r b waiting r′ b′ waiting′ at next before after = (q : Reading) → Keeps q r (b .first) (b .second) waiting
+    → FedAs (f q) at next before after r′ (b′ .first) (b′ .second) waiting′
+
+-- the counts of charts that are not begun
+abbrev pub noCounts : BothCounts
+noCounts = record { first = record { triangles = 0; entries = 0 }; second = record { triangles = 0; entries = 0 } }
+
+-- both charts are begun: in buffers that are long enough the reader keeps the reading before the first byte
+abbrev pub Begun : Both → Reader → Both → Type 0
+Begun b r b′ = tooShort (b .first) ≡ false → tooShort (b .second) ≡ false → (waiting : List ℕ) → Keeps startReading r (b′ .first) (b′ .second) waiting

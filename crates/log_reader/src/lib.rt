@@ -5,17 +5,16 @@ mod command_bytes;
 use log_events::BothCounts;
 ghost use mathlib.Core.Path.{_≡_};
 ghost use mathlib.Core.Bool.{false};
-ghost use mathlib.Core.List.{List};
-ghost use Prim.Native.Nat.{ℕ, _+_, _^_, _≤_, _<_};
+ghost use Prim.Native.Nat.{_+_, _^_, _≤_, _<_};
 ghost use lib.ListN.{length, take};
-ghost use Rattle.spec_calls.specs.Buffers.{tooShort, pairsLength};
-ghost use Rattle.spec_calls.specs.Lent.{given, leftChart};
-ghost use Rattle.log_portions.specs.Portions.{Reading, startReading, feedByte, feed, finish as Portions·finish};
+ghost use Rattle.spec_calls.specs.Buffers.{pairsLength};
+ghost use Rattle.log_portions.specs.Portions.{Reading, feedByte, feed, finish as Portions·finish};
 ghost use Rattle.log_lines.specs.Bytes.{Wrote};
+ghost use Rattle.log_events.specs.Both.{bothGiven, bothLeft};
 ghost use Rattle.log_events.specs.Events.{lineRoom};
 ghost use Rattle.log_readers.specs.Readers.{overlayRoom};
 ghost use Rattle.log_commands.specs.Commands.{waitingLength};
-ghost use Rattle.log_reader.specs.Reader.{Ready, Keeps, FedAs, ReadOn};
+ghost use Rattle.log_reader.specs.Reader.{Ready, FedFrom, noCounts, Begun, ReadOn};
 
 // What is kept between two bytes: the bytes of a command that is not whole and how many they are, the offset of the next command
 // byte, whether `bad` was printed, how many numbers wait, and the counts of both charts.
@@ -71,7 +70,7 @@ pub fn begin(
     levels1: &mut [u8],
     items1: &mut [u16],
 ) -> Reader
-    ensures { λ r. ⌜ (tooShort (given table0 keys0 levels0 items0 0 0) ≡ false → tooShort (given table1 keys1 levels1 items1 0 0) ≡ false → (waiting : List ℕ) → Keeps startReading r (leftChart table0 keys0 levels0 items0 (r .counts .first .triangles) (r .counts .first .entries)) (leftChart table1 keys1 levels1 items1 (r .counts .second .triangles) (r .counts .second .entries)) waiting) ⌝ }
+    ensures { λ r. ⌜ Begun (bothGiven table0 keys0 levels0 items0 table1 keys1 levels1 items1 noCounts) r (bothLeft table0 keys0 levels0 items0 table1 keys1 levels1 items1 (r .counts)) ⌝ }
     ensures { λ r. ⌜ Ready r × ((r .offset + r .count ≡ 0) × (r .ended ≡ false)) ⌝ }
 {
     let first = call_load::load(&[], table0, keys0, levels0, items0, 0, 0);
@@ -102,7 +101,7 @@ fn feed_byte(
 ) -> Fed
     requires { ⌜ Ready reader × ((reader .ended ≡ false) × (reader .offset + 13 < 2 ^ 64)) ⌝ }
     requires { ⌜ (waitingLength ≤ length (now waiting)) × ((pairsLength ≤ length (now pairs)) × (at + overlayRoom ≤ length (now out))) ⌝ }
-    ensures { λ r. ⌜ ((q : Reading) → Keeps q reader (given table0 keys0 levels0 items0 (reader .counts .first .triangles) (reader .counts .first .entries)) (given table1 keys1 levels1 items1 (reader .counts .second .triangles) (reader .counts .second .entries)) (now (waiting .entry)) → FedAs (feedByte x q) at (r .at) (now (out .entry)) (now (out .exit)) (r .reader) (leftChart table0 keys0 levels0 items0 (r .reader .counts .first .triangles) (r .reader .counts .first .entries)) (leftChart table1 keys1 levels1 items1 (r .reader .counts .second .triangles) (r .reader .counts .second .entries)) (now (waiting .exit))) ⌝ }
+    ensures { λ r. ⌜ FedFrom (λ q. feedByte x q) reader (bothGiven table0 keys0 levels0 items0 table1 keys1 levels1 items1 (reader .counts)) (now (waiting .entry)) (r .reader) (bothLeft table0 keys0 levels0 items0 table1 keys1 levels1 items1 (r .reader .counts)) (now (waiting .exit)) at (r .at) (now (out .entry)) (now (out .exit)) ⌝ }
     ensures { λ r. ⌜ Ready (r .reader) × ((r .at ≤ length (now (out .exit))) × (r .reader .offset + r .reader .count ≤ reader .offset + reader .count + 1)) ⌝ }
 {
     let count = reader.count;
@@ -177,7 +176,7 @@ pub fn read_portion(
 ) -> Portion
     requires { ⌜ Ready reader × (reader .offset + reader .count + length (now input) + 13 < 2 ^ 64) ⌝ }
     requires { ⌜ (waitingLength ≤ length (now waiting)) × (pairsLength ≤ length (now pairs)) ⌝ }
-    ensures { λ r. ⌜ ((q : Reading) → Keeps q reader (given table0 keys0 levels0 items0 (reader .counts .first .triangles) (reader .counts .first .entries)) (given table1 keys1 levels1 items1 (reader .counts .second .triangles) (reader .counts .second .entries)) (now (waiting .entry)) → FedAs (feed (take (r .used) (now (input .entry))) q) 0 (r .at) (now (out .entry)) (now (out .exit)) (r .reader) (leftChart table0 keys0 levels0 items0 (r .reader .counts .first .triangles) (r .reader .counts .first .entries)) (leftChart table1 keys1 levels1 items1 (r .reader .counts .second .triangles) (r .reader .counts .second .entries)) (now (waiting .exit))) ⌝ }
+    ensures { λ r. ⌜ FedFrom (λ q. feed (take (r .used) (now (input .entry))) q) reader (bothGiven table0 keys0 levels0 items0 table1 keys1 levels1 items1 (reader .counts)) (now (waiting .entry)) (r .reader) (bothLeft table0 keys0 levels0 items0 table1 keys1 levels1 items1 (r .reader .counts)) (now (waiting .exit)) 0 (r .at) (now (out .entry)) (now (out .exit)) ⌝ }
     ensures { λ r. ⌜ ReadOn reader (length (now (input .entry))) (length (now (out .exit))) (r .reader) (r .used) (r .at) ⌝ }
 {
     let mut kept = reader;

@@ -1,10 +1,14 @@
 -- What commands 6 and 7 print.
 -- Assumes nothing.
+use mathlib.Core.List.{List}
 use Prim.Native.Nat.{ℕ, _+_, _*_}
 use Rattle.spec_charts.specs.Overlay.{maxPairs}
+use Rattle.spec_log.specs.Log.{State, Step}
 use Rattle.base_answers.specs.declared.Located.{Located}
 use Rattle.base_answers.specs.declared.Located.the-variants.{At, Nowhere, Refused}
-use Rattle.log_lines.specs.Bytes.{pairBytes}
+use Rattle.log_lines.specs.Bytes.{Wrote, pairBytes}
+use Rattle.log_state.specs.State.{Charts}
+use Rattle.log_events.specs.Both.{Both}
 
 -- "the triangle or 65535"
 abbrev pub foundNumber : Located → ℕ
@@ -15,3 +19,7 @@ foundNumber (Refused r) = 65535
 -- room enough for the lines of any overlay: a line of four 64-bit numbers, and those of 4,096 pairs
 abbrev pub overlayRoom : ℕ
 overlayRoom = 84 + pairBytes * maxPairs
+
+-- what a step prints is written, whatever tables the charts hold
+abbrev pub Prints : (State → Step) → Both → ℕ → ℕ → List ℕ → List ℕ → Type 0
+Prints step b at next before after = (s : State) → Charts s (b .first) (b .second) → Wrote (step s .printed) at next before after

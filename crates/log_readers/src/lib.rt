@@ -13,12 +13,13 @@ ghost use Rattle.spec_charts.specs.Overlay.{maxPairs};
 ghost use Rattle.spec_calls.specs.Buffers.{pairsLength};
 ghost use Rattle.spec_calls.specs.Calls.{locateCall};
 ghost use Rattle.spec_calls.specs.Lent.{given};
-ghost use Rattle.spec_log.specs.Log.{State, locateStep, overlayStep};
+ghost use Rattle.spec_log.specs.Log.{locateStep, overlayStep};
 ghost use Rattle.base_answers.specs.Outcomes.{locatedOf, overlaidOf};
+ghost use Rattle.log_events.specs.Both.{bothGiven};
 ghost use Rattle.log_events.specs.Events.{lineRoom};
 ghost use Rattle.log_lines.specs.Bytes.{Wrote};
-ghost use Rattle.log_state.specs.State.{Charts, chartIn, overlaidLines};
-ghost use Rattle.log_readers.specs.Readers.{foundNumber, overlayRoom};
+ghost use Rattle.log_state.specs.State.{chartIn, overlaidLines};
+ghost use Rattle.log_readers.specs.Readers.{foundNumber, overlayRoom, Prints};
 
 // What is printed for nowhere.
 const NOWHERE: u64 = 65535;
@@ -91,7 +92,7 @@ pub fn locate_command(
     at: usize,
 ) -> usize
     requires { ⌜ at + lineRoom ≤ length (now out) ⌝ }
-    ensures { λ r. ⌜ ((s : State) → Charts s (given table0 keys0 levels0 items0 (counts .first .triangles) (counts .first .entries)) (given table1 keys1 levels1 items1 (counts .second .triangles) (counts .second .entries)) → Wrote (locateStep c p s .printed) at r (now (out .entry)) (now (out .exit))) ⌝ }
+    ensures { λ r. ⌜ Prints (λ s. locateStep c p s) (bothGiven table0 keys0 levels0 items0 table1 keys1 levels1 items1 counts) at r (now (out .entry)) (now (out .exit)) ⌝ }
     ensures { λ r. ⌜ r ≤ length (now (out .exit)) ⌝ }
 {
     let located = locate_in(
@@ -146,7 +147,7 @@ pub fn overlay_command(
     at: usize,
 ) -> usize
     requires { ⌜ (pairsLength ≤ length (now pairs)) × (at + overlayRoom ≤ length (now out)) ⌝ }
-    ensures { λ r. ⌜ ((s : State) → Charts s (given table0 keys0 levels0 items0 (counts .first .triangles) (counts .first .entries)) (given table1 keys1 levels1 items1 (counts .second .triangles) (counts .second .entries)) → Wrote (overlayStep s .printed) at r (now (out .entry)) (now (out .exit))) ⌝ }
+    ensures { λ r. ⌜ Prints (λ s. overlayStep s) (bothGiven table0 keys0 levels0 items0 table1 keys1 levels1 items1 counts) at r (now (out .entry)) (now (out .exit)) ⌝ }
     ensures { λ r. ⌜ r ≤ length (now (out .exit)) ⌝ }
 {
     let first = counts.first;
