@@ -2,3 +2,4 @@ pub mod Evaluate
 pub mod BufferExamples
 pub mod CallExamples
 pub mod LargeExamples
+pub mod WholeNumbers

@@ -10,3 +10,4 @@ pub mod ReadingExamples
 pub mod Examples
 pub mod SharedGroundExamples
 pub mod LargeExamples
+pub mod WholeNumbers

@@ -13,13 +13,13 @@ use Rattle.spec_plane.specs.Triangle.{Triangle, corners, cornerAt, sides
 use Rattle.spec_plane.specs.Interior.{CommonInterior, someCornerInner, noSideSeparates, interiorsMeet}
 use Rattle.spec_plane.specs.Box.{Box, Framed, apart, sideBox, triangleBox, allCorners, allInner, allOuter, sideMeets, triangleMeets}
 
-abbrev at : ℕ → ℕ → Point
+abbrev pub at : ℕ → ℕ → Point
 at x y = record { x = x; y = y }
 
-abbrev tri : ℕ → ℕ → ℕ → ℕ → ℕ → ℕ → Triangle
+abbrev pub tri : ℕ → ℕ → ℕ → ℕ → ℕ → ℕ → Triangle
 tri ax ay bx by cx cy = record { a = at ax ay; b = at bx by; c = at cx cy }
 
-abbrev box : ℕ → ℕ → ℕ → ℕ → Box
+abbrev pub box : ℕ → ℕ → ℕ → ℕ → Box
 box l t r b = record { left = l; top = t; right = r; bottom = b }
 
 abbrev frac : ℕ → ℕ → ℕ → FracPoint

@@ -5,3 +5,4 @@ pub mod SideLaws
 pub mod ExtremeLaws
 pub mod InteriorLaws
 pub mod Examples
+pub mod LargeExamples

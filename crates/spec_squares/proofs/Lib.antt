@@ -3,3 +3,4 @@ pub mod ZOrderLaws
 pub mod SquareLeavesLaws
 pub mod SideLaws
 pub mod Examples
+pub mod LargeExamples
