@@ -9,7 +9,7 @@ use Rattle.spec_charts.specs.Refusals.{refused, done}
 use Rattle.spec_charts.proofs.RefusalsExamples.{rows}
 use Rattle.spec_calls.specs.Buffers.{chartOf}
 use Rattle.spec_calls.specs.Calls as Calls
-use Rattle.base_answers.specs.Outcomes.{verdictOutcome, changedOf, locatedOutcome, locatedOf, soundnessOutcome, soundnessOf, areaOutcome, areaOf, overlaidOf}
+use Rattle.base_answers.specs.Outcomes.{verdictOutcome, changedOf, locatedOutcome, locatedOf, foundNumber, soundnessOutcome, soundnessOf, areaOutcome, areaOf, overlaidOf}
 use Rattle.base_answers.specs.declared.Verdict.{Verdict}
 use Rattle.base_answers.specs.declared.Verdict.the-variants as verdicts
 use Rattle.base_answers.specs.declared.Changed.{Changed}
@@ -70,6 +70,9 @@ located-example : map (λ r. locatedOf r) allLocated
     ∷ record { number = 2; found = none }
     ∷ []
 located-example = refl
+
+found-number-example : map (λ r. foundNumber (locatedOf r .found)) allLocated ≡ 9 ∷ 0 ∷ 65535 ∷ 65535 ∷ 65535 ∷ []
+found-number-example = refl
 
 -- Soundness
 

@@ -7,7 +7,7 @@ use Rattle.spec_charts.specs.declared.Refusal.the-variants.{FaultyTriangle}
 use Rattle.spec_charts.specs.Refusals.{done}
 use Rattle.spec_calls.specs.Buffers.{chartOf}
 use Rattle.spec_calls.specs.Calls as Calls
-use Rattle.base_answers.specs.Outcomes.{changedOf, locatedOutcome, overlaidOf}
+use Rattle.base_answers.specs.Outcomes.{changedOf, locatedOutcome, foundNumber, overlaidOf}
 use Rattle.base_answers.specs.declared.Verdict.the-variants as verdicts
 use Rattle.base_answers.specs.declared.Located.the-variants as locations
 
@@ -17,6 +17,9 @@ changed-large = refl
 
 located-large : locatedOutcome (locations.At 5000000003) ≡ done (some 5000000003)
 located-large = refl
+
+found-large : foundNumber (some 5000000003) ≡ 5000000003
+found-large = refl
 
 overlaid-large : overlaidOf (record { verdict = verdicts.Accepted; pairs = 5000000003; meetings = 6000000005 }) []
     ≡ record { number = 0; pairCount = 5000000003; meets = 6000000005; pairs = [] }

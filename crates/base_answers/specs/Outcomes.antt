@@ -46,6 +46,11 @@ locatedOutcome (locations.Refused r) = refused r
 abbrev pub locatedOf : Located → Calls.Located
 locatedOf r = record { number = outcomeNumber (locatedOutcome r); found = doneOr none (locatedOutcome r) }
 
+-- the triangle found as one number: "the triangle or 65535"
+abbrev pub foundNumber : Option ℕ → ℕ
+foundNumber none = 65535
+foundNumber (some i) = i
+
 -- soundness: done with yes or no, or refused
 abbrev pub soundnessOutcome : Soundness → Outcome Bool
 soundnessOutcome soundnesses.Sound = done true

@@ -3,8 +3,9 @@
 use spec_charts::Refusal;
 ghost use mathlib.Core.Path.{_≡_};
 ghost use mathlib.Core.Bool.{false};
+ghost use mathlib.Core.Option.{none};
 ghost use Rattle.spec_charts.specs.Refusals.{rowOf, outcomeNumber, outcomeValue, doneOr};
-ghost use Rattle.base_answers.specs.Outcomes.{verdictOutcome, locatedOutcome, soundnessOutcome, areaOutcome};
+ghost use Rattle.base_answers.specs.Outcomes.{verdictOutcome, locatedOutcome, foundNumber, soundnessOutcome, areaOutcome};
 
 // How judging a chart, a load, an edit or an overlay went.
 pub enum Verdict {
@@ -114,6 +115,20 @@ pub fn located_number(l: Located) -> u32
         Located::At(_) => 0,
         Located::Nowhere => 0,
         Located::Refused(r) => refusal_number(r),
+    }
+}
+
+// What stands for nowhere.
+pub const NOWHERE: u16 = 65535;
+
+// Its triangle, or 65535; "locate's answer is nowhere" at a refusal.
+pub fn located_triangle(l: Located) -> u16
+    ensures { λ n. ⌜ n ≡ foundNumber (doneOr none (locatedOutcome l)) ⌝ }
+{
+    match l {
+        Located::At(i) => i,
+        Located::Nowhere => NOWHERE,
+        Located::Refused(_) => NOWHERE,
     }
 }
 

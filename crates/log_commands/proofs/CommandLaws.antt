@@ -19,8 +19,10 @@ use Rattle.spec_log.specs.Log.{State, Step, tableIn, withChart, withWaiting, ev
 use Rattle.replay_calls.specs.Encoding.{IsCall, callLength, callEvent}
 use Rattle.log_lines.specs.Bytes.{Wrote}
 use Rattle.log_state.specs.State.{Charts, Ran}
-use Rattle.log_commands.specs.Commands.{wordAt, editLength, callHead, waitingIn, Running, RanCommand, Waited}
-use Rattle.log_commands.proofs.WaitLaws.{word-after, wait-charts}
+use Rattle.log_bytes.specs.Words.{wordAt, editLength}
+use Rattle.log_bytes.proofs.WordLaws.{word-after}
+use Rattle.log_commands.specs.Commands.{callHead, waitingIn, Running, RanCommand, Waited}
+use Rattle.log_commands.proofs.WaitLaws.{wait-charts}
 
 -- the same step, said otherwise
 pub ran-as : {st st′ : Step} {at next : ℕ} {out out′ : List ℕ} {d e : Chart} → st ≡ st′ → Ran st at next out out′ d e → Ran st′ at next out out′ d e

@@ -1,48 +1,21 @@
--- The numbers of a command, and those of the waiting table.
+-- The numbers of the waiting table.
 -- Assumes nothing.
-use mathlib.Core.Path.{_≡_, refl, sym, _∙_, ap, ap₂}
+use mathlib.Core.Path.{_≡_, refl, sym, _∙_, ap}
 use mathlib.Core.Bool.{Bool, true, false}
 use mathlib.Core.List.{List, [], _∷_, _++_}
-use Prim.Native.Nat.{ℕ, zero, suc, _+_, _*_, _≤_, _<_}
+use Prim.Native.Nat.{ℕ, suc, _+_, _≤_, _<_}
 use native.Mathlib.Omega.{arith}
 use borrow.Author.Tests.{lt-ltb, le-ltb}
 use lib.Dec.{ltb}
-use lib.ListN.{length, getD, take, drop, set, length-append, length-drop}
-use lib.Seq.{sets, sets-eq, take-at, getD-drop, drop-set-add, length-take-le}
+use lib.ListN.{length, take, drop, set, length-append, length-drop}
+use lib.Seq.{sets, sets-eq, take-at, drop-set-add, length-take-le}
 use Rattle.spec_charts.specs.Table.{tableLength}
 use Rattle.spec_calls.specs.Buffers.{Chart}
-use Rattle.spec_log.specs.Log.{State, line, withWaiting, waitStep, wordsOf}
+use Rattle.spec_log.specs.Log.{State, line, withWaiting, waitStep}
 use Rattle.log_lines.specs.Bytes.{Wrote}
 use Rattle.log_lines.proofs.LineLaws.{wrote-none}
 use Rattle.log_state.specs.State.{Charts}
-use Rattle.log_commands.specs.Commands.{wordAt, Whole, callHead, waitingLength, waitingIn, Waited}
-
--- ---- the numbers of a command
-
-pub words-length : (n : ℕ) (bytes : List ℕ) → length (wordsOf n bytes) ≡ n
-unfolding wordsOf
-words-length zero bytes = refl
-words-length (suc n) bytes = ap suc (words-length n (drop 2 bytes))
-
--- number k stands at places 2 k and 2 k + 1
-words-at : (n : ℕ) (bytes : List ℕ) (k : ℕ) → k < n → getD (wordsOf n bytes) k 0 ≡ wordAt bytes (2 * k)
-unfolding wordsOf
-words-at zero bytes k h = absurd (omega arith)
-words-at (suc n) bytes zero h = refl
-words-at (suc n) bytes (suc k) h =
-    words-at n (drop 2 bytes) k (omega arith)
-    ∙ ap₂ (λ u v. u + 256 * v) (getD-drop 2 bytes (2 * k) 0 ∙ ap (λ j. getD bytes j 0) (omega arith))
-    (getD-drop 2 bytes (2 * k + 1) 0 ∙ ap (λ j. getD bytes j 0) (omega arith))
-
--- a number of the bytes after the first i
-pub word-drop : (i : ℕ) (bytes : List ℕ) (k : ℕ) → wordAt (drop i bytes) k ≡ wordAt bytes (i + k)
-word-drop i bytes k =
-    ap₂ (λ u v. u + 256 * v) (getD-drop i bytes k 0) (getD-drop i bytes (k + 1) 0 ∙ ap (λ j. getD bytes j 0) (omega arith))
-
-pub word-after : (n i : ℕ) (bytes : List ℕ) (k : ℕ) → k < n → wordAt bytes (i + 2 * k) ≡ getD (wordsOf n (drop i bytes)) k 0
-word-after n i bytes k h = sym (words-at n (drop i bytes) k h ∙ word-drop i bytes (2 * k))
-
--- ---- the waiting table
+use Rattle.log_commands.specs.Commands.{Whole, callHead, waitingLength, waitingIn, Waited}
 
 -- what is stored after the first k places is stored in the rest of the list
 drop-sets : (k : ℕ) (l : List ℕ) (i : ℕ) (vs : List ℕ) → drop k (sets l (k + i) vs) ≡ sets (drop k l) i vs

@@ -1,10 +1,8 @@
--- A whole command in the bytes held, and the numbers of the waiting table.
+-- A whole command of the bytes held, and the numbers of the waiting table.
 -- Assumes nothing.
 use mathlib.Core.Path.{_≡_}
-use mathlib.Core.Bool.{cond}
-use mathlib.Core.List.{List, [], _∷_}
-use Prim.Native.Nat.{ℕ, _+_, _*_, _%_, _≤_}
-use lib.Dec.{eqb}
+use mathlib.Core.List.{List}
+use Prim.Native.Nat.{ℕ, _+_, _%_, _≤_}
 use lib.ListN.{length, getD, take, drop}
 use Rattle.spec_charts.specs.Table.{numbersPerTriangle, tableLength}
 use Rattle.spec_calls.specs.Buffers.{Chart}
@@ -12,18 +10,6 @@ use Rattle.spec_log.specs.Log.{State, Step, waitStep, loadStep, stepOf}
 use Rattle.log_lines.specs.Bytes.{Wrote}
 use Rattle.log_state.specs.State.{Charts, Ran}
 use Rattle.log_events.specs.Both.{Both}
-
--- the 16-bit number at places k and k + 1, low byte first
-abbrev pub wordAt : List ℕ → ℕ → ℕ
-wordAt bytes k = getD bytes k 0 + 256 * getD bytes (k + 1) 0
-
--- the numbers of the call that an edit's command is, and more after them
-abbrev pub editNumbers : List ℕ → List ℕ
-editNumbers bytes = getD bytes 0 0 ∷ wordAt bytes 2 ∷ wordAt bytes 4 ∷ wordAt bytes 6 ∷ []
-
--- how many of them there are: four for a split, three for a take-out or a flip
-abbrev pub editLength : ℕ → ℕ
-editLength b = cond (eqb b 3) 4 3
 
 -- n is a number of numbers that wait: whole triangles, at most 512
 pub record Whole (n : ℕ) : Type 0 where

@@ -1,7 +1,6 @@
 // A whole command, from its bytes to what it prints.
 
-mod words;
-
+use log_bytes::words;
 use log_events::BothCounts;
 use log_events::Printed;
 use spec_plane::Point;

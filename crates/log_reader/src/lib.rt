@@ -1,7 +1,6 @@
 // The command program on slices: its input byte by byte, in portions of any length, and what it prints.
 
-mod command_bytes;
-
+use log_bytes::command_bytes;
 use log_events::BothCounts;
 ghost use mathlib.Core.Path.{_≡_};
 ghost use mathlib.Core.Bool.{false};

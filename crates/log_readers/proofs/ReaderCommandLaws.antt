@@ -3,7 +3,8 @@
 use mathlib.Core.Path.{_≡_, refl, sym, _∙_, ap, ap₂}
 use mathlib.Core.Bool.{Bool, true, false}
 use mathlib.Core.List.{List, [], _∷_, _++_}
-use Prim.Native.Nat.{ℕ, zero, suc, _+_, _^_, _≤_, _<_}
+use mathlib.Core.Option.{Option, none, some}
+use Prim.Native.Nat.{ℕ, zero, suc, _^_, _≤_, _<_}
 use native.Mathlib.Omega.{arith}
 use borrow.Author.Tests.{ltb-false, eq-eqb, ne-eqb}
 use lib.Dec.{ltb}
@@ -20,13 +21,11 @@ use Rattle.spec_calls.specs.Calls.{locateCall, overlayCall, overlaidBy}
 use Rattle.spec_calls.specs.Calls as Calls
 use Rattle.spec_log.specs.Log.{State, line, tableIn, locatedNumbers, locateStep, overlayStep}
 use Rattle.base_answers.specs.declared.Located.{Located}
-use Rattle.base_answers.specs.declared.Located.the-variants.{At, Nowhere, Refused}
-use Rattle.base_answers.specs.Outcomes.{locatedOutcome, locatedOf}
+use Rattle.base_answers.specs.Outcomes.{locatedOutcome, locatedOf, foundNumber}
 use Rattle.log_lines.specs.Bytes.{pairLines}
 use Rattle.log_lines.proofs.LineLaws.{line-short}
 use Rattle.log_state.specs.State.{Charts, chartIn, overlaidLines}
 use Rattle.log_state.proofs.HoldingLaws.{locate-told, overlay-told}
-use Rattle.log_readers.specs.Readers.{foundNumber}
 
 -- ---- command 6
 
@@ -40,22 +39,21 @@ unfolding chartIn
 in-second zero d e p z = absurd (z refl)
 in-second (suc c) d e p z = refl
 
-found-number : (l : Located) → foundNumber l ∷ [] ≡ locatedNumbers (locatedOf l .found)
+found-number : (o : Option ℕ) → foundNumber o ∷ [] ≡ locatedNumbers o
 unfolding locatedNumbers
-found-number (At i) = refl
-found-number Nowhere = refl
-found-number (Refused r) = refl
+found-number none = refl
+found-number (some i) = refl
 
 pub locate-printed : (c : ℕ) (p : Point) (l : Located) {n f : ℕ} {d e : Chart} → locatedOf l ≡ locateCall (chartIn c d e) p
-    → n ≡ outcomeNumber (locatedOutcome l) → f ≡ foundNumber l
+    → n ≡ outcomeNumber (locatedOutcome l) → f ≡ foundNumber (locatedOf l .found)
     → (s : State) → Charts s d e → line 6 (n ∷ f ∷ []) ≡ locateStep c p s .printed
 unfolding chartIn locateStep tableIn
 locate-printed zero p l q i j s h =
     let g = q ∙ locate-told (h .first) p in
-    ap₂ (λ n ns. line 6 (n ∷ ns)) (i ∙ ap (λ x. x .number) g) (ap (λ m. m ∷ []) j ∙ found-number l ∙ ap (λ x. locatedNumbers (x .found)) g)
+    ap₂ (λ n ns. line 6 (n ∷ ns)) (i ∙ ap (λ x. x .number) g) (ap (λ m. m ∷ []) j ∙ found-number (locatedOf l .found) ∙ ap (λ x. locatedNumbers (x .found)) g)
 locate-printed (suc c) p l q i j s h =
     let g = q ∙ locate-told (h .second) p in
-    ap₂ (λ n ns. line 6 (n ∷ ns)) (i ∙ ap (λ x. x .number) g) (ap (λ m. m ∷ []) j ∙ found-number l ∙ ap (λ x. locatedNumbers (x .found)) g)
+    ap₂ (λ n ns. line 6 (n ∷ ns)) (i ∙ ap (λ x. x .number) g) (ap (λ m. m ∷ []) j ∙ found-number (locatedOf l .found) ∙ ap (λ x. locatedNumbers (x .found)) g)
 
 -- ---- command 7
 

@@ -4,17 +4,9 @@ use mathlib.Core.List.{List}
 use Prim.Native.Nat.{ℕ, _+_, _*_}
 use Rattle.spec_charts.specs.Overlay.{maxPairs}
 use Rattle.spec_log.specs.Log.{State, Step}
-use Rattle.base_answers.specs.declared.Located.{Located}
-use Rattle.base_answers.specs.declared.Located.the-variants.{At, Nowhere, Refused}
 use Rattle.log_lines.specs.Bytes.{Wrote, pairBytes}
 use Rattle.log_state.specs.State.{Charts}
 use Rattle.log_events.specs.Both.{Both}
-
--- "the triangle or 65535"
-abbrev pub foundNumber : Located → ℕ
-foundNumber (At i) = i
-foundNumber Nowhere = 65535
-foundNumber (Refused r) = 65535
 
 -- room enough for the lines of any overlay: a line of four 64-bit numbers, and those of 4,096 pairs
 abbrev pub overlayRoom : ℕ

@@ -19,21 +19,7 @@ ghost use Rattle.log_events.specs.Both.{bothGiven};
 ghost use Rattle.log_events.specs.Events.{lineRoom};
 ghost use Rattle.log_lines.specs.Bytes.{Wrote};
 ghost use Rattle.log_state.specs.State.{chartIn, overlaidLines};
-ghost use Rattle.log_readers.specs.Readers.{foundNumber, overlayRoom, Prints};
-
-// What is printed for nowhere.
-const NOWHERE: u64 = 65535;
-
-// The triangle of an answer, or 65535.
-fn found_number(located: Located) -> u64
-    ensures { λ r. ⌜ r ≡ foundNumber located ⌝ }
-{
-    match located {
-        Located::At(i) => numbers::wide(i),
-        Located::Nowhere => NOWHERE,
-        Located::Refused(_) => NOWHERE,
-    }
-}
+ghost use Rattle.log_readers.specs.Readers.{overlayRoom, Prints};
 
 // Locates p in chart c.
 fn locate_in(
@@ -110,7 +96,7 @@ pub fn locate_command(
     );
     let others = [
         base_answers::located_number(located) as u64,
-        found_number(located),
+        numbers::wide(base_answers::located_triangle(located)),
     ];
     put_line(6, &others, out, at)
 }

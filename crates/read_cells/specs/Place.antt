@@ -35,10 +35,21 @@ cellItems items from to = cond (eqb (getD items from 0) emptyMark) [] (take (to 
 unfoldable pub cellPlaces : List ℕ → ℕ → ℕ → List ℕ
 cellPlaces items from to = cond (eqb (getD items from 0) emptyMark) [] (countFrom from (to - from))
 
--- of the first n entries, the part of the items is that of the last cell at or below the key k, in the list itself
-pub record CellListed (keys : List ℕ) (n k : ℕ) (items part : RefT (List ℕ)) : Type 0 where
+-- of the first n entries, the items from place start up to place stop are those of the last cell at or below the key k; 0 and 0 where
+-- there are none
+pub record CellPart (keys : List ℕ) (n k : ℕ) (items : List ℕ) (start stop : ℕ) : Type 0 where
   pub from : ℕ
   pub to : ℕ
   pub cell : LastCell keys n k from to
-  pub listed : part .now ≡ cellItems (items .now) from to
-  pub place : OwnPart items part (cellPlaces (items .now) from to)
+  pub ordered : start ≤ stop
+  pub within : stop ≤ length items
+  pub listed : take (stop - start) (drop start items) ≡ cellItems items from to
+  pub places : countFrom start (stop - start) ≡ cellPlaces items from to
+  pub nothing : start ≡ stop → start ≡ 0
+
+-- of the first n entries, these are the items of the last cell at or below the key k
+pub record CellListed (keys : List ℕ) (n k : ℕ) (items part : List ℕ) : Type 0 where
+  pub from : ℕ
+  pub to : ℕ
+  pub cell : LastCell keys n k from to
+  pub listed : part ≡ cellItems items from to

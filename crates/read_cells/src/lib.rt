@@ -7,19 +7,35 @@ use base_entries::MARK;
 use spec_plane::Point;
 ghost use Rattle.spec_squares.specs.Square.{zOrder};
 ghost use Rattle.read_cells.specs.Keys.{Listable};
-ghost use Rattle.read_cells.specs.Place.{CellListed};
+ghost use Rattle.read_cells.specs.Place.{CellListed, CellPart};
 
-// The items of the last cell at or below Z(p), as a part of the caller's own list; an empty part for the mark. Levels are not needed, as a
-// cell ends where the next key begins: in a chain it is the cell whose key range has Z(p).
-pub fn listing<'a, 'b>(keys: &'b [u32], items: &'a [u16], entries: usize, p: Point) -> &'a [u16]
+// A part of the items: from the first place up to the second.
+pub struct Part {
+    pub from: usize,
+    pub to: usize,
+}
+
+// Where in the items those of the last cell at or below Z(p) stand; 0 and 0 for the mark. Levels are not
+// needed, as a cell ends where the next key begins: in a chain it is the cell whose key range has Z(p).
+pub fn listed_part(keys: &[u32], items: &[u16], entries: usize, p: Point) -> Part
     requires { ⌜ Listable (now keys) (now items) entries ⌝ }
-    ensures { λ r. ⌜ CellListed (now (keys .entry)) entries (zOrder p) (items .entry) r ⌝ }
+    ensures { λ r. ⌜ CellPart (now (keys .entry)) entries (zOrder p) (now (items .entry)) (r .from) (r .to) ⌝ }
 {
     let cell = search::last_cell(keys, entries, morton::z_order(p));
     let from = cell.from;
-    let to = cell.to;
     if items[from] == MARK {
-        return &items[0..0];
+        return Part { from: 0, to: 0 };
     }
+    Part { from, to: cell.to }
+}
+
+// These items, as a part of the caller's own list.
+pub fn listing<'a, 'b>(keys: &'b [u32], items: &'a [u16], entries: usize, p: Point) -> &'a [u16]
+    requires { ⌜ Listable (now keys) (now items) entries ⌝ }
+    ensures { λ r. ⌜ CellListed (now (keys .entry)) entries (zOrder p) (now (items .entry)) (now r) ⌝ }
+{
+    let part = listed_part(keys, items, entries, p);
+    let from = part.from;
+    let to = part.to;
     &items[from..to]
 }

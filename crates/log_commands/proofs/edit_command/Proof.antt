@@ -5,7 +5,7 @@ use borrow.Author.Needs.{needs}
 use lib.ListN.{length, getD, take}
 use lib.Seq.{length-take-le}
 use Rattle.replay_calls.specs.Encoding.{IsCall}
-use Rattle.log_commands.specs.Commands.{editNumbers, editLength}
+use Rattle.log_bytes.specs.Words.{editNumbers, editLength}
 use Rattle.log_commands.proofs.CommandLaws.{edit-call, edit-ran}
 use Rattle.log_commands.proofs.edit_command.Statement.{statement}
 use Rattle.log_commands.proofs.edit_command.Tie as tie

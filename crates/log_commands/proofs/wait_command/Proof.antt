@@ -4,7 +4,8 @@ use borrow.Author.Needs.{needs}
 use lib.ListN.{drop}
 use Rattle.spec_log.specs.Log.{wordsOf}
 use Rattle.log_events.proofs.EventLaws.{room-two}
-use Rattle.log_commands.proofs.WaitLaws.{words-length, wait-more, wait-full}
+use Rattle.log_bytes.proofs.WordLaws.{words-length}
+use Rattle.log_commands.proofs.WaitLaws.{wait-more, wait-full}
 use Rattle.log_commands.proofs.wait_command.Statement.{statement}
 use Rattle.log_commands.proofs.wait_command.Tie as tie
 
