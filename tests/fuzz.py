@@ -232,7 +232,7 @@ def report(program, log_of, seed, number, kind, way, stream, log, done):
     if os.path.exists(CHARTKEY):
         print("paper:", flush=True)
         subprocess.run([CHARTKEY, "--from-bytes", path], check=False)
-    print(f"again: fuzz.py --seed {seed} --only {number} {' '.join(program.words)}", flush=True)
+    print(f"again: python3 tests/fuzz.py --seed {seed} --only {number} {' '.join(program.words)}", flush=True)
 
 
 # ---- the run
@@ -300,19 +300,28 @@ def run_share(options, place, told):
     return model.close()
 
 
-def drawn(program, log_of, options, seen, progress):
-    """Lets the workers run, and reports the first difference; whether there was one."""
+def started(options):
+    """The workers, and what each tells. Ctrl-C waits until all have started."""
+    signal.pthread_sigmask(signal.SIG_BLOCK, {signal.SIGINT})
     ends = [multiprocessing.Pipe(duplex=False) for _ in range(options.jobs)]
-    workers = [multiprocessing.Process(target=work, args=(options, k, told)) for k, (_, told) in enumerate(ends)]
+    workers = [multiprocessing.Process(target=work, args=(options, k, told), daemon=True) for k, (_, told) in enumerate(ends)]
     for worker, (_, told) in zip(workers, ends):
         worker.start()
         told.close()
+    return workers, [heard for heard, _ in ends]
+
+
+def drawn(program, log_of, options, seen, progress):
+    """Lets the workers run, and reports the first difference; whether there was one."""
+    workers, ends = started(options)
     found = None
     try:
-        for count, met_there, found in messages([heard for heard, _ in ends]):
+        signal.pthread_sigmask(signal.SIG_UNBLOCK, {signal.SIGINT})
+        for count, met_there, found in messages(ends):
             seen.update(met_there)
             progress.count += count
             if found:
+                progress.differences = 1
                 break
             progress.show()
         failed = not found and any(worker.join() or worker.exitcode for worker in workers)
@@ -320,7 +329,6 @@ def drawn(program, log_of, options, seen, progress):
         for worker in workers:
             worker.terminate()
             worker.join()
-    progress.differences = int(found is not None)
     progress.last()
     if failed:
         sys.exit("a worker failed")
