@@ -2,12 +2,15 @@
 """Holds make and its scripts to what a new user meets: what a target needs and is not here is told in one line, before anything is
 done; Ctrl-C and a closed pipe end the scripts that run long without a traceback, and the fuzzer with its tally.
 
-make runs in a folder that has the Makefile and tests/need.sh alone, with a PATH of stand-ins for the tools, without one after the other.
+make runs in a folder that has the Makefile and tests/need.sh alone, with a PATH of stand-ins for the tools, without one after the other;
+and `make run` in a copy with a stand-in for rt, which builds nothing that has a stamp, as rt does: the first time, again, after the
+program was removed, and where nothing is proved.
 
 usage: way_in.py PROGRAM [ARGUMENT ..]"""
 
 import os
 import re
+import shlex
 import shutil
 import signal
 import subprocess
@@ -82,11 +85,52 @@ def test_missing(folder):
             status, lines = told(folder, target, [name])
             same(f"make {target} without {name}: status and lines", (status, len(lines)), (2, 1))
             one = re.escape(f"make {target}: missing: {name}") + r"[^;()]* \([^()]+\)"
-            same(f"make {target} without {name}: {lines}", bool(re.fullmatch(one, lines[0])), True)
+            same(f"make {target} without {name}: {lines}", bool(re.fullmatch(one, "\n".join(lines))), True)
         status, lines = told(folder, target, names)
-        same(f"make {target} without all: {lines}", (status, len(lines), lines[0].count("; ")), (2, 1, len(names) - 1))
+        same(f"make {target} without all: {lines}", (status, len(lines), "".join(lines).count("; ")), (2, 1, len(names) - 1))
     status, lines = told(folder, "map", [], python_is_old=True)
     same("an old Python", (status, lines), (2, ["make map: missing: python3, version 3.9 or later (Debian: apt-get install python3)"]))
+
+
+# ---- make run
+
+RT = """#!/bin/sh
+[ -e target/refuse ] && { echo "rt: spec_plane NOT PROVED"; exit 1; }
+echo "rt: overlay_log proved (1 s)"
+[ -e target/stamp/overlay_log ] && exit 0
+mkdir -p target/bin target/stamp
+printf '#!/bin/sh\\nexec %s\\n' "$COMMAND_PROGRAM" >target/bin/overlay_log
+chmod +x target/bin/overlay_log
+: >target/stamp/overlay_log
+"""
+
+
+def test_run(folder):
+    place, tools = os.path.join(folder, "copy"), os.path.join(folder, "rt")
+    for part in ("tests", "frontend", "examples"):
+        shutil.copytree(os.path.join(ROOT, part), os.path.join(place, part), ignore=shutil.ignore_patterns("vectors", "__pycache__"))
+    os.makedirs(os.path.join(place, "crates", "overlay_log"))
+    for part in ("Makefile", "chartkey", "crates.txt", "crates/overlay_log/stdin"):
+        shutil.copy(os.path.join(ROOT, part), os.path.join(place, part))
+    write(os.path.join(tools, "rt"), RT)
+    words = [os.path.abspath(PROGRAM[0])] + PROGRAM[1:]
+    environ = {"PATH": f"{tools}:{os.environ['PATH']}", "COMMAND_PROGRAM": shlex.join(words)}
+
+    def made():
+        done = subprocess.run(["make", "run"], cwd=place, env=environ, stdout=subprocess.PIPE, stderr=subprocess.STDOUT, check=False)
+        return done.returncode, done.stdout.decode()
+
+    for what, is_first in (("the first time", True), ("again", False), ("after the program was removed", True)):
+        status, text = made()
+        same(f"make run {what}: status", (status, text.startswith("The first time ")), (0, is_first))
+        for part in ("[1 of ", read("examples/turning-basin.txt"), read("examples/turning-basin.key"), read("crates/overlay_log/stdout")):
+            same(f"make run {what}: shows {part[:20]!r}", part in text, True)
+        if not is_first:
+            os.remove(os.path.join(place, COMMAND_PROGRAM))
+    write(os.path.join(place, "target", "refuse"), "")
+    status, text = made()
+    told_so = "NOT PROVED\nnot proved; target/run.log has what rt says\n" in text
+    same(f"make run where nothing is proved: {text}", (status, told_so, "== " in text), (2, True, False))
 
 
 # ---- Ctrl-C and closed pipes
@@ -155,6 +199,7 @@ def main():
         sys.exit(__doc__.split("\n")[-1])
     with tempfile.TemporaryDirectory() as folder:
         test_missing(folder)
+        test_run(folder)
     test_progress()
     test_fuzz()
     print("\n".join(faults) if faults else f"the way in: {count} comparisons")
