@@ -106,7 +106,7 @@ chmod +x target/bin/overlay_log
 
 
 def test_run(folder):
-    place, tools = os.path.join(folder, "copy"), os.path.join(folder, "rt")
+    place, tools = os.path.join(folder, "a copy"), os.path.join(folder, "rt")
     for part in ("tests", "frontend", "examples"):
         shutil.copytree(os.path.join(ROOT, part), os.path.join(place, part), ignore=shutil.ignore_patterns("vectors", "__pycache__"))
     os.makedirs(os.path.join(place, "crates", "overlay_log"))
