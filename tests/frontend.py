@@ -601,6 +601,11 @@ def test_processes(folder):
     os.chmod(os.path.join(folder, "sham engine"), 0o755)
     same("a program by its name alone", process("--engine", "sham engine", example, cwd=folder).stdout, key)
     same("version", process("--version").stdout.decode(), f"chartkey {VERSION}\n")
+
+
+def test_closed_and_full():
+    """Standard streams that are closed or full, no file that can be written, warnings as errors."""
+    example = os.path.join(EXAMPLES, "turning-basin.txt")
     full = subprocess.run([sys.executable, SCRIPT, "numbers"], stdout=open("/dev/full", "wb"), stderr=subprocess.PIPE)
     same("nothing can be written", (full.returncode, b"cannot write" in full.stderr, b"Trace" in full.stderr), (4, True, False))
     shell = f"{shlex.quote(sys.executable)} {shlex.quote(SCRIPT)}"
@@ -766,7 +771,8 @@ def tests(folder, draw):
     yield test_examples, ()
     if STORE:
         return
-    plain = (test_schema, test_messages, test_no_permission, test_help, test_words, test_moved_rows, test_terminal)
+    plain = (test_schema, test_messages, test_no_permission, test_help, test_words, test_moved_rows)
+    plain += (test_terminal, test_closed_and_full)
     yield from ((test, ()) for test in plain)
     with_folder = (test_tables_of_triangles, test_statuses, test_limits, test_programs, test_processes)
     with_folder += (test_places, test_alone, test_interrupt)
