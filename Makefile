@@ -7,12 +7,12 @@ run.takes := some 6 minutes the first time, then seconds
 run.by := bash tests/demo.sh
 
 test.does := the whole gate: proofs, must-fail edits, programs, reference model, definitions executed, pages; .ci/run calls it
-test.needs := rt rustc python3
+test.needs := rt rustc cc python3
 test.takes := some 36 minutes
 test.by := bash tests/run.sh
 
 fuzz.does := drawn command streams by the command program and by the reference model, log for log; SEED=7, SECONDS=600 or STREAMS=100000
-fuzz.needs := rustc python3
+fuzz.needs := target/bin/overlay_log rustc cc python3
 fuzz.takes := a minute, or what SECONDS says; Ctrl-C ends it with the tally
 fuzz.by = bash tests/model.sh build && python3 tests/fuzz.py $(fuzz.options) target/bin/overlay_log
 fuzz.options = $(if $(SEED),--seed $(SEED)) $(if $(SECONDS),--seconds $(SECONDS)) $(if $(STREAMS),--streams $(STREAMS))
@@ -28,7 +28,7 @@ stack.takes := a minute, and the proofs of the public calls that are not made ye
 stack.by := python3 tests/stack.py
 
 model.does := builds the reference model, runs its own tests and the stored command streams
-model.needs := rustc python3
+model.needs := rustc cc python3
 model.takes := half a minute
 model.by := bash tests/model.sh build && bash tests/model.sh test && python3 tests/log_cases.py target/model/model log
 
@@ -38,7 +38,7 @@ map.takes := a second
 map.by := python3 tests/map.py
 
 mutants.does := small wrong versions of the definitions, and which of them the proofs and examples accept; OPTIONS="--crates spec_plane"
-mutants.needs := rt rustc python3
+mutants.needs := rt rustc cc python3
 mutants.takes := hours for all, with progress; outside the gate
 mutants.by = python3 tests/mutants.py $(OPTIONS)
 
@@ -49,5 +49,5 @@ help:
 	@:
 
 $(TARGETS):
-	@bash tests/need.sh $@ $($@.needs)
+	@sh tests/need.sh $@ bash $($@.needs)
 	@$($@.by)

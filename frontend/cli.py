@@ -68,6 +68,8 @@ def asked(arguments):
             raise Usage(f"{form} and {word} are two forms, and one can be had")
         else:
             form = word
+    if "" in names:
+        raise Usage("a name is empty")
     if len(names) > 1:
         raise Usage(f"one paper at a time: {clean(names[1])} is too much")
     if verb and form not in VERBS[verb]:
@@ -171,6 +173,8 @@ def outcome(arguments, here, stdin, environ):
         if ask.verb == "numbers":
             return told_numbers(ask.name)
         name = "standard input" if ask.name is None else clean(ask.name)
+        if ask.name is None and stdin and stdin.isatty():
+            tell("chartkey: reads from the terminal; Ctrl-D ends it, and chartkey --help tells more\n")
         data = files.read(ask.name, stdin)
         if ask.form == "--from-bytes":
             return from_bytes(ask, data, name)

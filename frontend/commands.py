@@ -40,6 +40,12 @@ FOUND = Field("found", "triangle", 0, TRIANGLES, "triangle {}", "triangle {}", M
 PAIRS = Field("pairs", "pairs", 0, 4096, "{} pair", "{} pairs")
 MEETINGS = Field("meetings", "meetings", 1, 32767, "{} meeting", "{} meetings")
 
+
+def most_of(field):
+    """The largest value of a field: a chart has no more triangles than can wait."""
+    return MOST_WAITING - 1 if field.most == TRIANGLES else field.most
+
+
 # ---- what becomes of the count of triangles: a number is added to the chart's count, None leaves it
 WAITS = "waits"  # one more waits; at MOST_WAITING it is dropped and refused. Nothing is printed when it waits
 LOADS = "loads"  # the chart has what waits, and nothing waits

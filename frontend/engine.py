@@ -4,10 +4,10 @@ import os
 import shlex
 import signal
 import subprocess
-import tempfile
 import threading
 
 MOST_LOG = 32 * 2**20
+MOST_SAID = 200  # bytes of what it says on standard error
 PLACES = ("overlay_log", os.path.join("target", "bin", "overlay_log"))
 
 
@@ -16,8 +16,8 @@ class Failure(Exception):
 
 
 def split_words(text):
-    """A program and its arguments; a file's own name may have blanks."""
-    words = [text] if os.path.isfile(text) else shlex.split(text)
+    """A program and its arguments. The name of a file is taken whole, blanks too, and before a command of the PATH."""
+    words = [os.path.abspath(text)] if os.path.isfile(text) else shlex.split(text)
     if not words:
         raise ValueError("no program")
     return words
@@ -34,26 +34,31 @@ def found(here):
 
 def run(program, stream):
     """What the program prints on a stream; and why that cannot be taken, or None."""
-    with tempfile.TemporaryFile() as said:
-        try:
-            process = subprocess.Popen(program, stdin=subprocess.PIPE, stdout=subprocess.PIPE, stderr=said)
-        except (OSError, ValueError) as e:
-            raise Failure(f"cannot run {program[0]}: {getattr(e, 'strerror', None) or e}") from None
-        feeder = threading.Thread(target=feed, args=(process.stdin, stream), daemon=True)
-        feeder.start()
-        try:
-            log = process.stdout.read(MOST_LOG + 1)
-            if len(log) > MOST_LOG:
-                process.kill()
-        except BaseException:
+    pipes = dict.fromkeys(("stdin", "stdout", "stderr"), subprocess.PIPE)
+    try:
+        process = subprocess.Popen(program, **pipes)
+    except (OSError, ValueError) as e:
+        raise Failure(f"cannot run {program[0]}: {getattr(e, 'strerror', None) or e}") from None
+    said, started = [], []
+    try:
+        for work, given in ((feed, (process.stdin, stream)), (hear, (process.stderr, said))):
+            thread = threading.Thread(target=work, args=given, daemon=True)
+            thread.start()
+            started.append(thread)
+        log = process.stdout.read(MOST_LOG + 1)
+        if len(log) > MOST_LOG:
             process.kill()
-            raise
-        finally:
-            process.stdout.close()
-            process.wait()
-            feeder.join()
-        said.seek(0)
-        return log, trouble(process.returncode, said.read(200), len(log))
+    except BaseException as e:
+        process.kill()
+        if isinstance(e, RuntimeError):  # no thread can be started
+            raise Failure(f"cannot run {program[0]}: {e}") from None
+        raise
+    finally:
+        process.stdout.close()
+        process.wait()
+        for thread in started:
+            thread.join()
+    return log, trouble(process.returncode, said[0], len(log))
 
 
 def feed(pipe, stream):
@@ -63,6 +68,14 @@ def feed(pipe, stream):
             pipe.write(stream)
     except OSError:
         pass
+
+
+def hear(pipe, said):
+    """Reads what the program says on standard error to its end; the first of it is kept."""
+    with pipe:
+        said.append(pipe.read(MOST_SAID))
+        while pipe.read(1 << 16):
+            pass
 
 
 def trouble(status, said, length):

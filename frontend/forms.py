@@ -17,19 +17,27 @@ class Answers:
     def __init__(self, paper, steps, waiting):
         self.paper, self.steps, self.waiting = paper, steps, waiting
         self.refused = [step for step in steps if step.number]
-        by_call = {id(step.call): step for step in steps}
-        foreseen = set()
+        groups = grouped(paper, steps)
+        foreseen = set()  # the groups whose refusal is expected
         self.unmet = []  # an expectation and what was found
         for expected in paper.expected:
-            group = [by_call[id(call)] for call in paper.calls[expected.first : expected.last] if id(call) in by_call]
-            answer = found(expected, group)
+            span = (expected.first, expected.last)
+            answer = found(expected, groups[span])
             if answer != expected.text:
                 self.unmet.append((expected, answer))
             elif expected.wanted is commands.REFUSED:
-                foreseen |= {id(step) for step in group}
-        self.unexpected = [step for step in self.refused if id(step) not in foreseen]
+                foreseen.add(span)
+        as_said = {id(step) for span in foreseen for step in groups[span]}
+        self.unexpected = [step for step in self.refused if id(step) not in as_said]
         self.status = max(REFUSED if self.unexpected else 0, UNMET if self.unmet else 0)
         self.overlays = [step for step in steps if step.pairs is not None]
+
+
+def grouped(paper, steps):
+    """The steps of each line that something is expected of, by its first and last call."""
+    by_call = {id(step.call): step for step in steps}
+    spans = {(expected.first, expected.last) for expected in paper.expected}
+    return {span: [by_call[id(call)] for call in paper.calls[slice(*span)] if id(call) in by_call] for span in spans}
 
 
 def found(expected, group):

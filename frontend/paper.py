@@ -10,6 +10,8 @@ from .faults import ENOUGH, FAILED, WRONG, Fault, Faults, clean, short
 MOST_COMMANDS = 100000
 BLANKS = " \t"
 TOKEN = re.compile(r'#|"[^"]*"?|[^ \t"#]+')
+# blanks of other kinds and marks that nobody sees, which come with text from elsewhere
+UNSEEN = re.compile("[\u00a0\u00ad\u1680\u180e\u2000-\u200f\u202f\u205f-\u2064\u3000\ufeff]")
 POINT = re.compile(r"(\(?)([^,()]*),([^,()]*)(\)?)")
 # the lines that are no command of the program, and how they are written
 LINES = {
@@ -75,6 +77,17 @@ def words(text):
             break
         tokens.append(Token(found.group(), found.start() + 1))
     return tokens
+
+
+def unseen(place, tokens):
+    """Whether a word has a character that looks like a blank or like nothing, outside of texts; it is told."""
+    for token in tokens:
+        found = None if token.text.startswith('"') else UNSEEN.search(token.text)
+        if found:
+            what = f"U+{ord(found.group()):04X} looks like a blank or like nothing, and is neither"
+            place.fault(token.column + found.start(), 1, what, "blanks are spaces and tabs")
+            return True
+    return False
 
 
 def close(word, known):
@@ -159,7 +172,11 @@ class Reader:
             self.group = False
             return place.fault(*fault)
         tokens = words(text)
-        return self.command(place, tokens) if tokens else None
+        if unseen(place, tokens):
+            self.group = False
+        elif tokens:
+            self.command(place, tokens)
+        return None
 
     def command(self, place, tokens):
         head = tokens[0]
@@ -281,6 +298,9 @@ class Reader:
         elif wanted is commands.REFUSED and value not in row.refusals:
             can = ", ".join(map(str, row.refusals))
             place.at(tokens[2], f"`{row.word}` is never refused with {value}", f"its numbers are {can}")
+        elif wanted.field and value is not None and not wanted.field.least <= value <= commands.most_of(wanted.field):
+            hint = f"it is {wanted.field.least} to {commands.most_of(wanted.field)}"
+            place.at(tokens[2], f"`{row.word}` never answers `{wanted.word} {value}`", hint)
         else:
             text = f"{wanted.word} {value}" if wanted.takes else wanted.word
             column, end = tokens[0].column, tokens[-1].column + len(tokens[-1].text)
@@ -299,6 +319,14 @@ def cells(text):
         column += len(part) + 1
 
 
+def table_hint(text):
+    """What may have gone wrong with a line of a file of triangles."""
+    if not re.search("[0-9]", text):
+        return "a heading starts with #"
+    marks = {'"': "it has quotes", ";": "it has semicolons", "\t": "it has tabs"}
+    return next((f"{words}: save it with commas alone" for mark, words in marks.items() if mark in text), None)
+
+
 def table_row(place, fault):
     """The values of a line of a file of triangles; None for a line without any, and after faults."""
     text = place.text.split("#")[0].rstrip(BLANKS)
@@ -309,9 +337,10 @@ def table_row(place, fault):
     operands = commands.valued(commands.waiting_row())
     wanted = [o.what for o in operands for _ in range(commands.WIDTHS[o.kind])]
     found = list(cells(text))
-    if len(found) != len(wanted) or not re.search("[0-9]", text):
-        hint = None if re.search("[0-9]", text) else "a heading starts with #"
-        return place.fault(1, len(text), f"a line is {len(wanted)} numbers with commas between them", hint)
+    if unseen(place, found):
+        return None
+    if len(found) != len(wanted) or not re.search("[0-9]", text) or '"' in text:
+        return place.fault(1, len(text), f"a line is {len(wanted)} numbers with commas between them", table_hint(text))
     numbers = [number(place, cell, what) for cell, what in zip(found, wanted)]
     if None in numbers:
         return None

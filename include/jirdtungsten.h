@@ -37,8 +37,8 @@ enum {
 typedef enum {
     JIRD_DONE = 0,
     JIRD_SHORT_BUFFER = 1,      /* a buffer is shorter than above                          all calls   */
-    JIRD_BROKEN_CHAIN = 2,      /* counts, table or entries break the chain rule           all but load */
-    JIRD_STALE_ENTRIES = 3,     /* the entries are not those of the table                  edits       */
+    JIRD_BROKEN_CHAIN = 2,      /* counts, table or entries against the chain rule         all but load */
+    JIRD_STALE_ENTRIES = 3,     /* entries that are not the ones of this table             edits       */
     JIRD_BAD_LENGTH = 4,        /* length no multiple of 6, or above 3,072                 load        */
     JIRD_FAULTY_TRIANGLE = 5,   /* a triangle with D <= 0: the lowest is in `value`        load        */
     JIRD_NO_SUCH_TRIANGLE = 6,  /* a triangle number not below the count                   split, flip */

@@ -1,14 +1,16 @@
 #!/usr/bin/env python3
-"""Fixed checks of a command program at its edges: reads that fail, an output that is closed, input that goes on after `bad`, long
-input, and memory. What it must print is written down here; no model is asked.
+"""Fixed checks of a command program at its edges: reads that fail, an output that is closed or full, a terminal, a pause, input that
+goes on after `bad`, long input, and memory. What it must print is written down here; no model is asked.
 
 usage: edges.py PROGRAM [ARGUMENT ..]"""
 
 import os
 import select
+import signal
 import socket
 import sys
 import time
+import tty
 
 import feeding
 import streams
@@ -19,9 +21,8 @@ TRIANGLE = streams.command("1 U")
 BAD = b"\x08"
 MEGABYTE = 1 << 20
 SIXTEEN_MEGABYTES = 1 << 24
-SECONDS_FOR_LONGEST = 2
 MORE_MEMORY = 512  # kilobytes that a long input may add: pages of buffers that are touched late
-SECONDS = 5
+SECONDS = feeding.SECONDS
 
 
 # ---- reads that fail
@@ -101,6 +102,68 @@ def closed_output_unsignalled(words):
     return closed_output(words, ignored=True)
 
 
+def full_output(words):
+    """a write that fails ends it without a message, though its input is open"""
+    program = feeding.Program(words, SECONDS)
+    out, into = os.pipe2(os.O_CLOEXEC)
+    sink = os.open("/dev/full", os.O_WRONLY | os.O_CLOEXEC)
+    child = feeding.Child(words, out, sink, program.said)
+    os.close(out)
+    status, said = child.end(SECONDS), program.held(program.said)
+    os.close(sink)
+    os.close(into)
+    if status is None or said:
+        return f"said {said[:80]}" + f", no end within {SECONDS} seconds" * (status is None)
+    return None
+
+
+# ---- a terminal, and a pause
+
+
+def terminal(words):
+    """a terminal that brings single bytes gets each answer, and its end is the end of input"""
+    program = feeding.Program(words, SECONDS)
+    near, far = os.openpty()
+    tty.setraw(far)
+    child = feeding.Child(words, far, far, program.said)
+    os.close(far)
+    printed, wanted = b"", HEADING
+    try:
+        for given, line in ((b"", b""), (TRIANGLE, b""), (b"\x02\x00", b"2 0 7\n"), (NOWHERE, b"6 0 65535\n"), (b"\x07", b"7 0 0 7\n")):
+            for k in range(len(given)):
+                os.write(near, given[k : k + 1])
+            wanted += line
+            while len(printed) < len(wanted) and feeding.ready(near, select.POLLIN, SECONDS):
+                printed += os.read(near, 4096)
+            if printed != wanted:
+                break
+    except OSError:  # the program has ended
+        pass
+    os.close(near)
+    done = program.ended(child, printed=printed)
+    if (done.printed, done.status, done.said) != (wanted, 0, b""):
+        return f"printed {printed[-80:]}, not {wanted[-80:]}, status {done.status}, said {done.said[:80]} {done.fault}"
+    return None
+
+
+def pause(words):
+    """stopped and continued while it waits for input, it goes on"""
+    program = feeding.Program(words, SECONDS)
+    talk = feeding.Talk(words, program.said, SECONDS)
+    fault = talk.heard(len(HEADING), "no heading before any input")
+    for k in (signal.SIGSTOP, signal.SIGCONT):
+        os.kill(talk.child.pid, k)
+        os.waitid(os.P_PID, talk.child.pid, os.WSTOPPED | os.WCONTINUED | os.WEXITED | os.WNOWAIT)
+    talk.say(NOWHERE)
+    talk.hush()
+    fault = fault or talk.rest()
+    done = program.ended(talk.child, fault, talk.printed)
+    talk.close()
+    if (done.printed, done.status, done.said) != (HEADING + b"6 0 65535\n", 0, b""):
+        return f"printed {done.printed[:80]}, status {done.status}, said {done.said[:80]} {done.fault}"
+    return None
+
+
 # ---- input that goes on
 
 
@@ -132,17 +195,8 @@ def long_input(words, command=NOWHERE, line=b"6 0 65535\n", least=MEGABYTE, sile
 
 
 def longest_input(words):
-    """an offset beyond 16,777,216, where a megabyte takes so little that this takes two seconds at most"""
-    waiting = {"command": TRIANGLE, "line": b"1 4\n", "silent": streams.MOST_WAITING}
-    start = time.monotonic()
-    fault = long_input(words, **waiting)
-    took = time.monotonic() - start
-    if fault:
-        return fault
-    if took * SIXTEEN_MEGABYTES / MEGABYTE > SECONDS_FOR_LONGEST:
-        print(f"passed over: an offset beyond {SIXTEEN_MEGABYTES:,}, since a megabyte took {took:.2f} seconds")
-        return None
-    return long_input(words, least=SIXTEEN_MEGABYTES, **waiting)
+    """an offset beyond 16,777,216"""
+    return long_input(words, command=TRIANGLE, line=b"1 4\n", least=SIXTEEN_MEGABYTES, silent=streams.MOST_WAITING)
 
 
 def peak(pid):
@@ -175,7 +229,8 @@ def memory(words):
     return None
 
 
-CHECKS = [folder, closed_input, broken_input, closed_output, closed_output_unsignalled, open_input, long_input, longest_input, memory]
+CHECKS = [folder, closed_input, broken_input, closed_output, closed_output_unsignalled, full_output, terminal, pause, open_input]
+CHECKS += [long_input, longest_input, memory]
 
 
 def faults(words):

@@ -233,6 +233,13 @@ KINDS_OF_FAULTS = [
     ("title \"a\u2028b\"".encode(), [(1, 9, "U+2028", "")]),
     (b"# " + 10**6 * b"x", [(1, 4097, "at most 4096 characters, not 1000002", "")]),
     ("# é\nlocate béd 0,0".encode(), [(2, 8, "`béd` is no chart", "`bed`")]),
+    ("load\u00a0bed".encode(), [(1, 5, "U+00A0 looks like a blank", "spaces and tabs")]),
+    ("overlay\n \ufeffoverlay\nexpect pairs 9999".encode(), [(2, 2, "U+FEFF looks like a blank or like nothing", "spaces and tabs")]),
+    ("locate bed 5,\u200b5".encode(), [(1, 14, "U+200B", "spaces and tabs")]),
+    ("title \"a\u00a0b\" # \u00a0\nload".encode(), [(2, 5, "`load` ends too early", "written")]),
+    (b"overlay\nexpect pairs 4096\nexpect pairs 4097", [(3, 14, "`overlay` never answers `pairs 4097`", "0 to 4096")]),
+    (b"load bed\nexpect entries 0\nexpect entries 1", [(2, 16, "`load` never answers `entries 0`", "1 to 16384")]),
+    (b"locate bed 1,1\nexpect triangle 512\nexpect triangle 511", [(2, 17, "never answers `triangle 512`", "0 to 511")]),
 ]
 
 
@@ -272,6 +279,11 @@ def test_tables_of_triangles(folder):
     same("faults of a table", [(e["file"], e["line"], e["column"]) for e in found], want)
     same("hint of a heading", [e["hint"] for e in found][3], "a heading starts with #")
     with open(os.path.join(folder, "t.csv"), "wb") as f:
+        f.write('"0","0","5","0","0","5"\r\n0;0;5;0;0;5\n0\t0\t5\t0\t0\t5\n0,0,5,\u00a00,0,5\n# "\u00a0;\n'.encode())
+    found = [(e["line"], e["column"], (e["hint"] or "").split(":")[0]) for e in json.loads(run("--json", place).out)["errors"]]
+    want = [(1, 1, "it has quotes"), (2, 1, "it has semicolons"), (3, 1, "it has tabs"), (4, 7, "blanks are spaces and tabs")]
+    same("tables of other programs", found[:-1], want)
+    with open(os.path.join(folder, "t.csv"), "wb") as f:
         f.write(b"0,0,0,5,5,0\n" * 2 + b"\n")
     with open(place, "wb") as f:
         f.write(b'triangles "t.csv"\nexpect accepted\nload bed')
@@ -283,6 +295,10 @@ def test_tables_of_triangles(folder):
     same("dropped triangles", [(s["line"], s.get("from"), s["number"]) for s in whole["steps"]],
          [(257, "t.csv:1", 4), (257, "t.csv:2", 4), (258 + 1, None, 5)])
     same("dropped as expected", (whole["status"], whole["refused"], whole["unexpected"]), (0, 3, 0))
+    with open(place, "wb") as f:
+        f.write(b'triangles "t.csv"\n' * 257 + b"expect refused 4\n" * 3 + b"expect accepted\n" * 2)
+    whole = json.loads(run("--json", place).out)
+    same("several expectations of a table", (whole["status"], whole["unexpected"], len(whole["unmet"])), (3, 0, 2))
 
 
 FLAT = b"triangle 0,0 5,5 9,9\nload bed\n"
@@ -312,6 +328,7 @@ def status_cases(folder):
         ("no program", 2, b"", ["--engine"]),
         ("half a program", 2, b"", ["--engine", "'a"]),
         ("no such number", 2, b"", ["numbers", "99"]),
+        ("an empty name", 2, b"", [""]),
         ("a form that `check` has not", 2, b"", ["check", "--csv"]),
         ("a stream that is whole", 0, b"\7", ["--from-bytes"]),
         ("no path can be so", 4, b"", ["a\0b"]),
@@ -579,13 +596,32 @@ def test_processes(folder):
         done = process("numbers", "5", environ=locale)
         same(f"UTF-8 by {locale}", (done.returncode, "≤".encode() in done.stdout), (0, True))
     same("standard input", process("-", given=read(example)).stdout, key)
+    with open(os.path.join(folder, "sham engine"), "w", encoding="utf-8") as f:
+        f.write(f"#!/bin/sh\nexec {engine()}\n")
+    os.chmod(os.path.join(folder, "sham engine"), 0o755)
+    same("a program by its name alone", process("--engine", "sham engine", example, cwd=folder).stdout, key)
     same("version", process("--version").stdout.decode(), f"chartkey {VERSION}\n")
+
+
+def test_closed_and_full():
+    """Standard streams that are closed or full, no file that can be written, warnings as errors."""
+    example = os.path.join(EXAMPLES, "turning-basin.txt")
     full = subprocess.run([sys.executable, SCRIPT, "numbers"], stdout=open("/dev/full", "wb"), stderr=subprocess.PIPE)
     same("nothing can be written", (full.returncode, b"cannot write" in full.stderr, b"Trace" in full.stderr), (4, True, False))
     shell = f"{shlex.quote(sys.executable)} {shlex.quote(SCRIPT)}"
-    for tail, status in ((" --help >&-", 4), (" --help <&-", 0), (" <&-", 4), (" load 2>&-", 4)):
-        done = subprocess.run(["bash", "-c", shell + tail], stdout=subprocess.PIPE, stderr=subprocess.PIPE)
-        same(f"chartkey{tail}", (done.returncode, b"Trace" in done.stderr), (status, False))
+    named = f" --engine {shlex.quote(engine())} {shlex.quote(example)}"
+    for head, tail, status in (
+        ("", " --help >&-", 4),
+        ("", " --help <&-", 0),
+        ("", " <&-", 4),
+        ("", " load 2>&-", 4),
+        ("", " load 2>/dev/full", 4),
+        ("", named + " <&- 2>&-", 0),
+        ("ulimit -f 0; ", named, 0),
+        ("export PYTHONWARNINGS=error; ", named, 0),
+    ):
+        done = subprocess.run(["bash", "-c", head + shell + tail], stdout=subprocess.PIPE, stderr=subprocess.PIPE)
+        same(f"{head}chartkey{tail}", (done.returncode, b"Trace" in done.stderr), (status, False))
     many = subprocess.Popen([sys.executable, SCRIPT, "--from-bytes"], stdin=subprocess.PIPE, stdout=subprocess.PIPE, stderr=subprocess.PIPE)
     many.stdout.close()
     many.stdin.write(b"\7" * 100000)
@@ -613,6 +649,30 @@ def test_places(folder):
         same(f"{place} is found", (done.returncode, json.loads(done.stdout).get("engine")), (0, VERSION))
 
 
+def test_alone(folder):
+    """A script that cannot load its modules."""
+    alone = os.path.join(folder, "alone")
+    os.makedirs(alone)
+    shutil.copy(SCRIPT, alone)
+    done = process("--help", script=os.path.join(alone, "chartkey"))
+    same("a copy of the script", (done.returncode, b"needs the folder frontend" in done.stderr), (4, True))
+    os.makedirs(os.path.join(alone, "frontend"))
+    with open(os.path.join(alone, "frontend", "__init__.py"), "w", encoding="utf-8") as f:
+        f.write("raise MemoryError\n")
+    done = process("--help", script=os.path.join(alone, "chartkey"))
+    same("no memory for the modules", (done.returncode, done.stderr), (4, b"chartkey: error: there is not enough memory\n"))
+
+
+def test_terminal():
+    """A paper from a terminal: it is told that the terminal is read."""
+    near, far = os.openpty()
+    os.write(near, b"overlay\n\4")
+    done = subprocess.run([sys.executable, SCRIPT, "--bytes"], stdin=far, stdout=subprocess.PIPE, stderr=subprocess.PIPE, timeout=60)
+    os.close(near)
+    os.close(far)
+    same("a terminal", (done.returncode, done.stdout, b"reads from the terminal; Ctrl-D ends it" in done.stderr), (0, b"\7", True))
+
+
 def test_interrupt(folder):
     """Ctrl-C while the program runs; a shell that starts the test in the background has it ignored, so it is set anew."""
     ready = os.path.join(folder, "ready")
@@ -630,7 +690,7 @@ def test_interrupt(folder):
         time.sleep(0.05)
     child.send_signal(signal.SIGINT)
     try:
-        same("Ctrl-C", (child.wait(10), child.stderr.read()), (130, b""))
+        same("Ctrl-C", (child.wait(60), child.stderr.read()), (130, b""))
     finally:
         child.kill()
         child.stdout.close()
@@ -711,9 +771,11 @@ def tests(folder, draw):
     yield test_examples, ()
     if STORE:
         return
-    yield from ((test, ()) for test in (test_schema, test_messages, test_no_permission, test_help, test_words, test_moved_rows))
+    plain = (test_schema, test_messages, test_no_permission, test_help, test_words, test_moved_rows)
+    plain += (test_terminal, test_closed_and_full)
+    yield from ((test, ()) for test in plain)
     with_folder = (test_tables_of_triangles, test_statuses, test_limits, test_programs, test_processes)
-    with_folder += (test_places, test_interrupt)
+    with_folder += (test_places, test_alone, test_interrupt)
     yield from ((test, (folder,)) for test in with_folder)
     yield from ((test, (draw,)) for test in (test_hostile, test_round_trips))
     yield test_wrong_logs, (folder, draw)

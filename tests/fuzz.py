@@ -10,7 +10,8 @@ runs for a minute.
 
 A difference is a log that is not the model's, a status other than 0, something on standard error, an answer that does not come, or
 no end. It is shortened as far as it stays one, printed, and kept under target/fuzz/; the status is then 1. A run of 4,000
-streams and more fails as well when something of `WANTED` was not met. Ctrl-C ends it with the tally and status 130."""
+streams and more fails as well when something of `WANTED` was not met. Ctrl-C ends it with the tally and status 130, a closed pipe
+without a word and status 141."""
 
 import argparse
 import collections
@@ -131,9 +132,12 @@ class Model:
         p = self.start("logs")
 
         def log(stream):
-            p.stdin.write(b"%d\n%s" % (len(stream), stream))
-            p.stdin.flush()
-            return p.stdout.read(int(p.stdout.readline()))
+            try:
+                p.stdin.write(b"%d\n%s" % (len(stream), stream))
+                p.stdin.flush()
+                return p.stdout.read(int(p.stdout.readline()))
+            except (BrokenPipeError, ValueError):
+                sys.exit(f"the model {' '.join(self.words)} ended before it told a log")
 
         return log
 
@@ -228,7 +232,7 @@ def report(program, log_of, seed, number, kind, way, stream, log, done):
     if os.path.exists(CHARTKEY):
         print("paper:", flush=True)
         subprocess.run([CHARTKEY, "--from-bytes", path], check=False)
-    print(f"again: fuzz.py --seed {seed} --only {number} {' '.join(program.words)}", flush=True)
+    print(f"again: python3 tests/fuzz.py --seed {seed} --only {number} {' '.join(program.words)}", flush=True)
 
 
 # ---- the run
@@ -238,32 +242,41 @@ class Progress:
     """One line, rewritten on a terminal at most ten times a second, else a new one every ten seconds."""
 
     def __init__(self, seed):
-        self.seed, self.count, self.terminal = seed, 0, sys.stdout.isatty()
+        self.seed, self.count, self.differences, self.terminal = seed, 0, 0, sys.stdout.isatty()
         self.begin()
 
     def begin(self):
         self.start = self.shown = time.monotonic()
 
-    def line(self, differences):
+    def line(self):
         took = time.monotonic() - self.start
         rate = f"{self.count / max(took, 0.001):,.0f}/s"
         clock = f"{int(took) // 60:02}:{int(took) % 60:02}"
-        return f"fuzz  {self.count:,} streams  {rate}  {differences} difference{'s' * (differences != 1)}  seed {self.seed}  {clock}"
+        found = f"{self.differences} difference{'s' * (self.differences != 1)}"
+        return f"fuzz  {self.count:,} streams  {rate}  {found}  seed {self.seed}  {clock}"
 
     def show(self):
         now = time.monotonic()
         if now - self.shown >= (0.1 if self.terminal else 10):
             self.shown = now
-            line = self.line(0)
+            line = self.line()
             print(f"\r{line}\x1b[K" if self.terminal else line, end="" if self.terminal else "\n", flush=True)
 
-    def last(self, differences):
-        print("\r\x1b[K" * self.terminal + self.line(differences), flush=True)
+    def last(self):
+        print("\r\x1b[K" * self.terminal + self.line(), flush=True)
 
 
 def work(options, place, told):
-    """Runs every J-th stream until the end that was asked for, or a difference; tells ten times a second what it ran and met."""
+    """A worker. It ends with the run, also where that ended without a word."""
     signal.signal(signal.SIGINT, signal.SIG_IGN)
+    try:
+        run_share(options, place, told)
+    except (BrokenPipeError, ConnectionResetError):
+        pass
+
+
+def run_share(options, place, told):
+    """Runs every J-th stream until the end that was asked for, or a difference; tells ten times a second what it ran and met."""
     program, model = feeding.Program(options.program), Model(options.model.split())
     stop = time.monotonic() + (options.seconds or 60) if options.streams is None else float("inf")
     count, seen, last = 0, collections.Counter(), time.monotonic()
@@ -287,19 +300,28 @@ def work(options, place, told):
     return model.close()
 
 
-def drawn(program, log_of, options, seen, progress):
-    """Lets the workers run, and reports the first difference; whether there was one."""
+def started(options):
+    """The workers, and what each tells. Ctrl-C waits until all have started."""
+    signal.pthread_sigmask(signal.SIG_BLOCK, {signal.SIGINT})
     ends = [multiprocessing.Pipe(duplex=False) for _ in range(options.jobs)]
-    workers = [multiprocessing.Process(target=work, args=(options, k, told)) for k, (_, told) in enumerate(ends)]
+    workers = [multiprocessing.Process(target=work, args=(options, k, told), daemon=True) for k, (_, told) in enumerate(ends)]
     for worker, (_, told) in zip(workers, ends):
         worker.start()
         told.close()
+    return workers, [heard for heard, _ in ends]
+
+
+def drawn(program, log_of, options, seen, progress):
+    """Lets the workers run, and reports the first difference; whether there was one."""
+    workers, ends = started(options)
     found = None
     try:
-        for count, met_there, found in messages([heard for heard, _ in ends]):
+        signal.pthread_sigmask(signal.SIG_UNBLOCK, {signal.SIGINT})
+        for count, met_there, found in messages(ends):
             seen.update(met_there)
             progress.count += count
             if found:
+                progress.differences = 1
                 break
             progress.show()
         failed = not found and any(worker.join() or worker.exitcode for worker in workers)
@@ -307,7 +329,7 @@ def drawn(program, log_of, options, seen, progress):
         for worker in workers:
             worker.terminate()
             worker.join()
-    progress.last(int(found is not None))
+    progress.last()
     if failed:
         sys.exit("a worker failed")
     if found:
@@ -337,14 +359,25 @@ def only(program, model, log_of, options):
     return 0
 
 
+def least(low):
+    """The type of an argument: a whole number from there on, and of 63 bits."""
+
+    def number(text):
+        if not text.isdecimal() or not low <= int(text) < 1 << 63:
+            raise argparse.ArgumentTypeError(f"{text} is no whole number from {low} on")
+        return int(text)
+
+    return number
+
+
 def arguments():
     usage = argparse.ArgumentParser(usage=__doc__.split("usage: ")[1].split("\n")[0])
-    usage.add_argument("--seed", type=int, default=int.from_bytes(os.urandom(2), "little"))
+    usage.add_argument("--seed", type=least(0), default=int.from_bytes(os.urandom(2), "little"))
     end = usage.add_mutually_exclusive_group()
-    end.add_argument("--seconds", type=float)
-    end.add_argument("--streams", type=int)
-    end.add_argument("--only", type=int)
-    usage.add_argument("--jobs", type=int, default=len(os.sched_getaffinity(0)))
+    end.add_argument("--seconds", type=least(1))
+    end.add_argument("--streams", type=least(1))
+    end.add_argument("--only", type=least(0))
+    usage.add_argument("--jobs", type=least(1), default=len(os.sched_getaffinity(0)))
     usage.add_argument("--model", default=engines.MODEL)
     usage.add_argument("program", nargs=argparse.REMAINDER)
     options = usage.parse_args()
@@ -373,7 +406,8 @@ def main():
     try:
         return run(options, model, seen, progress)
     except KeyboardInterrupt:
-        progress.last(0)
+        signal.signal(signal.SIGINT, signal.SIG_IGN)
+        progress.last()
         tally(seen)
         return 130
     finally:
@@ -381,4 +415,9 @@ def main():
 
 
 if __name__ == "__main__":
-    sys.exit(main())
+    try:
+        sys.exit(main())
+    except OSError as e:
+        # nothing more is printed; a closed pipe is nobody's fault
+        os.dup2(os.open(os.devnull, os.O_WRONLY), sys.stdout.fileno())
+        sys.exit(141 if isinstance(e, BrokenPipeError) else f"fuzz.py: {e}")

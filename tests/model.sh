@@ -1,11 +1,14 @@
 #!/usr/bin/env bash
-# The reference model: `model.sh build` builds it and its own tests, `model.sh test` runs these: as many pass as are written, and
-# none is passed over.
+# The reference model: `model.sh build` builds it and its own tests where a source is newer, `model.sh test` runs these: as many pass
+# as are written, and none is passed over.
 set -eu
 cd "$(dirname "$0")/.."
 case ${1:-} in
 build)
     mkdir -p target/model
+    # the tests are built last
+    if [ -x target/model/tests ] && [ -z "$(find model -newer target/model/tests)" ]; then exit 0; fi
+    rm -f target/model/tests
     rustc --edition 2021 -O -o target/model/model model/main.rs
     rustc --edition 2021 -O --test -o target/model/tests model/main.rs
     ;;

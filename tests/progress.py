@@ -10,6 +10,7 @@ below them, for `staticlib NAME` those below it."""
 import glob
 import os
 import re
+import signal
 import sys
 
 import crates
@@ -26,6 +27,9 @@ def judged(verb, names):
 
 
 def main():
+    # Ctrl-C and a closed pipe end it without a message
+    signal.signal(signal.SIGINT, signal.SIG_DFL)
+    signal.signal(signal.SIGPIPE, signal.SIG_DFL)
     verb, *names = sys.argv[1:]
     number, total = 0, judged(verb, names)
     for line in sys.stdin.buffer:

@@ -58,6 +58,7 @@ check "two lists of calls and the overlay after them by the program and by the r
 check "the command program on the stored command streams, whole and in portions" python3 tests/log_cases.py --portions target/bin/overlay_log
 check "drawn command streams by the command program and by the reference model" python3 tests/fuzz.py --seed 7 --streams 4000 target/bin/overlay_log
 check "papers, their keys and faults by the front end and the command program" python3 tests/frontend.py target/bin/overlay_log
+check "what make needs and is not here; Ctrl-C and closed pipes" python3 tests/way_in.py target/bin/overlay_log
 
 echo "$passed passed, $failed failed"
 [ "$failed" -eq 0 ]
