@@ -220,12 +220,13 @@ def same_constants(texts, said):
 
 
 # what the types and prototypes of each JIRD_ABI are
-ABIS = {"1": "3457203279fef486"}
+ABIS = {"1": "ee9e360e70d40723"}
 
 
 def same_abi(said):
     """Whether JIRD_ABI is that of the types and prototypes."""
-    parts = [said[name][:3] + said[name][4:5] for name in sorted(said)]
+    constants = {name: value for one in said.values() for name, value in one.constants.items() if name != "JIRD_MOST_STACK"}
+    parts = [constants] + [(said[name].functions, said[name].structs, said[name].chart) for name in sorted(said)]
     digest = hashlib.sha256(repr(parts).encode()).hexdigest()[:16]
     if ABIS.get(said[HELM].defines.get("JIRD_ABI")) != digest:
         yield f"types, prototypes or constants are others than those of JIRD_ABI: raise it, and store `{digest}` for it in ABIS"
@@ -269,6 +270,7 @@ def other_exports(named):
 # ---- wrong headers
 
 LENGTHS = "size_t triangles, size_t entries, "
+CLOSED = "\n#ifdef __cplusplus\n}"
 # the kind of fault, the header, a text that is in it (its first place is meant), and what stands there instead
 WRONG = [
     ("a name", HELM, "jird_located jird_locate(", "jird_located jird_find("),
@@ -284,14 +286,14 @@ WRONG = [
     ("a wider number", HELM, "uint16_t x, uint16_t y", "uint32_t x, uint16_t y"),
     ("a narrower length", HELM, "size_t pairs_length", "uint32_t pairs_length"),
     ("a signed number", CHARTS, "size_t i, size_t j", "size_t i, ptrdiff_t j"),
-    ("no pointer", CHARTS, "uint8_t *levels, size_t levels_length, uint16_t *items", "uint8_t levels, size_t levels_length, uint16_t *items"),
+    ("no pointer", CHARTS, "    uint8_t *levels, size_t", "    uint8_t levels, size_t"),
     ("a const missing", HELM, "const uint8_t *levels1", "uint8_t *levels1"),
     ("a const too many", HELM, "uint16_t *pairs", "const uint16_t *pairs"),
-    ("a const too many in an edit", CHARTS, "    uint16_t *table, size_t table_length, uint32_t *keys", "    uint16_t *table, size_t table_length, const uint32_t *keys"),
+    ("a const too many in a load", CHARTS, "table_length, uint32_t *keys", "table_length, const uint32_t *keys"),
     ("another answer", CHARTS, "jird_changed jird_flip(", "jird_part jird_flip("),
     ("no answer", CHARTS, "jird_sounded jird_soundness(", "void jird_soundness("),
-    ("the fields of a struct in another order", HELM, "    uint32_t number;\n    uint32_t triangle;", "    uint32_t triangle;\n    uint32_t number;"),
-    ("the fields of a struct in another order, of other widths", CHARTS, "    size_t start;\n    size_t length;", "    size_t length;\n    size_t start;"),
+    ("fields in another order", HELM, "    uint32_t number;\n    uint32_t triangle;", "    uint32_t triangle;\n    uint32_t number;"),
+    ("fields of a part in another order", CHARTS, "    size_t start;\n    size_t length;", "    size_t length;\n    size_t start;"),
     ("a field of another width", CHARTS, "uint64_t area;", "uint32_t area;"),
     ("a field of another width in an answer of counts", HELM, "size_t meetings;", "uint32_t meetings;"),
     ("a field missing", CHARTS, "    size_t entries;\n", ""),
@@ -306,12 +308,12 @@ WRONG = [
     ("less stack said over all than of a call", HELM, "JIRD_MOST_STACK = 262144", "JIRD_MOST_STACK = 65536"),
     ("no stack said", CHARTS, " Stack: at most 16 KB.", ""),
     ("a prototype missing", CHARTS, "jird_part jird_cell(", "/* jird_part jird_cell("),
-    ("a prototype too many", HELM, "\n#ifdef __cplusplus\n}", "\nsize_t build_table(const uint16_t *table, size_t table_length);\n\n#ifdef __cplusplus\n}"),
-    ("a prototype twice", CHARTS, "\n#ifdef __cplusplus\n}", "\njird_part jird_cell(size_t triangles);\n\n#ifdef __cplusplus\n}"),
+    ("a prototype too many", HELM, CLOSED, "\nsize_t build_table(const uint16_t *table, size_t table_length);\n" + CLOSED),
+    ("a prototype twice", CHARTS, CLOSED, "\njird_part jird_cell(size_t triangles);\n" + CLOSED),
     ("a chart with shorter lists", CHARTS, "uint8_t levels[JIRD_ENTRIES_LENGTH]", "uint8_t levels[JIRD_TABLE_LENGTH]"),
     ("a chart with wider lists", CHARTS, "uint16_t items[JIRD", "uint32_t items[JIRD"),
     ("other words", CHARTS, "over 4,096 pairs", "over 4,000 pairs"),
-    ("a declaration that is no prototype", HELM, "\n#ifdef __cplusplus\n}", "\nextern int jird_errors;\n\n#ifdef __cplusplus\n}"),
+    ("a declaration that is no prototype", HELM, CLOSED, "\nextern int jird_errors;\n" + CLOSED),
 ]
 # the same of a source: what is exported and the header does not have
 WRONG_SOURCES = [
