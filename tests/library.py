@@ -214,7 +214,8 @@ def files_below(folder):
 
 
 def make(target, prefix, stage):
-    return run(["make", "-s", "-C", ROOT, target, f"PREFIX={prefix}", f"DESTDIR={stage}"])
+    outside = {name: value for name, value in os.environ.items() if name not in ("MAKEFLAGS", "MAKELEVEL", "MFLAGS")}
+    return run(["make", "-s", "-C", ROOT, target, f"PREFIX={prefix}", f"DESTDIR={stage}"], env=outside)
 
 
 def built_examples(folder, to, stage):
@@ -276,6 +277,8 @@ def main():
         for word in words:
             PARTS[word]()
         return 0
+    if len(words) != 2 or not all(word.isdigit() for word in words):
+        sys.exit("usage: library.py SEED COUNT | PART..    (PART is one of " + ", ".join(PARTS) + ")")
     seed, count = map(int, words)
     marked()
     made_calls(seed, count)
