@@ -33,7 +33,7 @@ STOREYS = {
     "call": "the public calls",
     "replay": "lists of calls, and demand 3 as running code",
     "log": "the command program, from bytes to bytes",
-    "bench": "for the benchmark",
+    "export": "the calls for C, on numbers and slices",
     "test": "test programs",
 }
 NAMED = {"overlay_log": "log"}  # the command program, which is named by what it prints first
@@ -41,6 +41,7 @@ KIT = ["io", "libc", "os", "check", "bytes"]  # the kit's libraries
 # what a crate lists and does not name: the crate that it comes through, and the type of the values that pass; C functions have none
 PASSING = {
     "call_edits": {"edit_rows": ("edit_steps", "Edited")},
+    "export_charts": {"read_cells": ("call_locate", "Part")},
     "log_readers": {"replay_lists": ("log_events", "Counts")},
     "overlay_log": {"log_events": ("log_reader", "BothCounts"), "replay_lists": ("log_events", "Counts")},
     "test_calls": {"spec_plane": ("test_changes", "Point")},

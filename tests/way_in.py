@@ -8,6 +8,7 @@ program was removed, and where nothing is proved.
 
 usage: way_in.py PROGRAM [ARGUMENT ..]"""
 
+import functools
 import os
 import re
 import shlex
@@ -43,6 +44,7 @@ def write(path, text, mode=0o755):
 # ---- what is not here
 
 
+@functools.cache
 def needs():
     """Each target with what it needs, as `make` alone tells them."""
     environ = {"PATH": os.environ["PATH"]}  # nothing of a make above this one
@@ -55,7 +57,7 @@ def told(folder, target, without, python_is_old=False):
     tools, place = os.path.join(folder, "tools"), os.path.join(folder, "place")
     for part in (tools, place):
         shutil.rmtree(part, ignore_errors=True)
-    stand_ins = dict.fromkeys(("bash", "rt", "rustc", "cc"), "exit 9")
+    stand_ins = {name: "exit 9" for names in needs().values() for name in names if "/" not in name}
     stand_ins["python3"] = f"exit {int(python_is_old)}"  # what it says when its version is asked
     stand_ins["sh"] = f'exec {shutil.which("sh")} "$@"'
     for name in set(stand_ins) - set(without):

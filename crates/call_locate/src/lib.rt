@@ -1,14 +1,15 @@
 // Locate and cell listing.
 
+pub mod places;
+
 use base_answers::Located;
 use base_answers::Verdict;
 use base_geometry::geometry;
 use base_geometry::numbers;
-use read_cells::Part;
 use spec_plane::Point;
 ghost use mathlib.Core.Path.{_≡_};
-ghost use Prim.Native.Nat.{ℕ, _+_, _*_, _-_, _≤_, _<_};
-ghost use lib.ListN.{length, getD, take, drop};
+ghost use Prim.Native.Nat.{ℕ, _+_, _*_, _≤_, _<_};
+ghost use lib.ListN.{length, getD};
 ghost use Rattle.theory_lists.specs.Lists.{first};
 ghost use Rattle.spec_plane.specs.Triangle.{holds};
 ghost use Rattle.spec_charts.specs.Table.{numbersPerTriangle, triangleAt};
@@ -17,7 +18,7 @@ ghost use Rattle.spec_calls.specs.Lent.{given};
 ghost use Rattle.read_cells.specs.Place.{OwnPart};
 ghost use Rattle.base_answers.specs.Outcomes.{locatedOf};
 ghost use Rattle.call_locate.specs.Holding.{foundOf};
-ghost use Rattle.call_locate.specs.Places.{placesCall, PartAt};
+ghost use Rattle.call_locate.specs.Places.{placesCall};
 
 // The first of the listed triangles that holds p.
 fn first_holding(table: &[u16], list: &[u16], p: Point) -> Located
@@ -35,25 +36,6 @@ fn first_holding(table: &[u16], list: &[u16], p: Point) -> Located
     Located::Nowhere
 }
 
-// Where the part that cell listing of p hands back lies in the items; 0 and 0 where it is empty.
-pub fn cell_part(
-    table: &[u16],
-    keys: &[u32],
-    levels: &[u8],
-    items: &[u16],
-    triangles: usize,
-    entries: usize,
-    p: Point,
-) -> Part
-    ensures { λ r. ⌜ take (r .to - r .from) (drop (r .from) (now (items .entry))) ≡ listingCall (given table keys levels items triangles entries) p ⌝ }
-    ensures { λ r. ⌜ PartAt (now (items .entry)) (placesCall (given table keys levels items triangles entries) p) (r .from) (r .to) ⌝ }
-{
-    let Verdict::Accepted = chart_rule::judge(table, keys, levels, items, triangles, entries) else {
-        return Part { from: 0, to: 0 };
-    };
-    read_cells::listed_part(keys, items, entries, p)
-}
-
 // Cell listing of p: the triangle numbers of the cell whose key range has Z(p), as a part of the caller's own list; an empty
 // part for the mark and at a refusal.
 pub fn cell_listing<'a, 'b, 'c, 'd>(
@@ -68,7 +50,7 @@ pub fn cell_listing<'a, 'b, 'c, 'd>(
     ensures { λ r. ⌜ now r ≡ listingCall (given table keys levels items triangles entries) p ⌝ }
     ensures { λ r. ⌜ OwnPart (items .entry) r (placesCall (given table keys levels items triangles entries) p) ⌝ }
 {
-    let part = cell_part(table, keys, levels, items, triangles, entries, p);
+    let part = places::cell_part(table, keys, levels, items, triangles, entries, p);
     let from = part.from;
     let to = part.to;
     &items[from..to]

@@ -176,7 +176,7 @@ pub extern "C" fn jird_cell(
     ensures { λ r. ⌜ PartAt (now (items .entry)) (placesCall (given table keys levels items triangles entries) (record { x = x; y = y })) (r .start) (r .start + r .length) ⌝ }
 {
     let p = Point { x, y };
-    let part = call_locate::cell_part(table, keys, levels, items, triangles, entries, p);
+    let part = call_locate::places::cell_part(table, keys, levels, items, triangles, entries, p);
     let start = part.from;
     let length = part.to - start;
     JirdPart { start, length }

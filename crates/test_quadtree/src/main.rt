@@ -66,7 +66,7 @@ fn rest_is_zero(keys: &[u32], levels: &[u8], items: &[u16], n: usize) -> bool
 fn build_and_print(table: &[u16], keys: &mut [u32], levels: &mut [u8], items: &mut [u16])
     requires { ⌜ (maxEntries ≤ length (now keys)) × ((maxEntries ≤ length (now levels)) × (maxEntries ≤ length (now items))) ⌝ }
 {
-    let m = bench_build::build_table(table, keys, levels, items);
+    let m = test_build::build_table(table, keys, levels, items);
     if m > 16385 {
         io::write_all(STDOUT_FILENO, b"refused\n");
         return;

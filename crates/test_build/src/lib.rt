@@ -1,5 +1,4 @@
-// Building the entries of a table, for any numbers and lists: an export for the benchmark's C program and the test program
-// `test_quadtree` alone.
+// Building the entries of a table, for any numbers and lists: for the test program `test_quadtree` alone.
 // It is no call of document 01, and 16385 and 16386 are none of its numbers.
 
 ghost use mathlib.Core.Path.{_≡_};
@@ -10,7 +9,7 @@ ghost use Rattle.spec_charts.specs.Table.{numbersPerTriangle, tableOf};
 ghost use Rattle.spec_charts.specs.Cells.{entriesOf, maxEntries};
 ghost use Rattle.chart_lists.specs.Columns.{atEntry, atExit};
 ghost use Rattle.chart_index.specs.Lists.{ListedIn};
-ghost use Rattle.bench_build.specs.Buildable.{lengthsFit, buildableLent, notBuilt};
+ghost use Rattle.test_build.specs.Buildable.{lengthsFit, buildableLent, notBuilt};
 
 // The answer where nothing can be built.
 const NOT_BUILT: usize = base_tables::MOST_ENTRIES + 2;
@@ -28,8 +27,7 @@ fn lengths_fit(table: &[u16], keys: &[u32], levels: &[u8], items: &[u16]) -> boo
 
 // The number of the table's entries, which then stand in the three lists, zeros after them; 16385 where they are more than
 // 16384, and `NOT_BUILT` for a table or lists of the wrong length or a triangle with D <= 0, and the lists stay as they were.
-#[no_mangle]
-pub extern "C" fn build_table(
+pub fn build_table(
     table: &[u16],
     keys: &mut [u32],
     levels: &mut [u8],

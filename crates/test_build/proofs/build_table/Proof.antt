@@ -2,9 +2,9 @@ use mathlib.Core.Path.{refl, sym, _∙_}
 use mathlib.Core.Bool.{true≢false, false≢true}
 use native.Mathlib.Omega.{arith}
 use borrow.Author.Needs.{needs}
-use Rattle.bench_build.proofs.BuildableLaws.{lengths-fit, buildable-both, buildable-lengths, buildable-proper}
-use Rattle.bench_build.proofs.build_table.Statement.{statement}
-use Rattle.bench_build.proofs.build_table.Tie as tie
+use Rattle.test_build.proofs.BuildableLaws.{lengths-fit, buildable-both, buildable-lengths, buildable-proper}
+use Rattle.test_build.proofs.build_table.Statement.{statement}
+use Rattle.test_build.proofs.build_table.Tie as tie
 
 -- an earlier place, found from a later one
 abbrev lengths-fit-to-top : tie.After-lengths-fit → tie.Start

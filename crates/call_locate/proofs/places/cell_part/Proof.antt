@@ -10,8 +10,8 @@ use Rattle.spec_calls.specs.Lent.{held}
 use Rattle.base_answers.specs.Outcomes.{verdictOutcome}
 use Rattle.read_cells.proofs.PointLaws.{part-taken, part-places}
 use Rattle.call_locate.proofs.CallLaws.{lists-chained, lists-searchable, places-refused, places-done}
-use Rattle.call_locate.proofs.cell_part.Statement.{statement}
-use Rattle.call_locate.proofs.cell_part.Tie as tie
+use Rattle.call_locate.proofs.places.cell_part.Statement.{statement}
+use Rattle.call_locate.proofs.places.cell_part.Tie as tie
 
 -- the chart lent
 abbrev chart : tie.Start → Chart

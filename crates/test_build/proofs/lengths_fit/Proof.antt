@@ -1,7 +1,7 @@
 use mathlib.Core.Path.{refl}
-use Rattle.bench_build.specs.Buildable.{lengthsFit}
-use Rattle.bench_build.proofs.lengths_fit.Statement.{statement}
-use Rattle.bench_build.proofs.lengths_fit.Tie as tie
+use Rattle.test_build.specs.Buildable.{lengthsFit}
+use Rattle.test_build.proofs.lengths_fit.Statement.{statement}
+use Rattle.test_build.proofs.lengths_fit.Tie as tie
 
 returns : tie.Need-returns
 unfolding lengthsFit

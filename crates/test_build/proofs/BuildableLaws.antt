@@ -12,7 +12,7 @@ use Rattle.spec_plane.specs.Triangle.{proper}
 use Rattle.spec_charts.specs.Table.{tableOf, tableLength, numbersPerTriangle}
 use Rattle.spec_charts.specs.Cells.{maxEntries}
 use Rattle.spec_calls.specs.Buffers.{Roomy}
-use Rattle.bench_build.specs.Buildable.{lengthsFit, buildable}
+use Rattle.test_build.specs.Buildable.{lengthsFit, buildable}
 
 -- the lengths of a table and three lists that fit
 pub record Lengths (table keys levels items : List ℕ) : Type 0 where
