@@ -27,12 +27,7 @@ fn lengths_fit(table: &[u16], keys: &[u32], levels: &[u8], items: &[u16]) -> boo
 
 // The number of the table's entries, which then stand in the three lists, zeros after them; 16385 where they are more than
 // 16384, and `NOT_BUILT` for a table or lists of the wrong length or a triangle with D <= 0, and the lists stay as they were.
-pub fn build_table(
-    table: &[u16],
-    keys: &mut [u32],
-    levels: &mut [u8],
-    items: &mut [u16],
-) -> usize
+pub fn build_table(table: &[u16], keys: &mut [u32], levels: &mut [u8], items: &mut [u16]) -> usize
     ensures { λ r. ⌜ (buildableLent table keys levels items ≡ true → ListedIn maxEntries (entriesOf (tableOf (now (table .entry)) (length (now (table .entry)) / numbersPerTriangle))) r keys levels items) ⌝ }
     ensures { λ r. ⌜ (buildableLent table keys levels items ≡ false → (r ≡ notBuilt) × (atExit keys levels items ≡ atEntry keys levels items)) ⌝ }
 {

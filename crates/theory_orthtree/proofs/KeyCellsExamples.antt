@@ -91,3 +91,19 @@ changes-example = refl
 from-example : map (keyFrom (3 ∷ 5 ∷ 9 ∷ []) 2 16) (0 ∷ 1 ∷ 2 ∷ 3 ∷ []) ++ (keyFrom (3 ∷ []) 2 16 1 ∷ []) ≡ 3 ∷ 5 ∷ 16 ∷ 16 ∷ 0 ∷ []
 unfolding keyFrom
 from-example = refl
+
+-- the end of a run, with places and keys beyond 32 bits
+run-end-within : RunEnd [] 5000000003 5000000003 7000000001 5000000003
+run-end-within = record { from = omega arith; within = omega arith; below = λ i h k. absurd (omega arith); reached = λ h. absurd (omega arith) }
+
+run-end-keys : RunEnd (6000000007 ∷ 8000000009 ∷ []) 2 0 7000000001 1
+run-end-keys = record {
+  from = omega arith;
+  within = omega arith;
+  below = below;
+  reached = λ h. omega arith;
+}
+  where
+    below : (i : ℕ) → 0 ≤ i → i < 1 → getD (6000000007 ∷ 8000000009 ∷ []) i 0 < 7000000001
+    below zero h k = omega arith
+    below (suc i) h k = absurd (omega arith)
