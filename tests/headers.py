@@ -1,0 +1,372 @@
+#!/usr/bin/env python3
+"""Compares the headers of include/ with the exports of crates/export_helm and crates/export_charts, and with the definitions.
+
+usage: headers.py            compares, compiles the headers by themselves, and then tries the wrong headers below
+       headers.py --write    writes the enum of numbers and the words of the numbers into the headers
+
+Read of both and compared: the names of the exports and in which header they stand, the order, names and widths of parameters, const
+against `&` and `&mut`, what is returned, the structs field by field. Of the definitions: the numbers by `rowOf`, the lengths and limits.
+The enum and the words come from `rowOf` and from frontend/numbers.py; the headers must have them as they would be written now.
+It fails on any difference, on text in a header that it does not understand, on a warning of the C or C++ compiler, and when a wrong
+header is not noticed."""
+
+import hashlib
+import os
+import re
+import subprocess
+import sys
+import tempfile
+from collections import namedtuple
+
+ROOT = os.path.dirname(os.path.dirname(os.path.abspath(__file__)))
+sys.path.insert(0, ROOT)
+from frontend import VERSION, numbers
+
+HELM, CHARTS = "jirdtungsten.h", "jirdtungsten_charts.h"
+CRATES = {HELM: "export_helm", CHARTS: "export_charts"}
+DEFINITIONS = "crates/spec_charts/specs/Refusals.antt"
+
+
+def read(*names):
+    with open(os.path.join(ROOT, *names), encoding="utf-8") as f:
+        return f.read()
+
+
+# ---- the parts that are written
+
+
+def rows():
+    """The numbers by name, from the definition of the table of numbers."""
+    found = re.findall(r"^rowOf \(?(\w+)(?: \w+\))? = (?:alone|record \{ number =) (\d+)", read(DEFINITIONS), re.M)
+    return [("DONE", 0)] + [(re.sub(r"(?<=[a-z])(?=[A-Z])", "_", name).upper(), int(number)) for name, number in found]
+
+
+def enum_text():
+    lines = [f"    JIRD_{name} = {number}{',' if k + 1 < len(rows()) else ''}" for k, (name, number) in enumerate(rows())]
+    wide = max(map(len, lines))
+    lines = [f"{line:{wide}} /* {numbers.called(number)} */" for line, (_, number) in zip(lines, rows())]
+    return "typedef enum {\n" + "\n".join(lines) + "\n} jird_number;\n"
+
+
+def words_text():
+    lines = [f'    case JIRD_{name}:\n        return "{numbers.called(number)}";' for name, number in rows()]
+    body = "\n".join(lines) + '\n    default:\n        return "no number that a call gives";'
+    return f"static inline const char *jird_words(uint32_t number) {{\n    switch (number) {{\n{body}\n    }}\n}}\n"
+
+
+PARTS = {HELM: ("numbers", enum_text), CHARTS: ("words", words_text)}
+
+
+def written(name, text):
+    """The header with its part as it would be written now."""
+    mark, part = PARTS[name]
+    found = re.fullmatch(rf"(.*\* {mark}: written by tests/headers.py --write \*/\n)(.*)(/\* {mark}: end \*/\n.*)", text, re.S)
+    if not found:
+        sys.exit(f"include/{name}: the marks around `{mark}` are missing")
+    return found[1] + part() + found[3]
+
+
+def write():
+    for name in PARTS:
+        text = written(name, read("include", name))
+        with open(os.path.join(ROOT, "include", name), "w", encoding="utf-8") as f:
+            f.write(text)
+
+
+# ---- what a header says
+
+# functions by name: what is returned, and the parameters as (type, name); structs by name: the fields as (type, name)
+Said = namedtuple("Said", "functions structs constants defines chart odd")
+TYPES = {"u8": "uint8_t", "u16": "uint16_t", "u32": "uint32_t", "u64": "uint64_t", "usize": "size_t"}
+NAME = r"[A-Za-z_]\w*"
+
+
+def taken(pattern, text):
+    """What matches in the text, and the text without it."""
+    return re.findall(pattern, text, re.S | re.M), re.sub(pattern, "", text, flags=re.S | re.M)
+
+
+def typed(text):
+    """`const uint16_t *table` as (type, name); the blanks do not count."""
+    found = re.fullmatch(rf"((?:const )?{NAME}(?: ?\*)?) ?({NAME})", " ".join(text.split()))
+    return (found[1].replace(" *", "*"), found[2]) if found else (None, text.strip())
+
+
+def fields_of(body):
+    """The fields of a struct, without arrays."""
+    fields = []
+    for line in filter(str.strip, body.split(";")):
+        kind, names = line.split(None, 1)
+        fields += [typed(f"{kind} {name}") for name in names.split(",")]
+    return fields
+
+
+def constants_of(bodies):
+    return [(name, int(value)) for body in bodies for name, value in re.findall(rf"({NAME}) = (\d+)", body)]
+
+
+def in_header(text):
+    """What a header says; `odd` is what is left of it that is not understood."""
+    text = re.sub(r"/\*.*?\*/", "", text, flags=re.S)
+    inline, text = taken(r"^static inline [^;{]*\{.*?^\}$", text)
+    defines, text = taken(rf"^#define ({NAME}) (\S+) *$", text)
+    enums, text = taken(rf"^(?:typedef )?enum \{{(.*?)\}}(?: {NAME})?;$", text)
+    structs, text = taken(rf"^typedef struct \{{(.*?)\}} ({NAME});$", text)
+    functions, text = taken(rf"^({NAME}) ({NAME})\(([^()]*)\);$", text)
+    chart = [body for body, name in structs if name == "jird_chart"]
+    shapes = [(name, fields_of(body)) for body, name in structs if name != "jird_chart"]
+    prototypes = [(name, (gives, [typed(p) for p in parameters.split(",")])) for gives, name, parameters in functions]
+    odd = [l for l in text.split("\n") if l.strip() and not re.match(r"#(ifn?def|if|endif|include|define \w+_H$)|extern \"C\" \{|\}$", l)]
+    for kind, named in (("prototype", prototypes), ("struct", shapes)):
+        odd += [f"{kind} {name} twice" for name in {n for n, _ in named} if [n for n, _ in named].count(name) > 1]
+    return Said(dict(prototypes), dict(shapes), dict(constants_of(enums)), dict(defines), "".join(chart), odd)
+
+
+# ---- what a source exports
+
+
+def slices(parameter):
+    """The C parameters of one of a source: a slice is a pointer and a length."""
+    name, kind = (part.strip() for part in parameter.split(":", 1))
+    found = re.fullmatch(r"&(mut )?\[(\w+)\]", kind)
+    if found:
+        return [(f"{'' if found[1] else 'const '}{TYPES.get(found[2], found[2])}*", name), ("size_t", f"{name}_length")]
+    return [(TYPES.get(kind, kind), name)]
+
+
+def in_source(text):
+    """The functions and structs that a source has for C, with the source's own names of structs."""
+    text = re.sub(r"//[^\n]*", "", text)
+    found = re.findall(r'#\[no_mangle\]\s*pub extern "C" fn (\w+)\(([^()]*)\)\s*(?:->\s*(\w+))?', text)
+    functions = {
+        name: (TYPES.get(gives, gives or "void"), [c for p in parameters.split(",") if p.strip() for c in slices(p)])
+        for name, parameters, gives in found
+    }
+    structs = {}
+    for name, body in re.findall(r"#\[repr\(C\)\]\s*(?:#\[[^\]]*\]\s*)*pub struct (\w+) \{([^}]*)\}", text):
+        pairs = re.findall(r"(\w+)\s*:\s*(\w+)", body)
+        structs[name] = [(TYPES.get(kind, kind), field) for field, kind in pairs]
+    if len(found) != len(re.findall(r'extern "C" fn', text)):
+        sys.exit("a source has an exported function that this test does not understand")
+    return functions, structs
+
+
+# ---- the comparison
+
+
+def same_parameters(name, ours, theirs):
+    """Where the parameters of a prototype differ from the export's."""
+    if len(ours) != len(theirs):
+        yield f"{name} has {len(ours)} parameters, and the export {len(theirs)}"
+    for k, (a, b) in enumerate(zip(ours, theirs), 1):
+        if a != b:
+            yield f"{name}, parameter {k}: `{a[0]} {a[1]}`, and in the export `{b[0]} {b[1]}`"
+
+
+def same_exports(header, said, functions, structs):
+    """Where a header differs from its crate."""
+    for name in sorted(set(said.functions) ^ set(functions)):
+        yield f"{header}: {name} " + ("is no export" if name in said.functions else "has no prototype")
+    names = {}
+    for name in sorted(set(said.functions) & set(functions)):
+        (gives, ours), (given, theirs) = said.functions[name], functions[name]
+        yield from same_parameters(f"{header}: {name}", ours, theirs)
+        if names.setdefault(gives, given) != given or list(names.values()).count(given) > 1 and given in structs:
+            yield f"{header}: {name} gives {gives}, and the export {given}"
+    for name in sorted(set(said.structs) ^ set(names)):
+        yield f"{header}: {name} is the answer of no prototype, or no struct of this header"
+    for name, given in sorted(names.items()):
+        if said.structs.get(name) != structs.get(given):
+            yield f"{header}: {name} is {said.structs.get(name)}, and {given} of the source {structs.get(given)}"
+
+
+# constants of the headers: the file and the definition that each comes from
+LIMITS = {
+    "JIRD_TABLE_LENGTH": ("crates/spec_charts/specs/Table.antt", "tableLength"),
+    "JIRD_MOST_TRIANGLES": ("crates/spec_charts/specs/Table.antt", "maxTriangles"),
+    "JIRD_ENTRIES_LENGTH": ("crates/spec_charts/specs/Cells.antt", "maxEntries"),
+    "JIRD_PAIRS_LENGTH": ("crates/spec_calls/specs/Buffers.antt", "pairsLength"),
+    "JIRD_MOST_PAIRS": ("crates/spec_charts/specs/Overlay.antt", "maxPairs"),
+    "JIRD_EMPTY_CELL": ("crates/theory_orthtree/specs/Entries.antt", "emptyMark"),
+    "JIRD_NOWHERE": ("crates/spec_log/specs/Log.antt", "locatedNumbers none"),
+}
+
+
+def defined(name, definition):
+    """The number that a definition is."""
+    found = re.search(rf"^{definition} = (\d+)", read(name), re.M)
+    if not found:
+        sys.exit(f"{name} has no `{definition} = NUMBER`: tell LIMITS where it is now")
+    return int(found[1])
+
+
+def stacks(text):
+    """The KB of stack that a header says of each prototype."""
+    found = re.findall(rf"/\*((?:(?!\*/).)*)\*/\n{NAME} ({NAME})\(", text, re.S)
+    return {name: int(said) for comment, name in found for said in re.findall(r"Stack: at most (\d+) KB\.", " ".join(comment.split()))}
+
+
+def same_constants(texts, said):
+    """Where enums and limits differ from the definitions."""
+    wanted = {name: defined(*place) for name, place in LIMITS.items()}
+    wanted.update((f"JIRD_{name}", number) for name, number in rows())
+    wanted["JIRD_MOST_STACK"] = 1024 * max(kb for text in texts.values() for kb in stacks(text).values())
+    ours = {name: value for one in said.values() for name, value in one.constants.items()}
+    for name in sorted(set(ours) | set(wanted)):
+        if ours.get(name) != wanted.get(name):
+            yield f"{name} is {ours.get(name)}, and by the definitions {wanted.get(name)}"
+    if said[HELM].defines.get("JIRD_VERSION") != f'"{VERSION}"':
+        yield f"JIRD_VERSION is {said[HELM].defines.get('JIRD_VERSION')}, and in frontend/__init__.py {VERSION}"
+
+
+# what the types and prototypes of each JIRD_ABI are
+ABIS = {"1": "3457203279fef486"}
+
+
+def same_abi(said):
+    """Whether JIRD_ABI is that of the types and prototypes."""
+    parts = [said[name][:3] + said[name][4:5] for name in sorted(said)]
+    digest = hashlib.sha256(repr(parts).encode()).hexdigest()[:16]
+    if ABIS.get(said[HELM].defines.get("JIRD_ABI")) != digest:
+        yield f"types, prototypes or constants are others than those of JIRD_ABI: raise it, and store `{digest}` for it in ABIS"
+
+
+def same_chart(said):
+    """Where the chart type differs from what the calls take."""
+    lists = [(kind.removeprefix("const ").rstrip("*"), name) for kind, name in said[HELM].functions.get("jird_locate", (None, []))[1][:8:2]]
+    wanted = "".join(f"{kind} {name}[JIRD_{'TABLE' if name == 'table' else 'ENTRIES'}_LENGTH];" for kind, name in lists)
+    if "".join(said[CHARTS].chart.split()) != "".join((wanted + "size_t triangles, entries;").split()):
+        yield f"{CHARTS}: jird_chart has other buffers or counts than the calls take"
+
+
+def faults(texts, sources):
+    """Every difference between the headers' texts and the sources."""
+    said = {name: in_header(text) for name, text in texts.items()}
+    for name, text in texts.items():
+        functions, structs = in_source(sources[name])
+        yield from (f"{name}: not understood: {line}" for line in said[name].odd)
+        yield from same_exports(name, said[name], functions, structs)
+        yield from (f"{name}: the stack of {f} is not said" for f in sorted(set(said[name].functions) - set(stacks(text))))
+        if written(name, text) != text:
+            yield f"{name}: the {PARTS[name][0]} are not current; `python3 tests/headers.py --write` writes them"
+    if sorted(said[HELM].functions) != ["jird_locate", "jird_overlay"]:
+        yield f"{HELM}: it has locate and overlay, and nothing else"
+    yield from same_constants(texts, said)
+    yield from same_chart(said)
+    yield from same_abi(said)
+
+
+def other_exports(named):
+    """Exports of other crates, which stand in no header."""
+    for crate in sorted(os.listdir(os.path.join(ROOT, "crates"))):
+        folder = os.path.join(ROOT, "crates", crate, "src")
+        for name in sorted(os.listdir(folder)) if crate not in CRATES.values() and os.path.isdir(folder) else ():
+            for function in re.findall(r'extern "C" fn (\w+)\(', read(folder, name)):
+                if function in named or function.startswith("jird_"):
+                    yield f"crates/{crate} exports {function}"
+
+
+# ---- wrong headers
+
+LENGTHS = "size_t triangles, size_t entries, "
+# the kind of fault, the header, a text that is in it (its first place is meant), and what stands there instead
+WRONG = [
+    ("a name", HELM, "jird_located jird_locate(", "jird_located jird_find("),
+    ("another name", CHARTS, "jird_measured jird_doubled_area(", "jird_measured jird_area("),
+    ("two parameters exchanged", HELM, LENGTHS + "uint16_t x, uint16_t y", LENGTHS + "uint16_t y, uint16_t x"),
+    ("two counts exchanged", CHARTS, LENGTHS + "size_t i, size_t j", "size_t entries, size_t triangles, size_t i, size_t j"),
+    ("two buffers exchanged", CHARTS, "const uint16_t *numbers, size_t numbers_length,\n    uint16_t *table, size_t table_length,",
+     "uint16_t *table, size_t table_length,\n    const uint16_t *numbers, size_t numbers_length,"),
+    ("a pointer and its length exchanged", HELM, "uint16_t *pairs, size_t pairs_length", "size_t pairs_length, uint16_t *pairs"),
+    ("a parameter too few", CHARTS, LENGTHS + "size_t i, uint16_t x, uint16_t y", LENGTHS + "uint16_t x, uint16_t y"),
+    ("a parameter too many", HELM, "size_t pairs_length);", "size_t pairs_length, size_t most);"),
+    ("a narrower buffer", HELM, "const uint32_t *keys,", "const uint16_t *keys,"),
+    ("a wider number", HELM, "uint16_t x, uint16_t y", "uint32_t x, uint16_t y"),
+    ("a narrower length", HELM, "size_t pairs_length", "uint32_t pairs_length"),
+    ("a signed number", CHARTS, "size_t i, size_t j", "size_t i, ptrdiff_t j"),
+    ("no pointer", CHARTS, "uint8_t *levels, size_t levels_length, uint16_t *items", "uint8_t levels, size_t levels_length, uint16_t *items"),
+    ("a const missing", HELM, "const uint8_t *levels1", "uint8_t *levels1"),
+    ("a const too many", HELM, "uint16_t *pairs", "const uint16_t *pairs"),
+    ("a const too many in an edit", CHARTS, "    uint16_t *table, size_t table_length, uint32_t *keys", "    uint16_t *table, size_t table_length, const uint32_t *keys"),
+    ("another answer", CHARTS, "jird_changed jird_flip(", "jird_part jird_flip("),
+    ("no answer", CHARTS, "jird_sounded jird_soundness(", "void jird_soundness("),
+    ("the fields of a struct in another order", HELM, "    uint32_t number;\n    uint32_t triangle;", "    uint32_t triangle;\n    uint32_t number;"),
+    ("the fields of a struct in another order, of other widths", CHARTS, "    size_t start;\n    size_t length;", "    size_t length;\n    size_t start;"),
+    ("a field of another width", CHARTS, "uint64_t area;", "uint32_t area;"),
+    ("a field of another width in an answer of counts", HELM, "size_t meetings;", "uint32_t meetings;"),
+    ("a field missing", CHARTS, "    size_t entries;\n", ""),
+    ("a field too many", HELM, "    uint32_t triangle;", "    uint32_t place;\n    uint32_t triangle;"),
+    ("an enum value", HELM, "JIRD_NO_FLIP = 9", "JIRD_NO_FLIP = 8"),
+    ("a row of the enum missing", HELM, "    JIRD_TABLE_FULL = 10, ", "    //"),
+    ("a constant", HELM, "JIRD_PAIRS_LENGTH = 8192", "JIRD_PAIRS_LENGTH = 4096"),
+    ("the mark", HELM, "JIRD_NOWHERE = 65535", "JIRD_NOWHERE = 65536"),
+    ("another version", HELM, "#define JIRD_VERSION \"1", "#define JIRD_VERSION \"2"),
+    ("another ABI number", HELM, "#define JIRD_ABI 1", "#define JIRD_ABI 2"),
+    ("a constant too many", HELM, "    JIRD_MOST_PAIRS = 4096,", "    JIRD_MOST_PAIRS = 4096,\n    JIRD_MOST_CELLS = 16384,"),
+    ("less stack said over all than of a call", HELM, "JIRD_MOST_STACK = 262144", "JIRD_MOST_STACK = 65536"),
+    ("no stack said", CHARTS, " Stack: at most 16 KB.", ""),
+    ("a prototype missing", CHARTS, "jird_part jird_cell(", "/* jird_part jird_cell("),
+    ("a prototype too many", HELM, "\n#ifdef __cplusplus\n}", "\nsize_t build_table(const uint16_t *table, size_t table_length);\n\n#ifdef __cplusplus\n}"),
+    ("a prototype twice", CHARTS, "\n#ifdef __cplusplus\n}", "\njird_part jird_cell(size_t triangles);\n\n#ifdef __cplusplus\n}"),
+    ("a chart with shorter lists", CHARTS, "uint8_t levels[JIRD_ENTRIES_LENGTH]", "uint8_t levels[JIRD_TABLE_LENGTH]"),
+    ("a chart with wider lists", CHARTS, "uint16_t items[JIRD", "uint32_t items[JIRD"),
+    ("other words", CHARTS, "over 4,096 pairs", "over 4,000 pairs"),
+    ("a declaration that is no prototype", HELM, "\n#ifdef __cplusplus\n}", "\nextern int jird_errors;\n\n#ifdef __cplusplus\n}"),
+]
+# the same of a source: what is exported and the header does not have
+WRONG_SOURCES = [
+    ("an export without a prototype", HELM, '#[no_mangle]\npub extern "C" fn jird_more(x: u16) -> u16 {\n    x\n}\n'),
+    ("an export of charts without a prototype", CHARTS, '#[no_mangle]\npub extern "C" fn jird_more(table: &[u16]) -> usize {\n    0\n}\n'),
+]
+
+
+def tried(texts, sources):
+    """The wrong headers that are not noticed."""
+    for kind, name, old, new in WRONG:
+        text = texts[name]
+        if kind == "a prototype missing":
+            text = re.sub(r"(jird_part jird_cell\([^;]*;)", r"\1 */", text)
+        if old not in text:
+            yield f"the wrong header `{kind}` cannot be made: {name} has no `{old}`"
+        elif not any(True for _ in faults({**texts, name: text.replace(old, new, 1)}, sources)):
+            yield f"a wrong header is not noticed: {kind}"
+    for kind, name, more in WRONG_SOURCES:
+        if not any(True for _ in faults(texts, {**sources, name: sources[name] + more})):
+            yield f"a wrong source is not noticed: {kind}"
+
+
+STRICT = ["-Wall", "-Wextra", "-Wpedantic", "-Wconversion", "-Wsign-conversion", "-Wshadow", "-Werror", "-fsyntax-only"]
+
+
+def compiled(name):
+    """What the compilers say of a header by itself, included twice."""
+    for compiler, suffix in ((["cc", "-std=c11"], ".c"), (["c++", "-std=c++17", "-Wold-style-cast"], ".cpp")):
+        with tempfile.NamedTemporaryFile("w", suffix=suffix) as f:
+            f.write(f'#include "{name}"\n#include "{name}"\n')
+            f.flush()
+            words = [*compiler, *STRICT, "-I", os.path.join(ROOT, "include"), f.name]
+            done = subprocess.run(words, stdout=subprocess.PIPE, stderr=subprocess.STDOUT, text=True)
+        if done.returncode != 0:
+            yield f"{name} by {compiler[0]}: {done.stdout}"
+
+
+def main():
+    if sys.argv[1:] == ["--write"]:
+        write()
+        return 0
+    texts = {name: read("include", name) for name in CRATES}
+    sources = {name: read("crates", crate, "src", "lib.rt") for name, crate in CRATES.items()}
+    found = list(faults(texts, sources))
+    named = [name for text in texts.values() for name in in_header(text).functions]
+    found += list(other_exports(named)) + [fault for name in CRATES for fault in compiled(name)]
+    found = found or list(tried(texts, sources))
+    for fault in found:
+        print(fault)
+    if found:
+        return 1
+    print(f"{len(named)} exports as their headers say; {len(WRONG)} wrong headers and {len(WRONG_SOURCES)} wrong sources are noticed")
+    return 0
+
+
+if __name__ == "__main__":
+    sys.exit(main())
