@@ -1,10 +1,9 @@
-/* output.h: writes a picture so that no one sees half of it. */
+/* output.h: draws a scene to a file, and tells if it cannot. */
 #ifndef OUTPUT_H
 #define OUTPUT_H
 #include "draw.h"
 
-/* Draws to a file beside the one named and puts it in its place; straight to "-" and to what is no plain file. A null path draws
- * for the report alone. WELL, or FAILED after a message. */
+/* Draws to the path, "-" for standard output; null draws for the report alone. WELL, or FAILED after a message. */
 int write_picture(const scene *s, const view *v, const char *path, drawn *d);
 
 #endif

@@ -11,9 +11,10 @@
  *   overlay    number, pairs (how many), meetings, key (bed and design triangle of each pair)
  *   head       x and y, or null
  *   found      for bed and design: number, triangle (null for nowhere); null without a head
- *   picture    form, layout, window (left, top, right, bottom in grid units), plan (the same of its frame, in pixels of the helm's
- *              picture or millimetres of a sheet), pages, labels: for bed and design: set (triangle and place in grid units of each
- *              number that stands in the plan), left_out (triangles in the window whose number has no room)
+ *   picture    form, layout, size (width, height), window (left, top, right, bottom in grid units), plan (the same of its frame), pages,
+ *              labels; size and plan are in pixels of the helm's picture or millimetres of a sheet. labels has for bed and
+ *              design: set (triangle and place in grid units of each number that stands in the plan), left_out (triangles in the
+ *              window whose number has no room)
  * Tables, cells, overlay and found are what the proved calls left. */
 #include "report.h"
 #include "say.h"
@@ -153,10 +154,21 @@ static void put_labels(const scene *s, const drawn *d, int chart) {
     fputs("]}", stdout);
 }
 
+/* Width and height, in pixels or millimetres. */
+static void put_size(const view *v) {
+    static const int sheets[][2] = { [PAPER_A4] = { 297, 210 }, [PAPER_A3] = { 420, 297 } };
+    const int *sheet = sheets[v->paper];
+    int width = v->layout == LAYOUT_HELM ? v->width : sheet[v->portrait ? 1 : 0];
+    int height = v->layout == LAYOUT_HELM ? v->height : sheet[v->portrait ? 0 : 1];
+    printf("[%d, %d]", width, height);
+}
+
 static void put_picture(const scene *s, const view *v, const drawn *d) {
     static const char *const forms[] = { [FORM_PNG] = "png", [FORM_SVG] = "svg", [FORM_PDF] = "pdf" };
-    printf(" \"picture\": {\"form\": \"%s\", \"layout\": \"%s\",\n  \"window\": ", forms[v->form],
+    printf(" \"picture\": {\"form\": \"%s\", \"layout\": \"%s\",\n  \"size\": ", forms[v->form],
         v->layout == LAYOUT_HELM ? "helm" : "sheet");
+    put_size(v);
+    fputs(",\n  \"window\": ", stdout);
     put_reals(d->window, 4);
     fputs(",\n  \"plan\": ", stdout);
     put_reals(d->plan, 4);
