@@ -1,5 +1,6 @@
 # make alone prints the targets. Each target first tells what it needs and is not here.
-TARGETS := run test display pictures fuzz bench stack model map mutants
+TARGETS := run test lib display pictures install uninstall fuzz bench stack model map mutants
+PREFIX := /usr/local
 
 run.does := proves and builds the command program, and shows a paper with its key, and document 01's example
 run.needs := rt python3
@@ -7,9 +8,24 @@ run.takes := some 6 minutes the first time, then seconds
 run.by := bash tests/demo.sh
 
 test.does := the whole gate: proofs, must-fail edits, programs, reference model, definitions executed, pages; .ci/run calls it
-test.needs := rt rustc python3
+test.needs := rt rustc python3 cc c++ ld objcopy nm pkg-config valgrind
 test.takes := some 36 minutes
 test.by := bash tests/run.sh
+
+lib.does := proves the exports and builds target/lib/libjirdtungsten.a and .so; docs/LIBRARY.md says their use
+lib.needs := rt cc ld objcopy python3
+lib.takes := some 6 minutes the first time, then seconds
+lib.by := bash library/build.sh
+
+install.does := installs headers, library, chartkey, the proved program and the pages; PREFIX=/usr/local, DESTDIR=
+install.needs := install python3
+install.takes := a second, after make lib and make run
+install.by = PREFIX='$(PREFIX)' DESTDIR='$(DESTDIR)' bash library/install.sh install
+
+uninstall.does := takes away what make install puts there; the same PREFIX and DESTDIR
+uninstall.needs := find
+uninstall.takes := a second
+uninstall.by = PREFIX='$(PREFIX)' DESTDIR='$(DESTDIR)' bash library/install.sh uninstall
 
 display.does := builds helm-display, which draws charts, key and cutter head as PNG, SVG or PDF (docs/DISPLAY.md)
 display.needs := cc
@@ -27,15 +43,15 @@ fuzz.takes := a minute, or what SECONDS says; Ctrl-C ends it with the tally
 fuzz.by = bash tests/model.sh build && python3 tests/fuzz.py $(fuzz.options) target/bin/overlay_log
 fuzz.options = $(if $(SEED),--seed $(SEED)) $(if $(SECONDS),--seconds $(SECONDS)) $(if $(STREAMS),--streams $(STREAMS))
 
-bench.does := time per build beside hand-written engines in C, in one run, as ratios
-bench.needs := rt cc python3
-bench.takes := a minute, and the proofs of bench_build and what is below it that are not made yet
+bench.does := time per load, locate and overlay of the library beside hand-written engines in C, in one run, as ratios
+bench.needs := rt cc ld objcopy python3
+bench.takes := a minute, and what make lib takes
 bench.by := bash bench/run.sh
 
-stack.does := the stack that each public call uses, on small and on full tables
-stack.needs := rt cc python3
-stack.takes := a minute, and the proofs of the public calls that are not made yet
-stack.by := python3 tests/stack.py
+stack.does := the stack that each export uses, on small and on full tables, beside what its header says
+stack.needs := rt cc ld objcopy python3
+stack.takes := seconds, and what make lib takes
+stack.by := bash library/build.sh && python3 tests/stack.py
 
 model.does := builds the reference model, runs its own tests and the stored command streams
 model.needs := rustc python3

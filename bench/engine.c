@@ -1,16 +1,18 @@
-/* A hand-written quadtree engine, to measure the proved one against. It gives the same lists for the same tables.
+/* Hand-written engines, to measure the proved one against. They give the same answers and leave the same buffers.
 
-   plain_build    straightforward: a square looks at the triangles that met its parent, and each test is made as document 01
-                 words it, at the four corners of the square
-   culled_build   works as the proved engine does: what depends on a triangle alone is prepared once, one corner decides for
-                 each side, and the stopping test is one pass */
+   plain_load      straightforward: a square looks at the triangles that met its parent, and each test is made as document 01 words
+                   it, at the four corners of the square
+   culled_load     works as the proved engine does: what depends on a triangle alone is prepared once, one corner decides for each
+                   side, and the stopping test is one pass
+   plain_locate    checks the chain rule as document 01 words it, finds the cell by halving, and tries its triangles
+   plain_overlay   checks both charts, walks both lists of cells side by side and marks the pairs that are listed together, then tries
+                   each marked pair once: bounding boxes, then the six sides */
 #include "engine.h"
 #include <string.h>
 
-enum { TRIANGLES = 512, ENTRIES = 16384, LEVELS = 16 };
+enum { TRIANGLES = JIRD_MOST_TRIANGLES, ENTRIES = JIRD_ENTRIES_LENGTH, LEVELS = 16, MARK = JIRD_EMPTY_CELL };
 
 typedef struct { int32_t x, y; } Point;
-typedef struct { Point p, q; } Side;
 typedef struct { int32_t left, top, right, bottom; } Box;
 typedef struct { uint32_t x, y, level; } Square;
 
@@ -21,14 +23,14 @@ static int64_t orient(Point p, Point q, Point r) {
 static int32_t least(int32_t a, int32_t b) { return a < b ? a : b; }
 static int32_t most(int32_t a, int32_t b) { return a < b ? b : a; }
 
-static Point corner(const uint16_t *table, size_t i, int k) {
-    Point p = { table[6 * i + 2 * k], table[6 * i + 2 * k + 1] };
+static Point corner(const uint16_t *table, size_t i, size_t k) {
+    Point p = {table[6 * i + 2 * k], table[6 * i + 2 * k + 1]};
     return p;
 }
 
 static Box box_of(Square s) {
-    int32_t side = 65536 >> s.level;
-    Box b = { s.x, s.y, s.x + side, s.y + side };
+    int32_t x = (int32_t)s.x, y = (int32_t)s.y, side = 65536 >> s.level;
+    Box b = {x, y, x + side, y + side};
     return b;
 }
 
@@ -36,48 +38,56 @@ static int apart(Box a, Box b) {
     return a.right < b.left || b.right < a.left || a.bottom < b.top || b.bottom < a.top;
 }
 
-static int all_proper(const uint16_t *table, size_t n) {
-    for (size_t i = 0; i < n; i++)
-        if (orient(corner(table, i, 0), corner(table, i, 1), corner(table, i, 2)) <= 0) return 0;
-    return 1;
+static int is_proper(const uint16_t *table, size_t i) {
+    return orient(corner(table, i, 0), corner(table, i, 1), corner(table, i, 2)) > 0;
 }
 
+static Box box_around(const uint16_t *table, size_t i) {
+    Point a = corner(table, i, 0), b = corner(table, i, 1), c = corner(table, i, 2);
+    Box t = {least(a.x, least(b.x, c.x)), least(a.y, least(b.y, c.y)), most(a.x, most(b.x, c.x)), most(a.y, most(b.y, c.y))};
+    return t;
+}
+
+/* ---- load */
+
 /* Entries in scratch until the table is known to fit: a refusal leaves the caller's lists alone. */
-typedef struct {
+static struct {
     uint32_t keys[ENTRIES];
     uint16_t items[ENTRIES];
     uint8_t levels[ENTRIES];
     size_t count;
-} Entries;
-
-static Entries found;
+} found;
 
 static int put_cell(uint32_t key, uint32_t level, const uint16_t *list, size_t n) {
     size_t m = n ? n : 1;
     if (found.count + m > ENTRIES) return 0;
     for (size_t k = 0; k < m; k++) {
         found.keys[found.count + k] = key;
-        found.levels[found.count + k] = level;
-        found.items[found.count + k] = n ? list[k] : 65535;
+        found.levels[found.count + k] = (uint8_t)level;
+        found.items[found.count + k] = n ? list[k] : MARK;
     }
     found.count += m;
     return 1;
 }
 
-static size_t give(Lists out) {
-    size_t n = found.count;
-    memcpy(out.keys, found.keys, n * sizeof *out.keys);
-    memcpy(out.levels, found.levels, n * sizeof *out.levels);
-    memcpy(out.items, found.items, n * sizeof *out.items);
-    memset(out.keys + n, 0, (ENTRIES - n) * sizeof *out.keys);
-    memset(out.levels + n, 0, (ENTRIES - n) * sizeof *out.levels);
-    memset(out.items + n, 0, (ENTRIES - n) * sizeof *out.items);
-    return n;
+/* The table and its entries become the chart, with zeros after them. */
+static void give(jird_chart *c, const uint16_t *numbers, size_t length) {
+    size_t m = found.count, rest = ENTRIES - m;
+    memcpy(c->table, numbers, length * sizeof *numbers);
+    memset(c->table + length, 0, (JIRD_TABLE_LENGTH - length) * sizeof *c->table);
+    memcpy(c->keys, found.keys, m * sizeof *c->keys);
+    memcpy(c->levels, found.levels, m * sizeof *c->levels);
+    memcpy(c->items, found.items, m * sizeof *c->items);
+    memset(c->keys + m, 0, rest * sizeof *c->keys);
+    memset(c->levels + m, 0, rest * sizeof *c->levels);
+    memset(c->items + m, 0, rest * sizeof *c->items);
+    c->triangles = length / 6;
+    c->entries = m;
 }
 
-static Square quarter(Square s, int k) {
+static Square quarter(Square s, uint32_t k) {
     uint32_t half = 32768u >> s.level;
-    Square q = { s.x + (k & 1 ? half : 0), s.y + (k & 2 ? half : 0), s.level + 1 };
+    Square q = {s.x + (k & 1 ? half : 0), s.y + (k & 2 ? half : 0), s.level + 1};
     return q;
 }
 
@@ -98,7 +108,7 @@ static int add_side(Ends *e, Point p, Point q) {
 
 /* ---- straightforward */
 
-static const uint16_t *numbers;
+static const uint16_t *given;
 
 static int outside(Point p, Point q, Box b, int sign) {
     Point c[4] = { { b.left, b.top }, { b.right, b.top }, { b.left, b.bottom }, { b.right, b.bottom } };
@@ -113,10 +123,8 @@ static int side_meets(Point p, Point q, Box b) {
 }
 
 static int triangle_meets(size_t i, Box b) {
-    Point c[3] = { corner(numbers, i, 0), corner(numbers, i, 1), corner(numbers, i, 2) };
-    Box t = { least(c[0].x, least(c[1].x, c[2].x)), least(c[0].y, least(c[1].y, c[2].y)),
-              most(c[0].x, most(c[1].x, c[2].x)), most(c[0].y, most(c[1].y, c[2].y)) };
-    if (apart(t, b)) return 0;
+    Point c[3] = {corner(given, i, 0), corner(given, i, 1), corner(given, i, 2)};
+    if (apart(box_around(given, i), b)) return 0;
     for (int k = 0; k < 3; k++)
         if (outside(c[k], c[(k + 1) % 3], b, 1)) return 0;
     return 1;
@@ -126,8 +134,8 @@ static int plain_stopped(const uint16_t *list, size_t n, Square s, Box b) {
     Ends e = { .some = 0 };
     if (s.level == LEVELS) return 1;
     for (size_t k = 0; k < n; k++)
-        for (int j = 0; j < 3; j++) {
-            Point p = corner(numbers, list[k], j), q = corner(numbers, list[k], (j + 1) % 3);
+        for (size_t j = 0; j < 3; j++) {
+            Point p = corner(given, list[k], j), q = corner(given, list[k], (j + 1) % 3);
             if (side_meets(p, q, b) && !add_side(&e, p, q)) return 0;
         }
     return 1;
@@ -140,7 +148,7 @@ static int plain_square(const uint16_t *above, size_t n, uint16_t *list, Square 
         if (triangle_meets(above[k], b)) list[m++] = above[k];
     if (plain_stopped(list, m, s, b)) return put_cell(key, s.level, list, m);
     uint32_t step = (32768u >> s.level) * (32768u >> s.level);
-    for (int k = 0; k < 4; k++)
+    for (uint32_t k = 0; k < 4; k++)
         if (!plain_square(list, m, list + m, quarter(s, k), key + k * step)) return 0;
     return 1;
 }
@@ -155,7 +163,7 @@ static Shape shapes[TRIANGLES];
 static void prepare(const uint16_t *table, size_t n) {
     for (size_t i = 0; i < n; i++) {
         Shape *t = &shapes[i];
-        for (int k = 0; k < 3; k++) {
+        for (size_t k = 0; k < 3; k++) {
             Line *l = &t->side[k];
             Point p = corner(table, i, k), q = corner(table, i, (k + 1) % 3);
             l->p = p, l->q = q;
@@ -199,7 +207,7 @@ static int culled_square(const uint16_t *above, size_t n, uint16_t *list, Square
         if (shape_meets(&shapes[above[k]], b)) list[m++] = above[k];
     if (culled_stopped(list, m, s, b)) return put_cell(key, s.level, list, m);
     uint32_t step = (32768u >> s.level) * (32768u >> s.level);
-    for (int k = 0; k < 4; k++)
+    for (uint32_t k = 0; k < 4; k++)
         if (!culled_square(list, m, list + m, quarter(s, k), key + k * step)) return 0;
     return 1;
 }
@@ -208,22 +216,161 @@ static int culled_square(const uint16_t *above, size_t n, uint16_t *list, Square
 
 static uint16_t stack[(LEVELS + 2) * TRIANGLES];
 
-static size_t build_by(int (*square)(const uint16_t *, size_t, uint16_t *, Square, uint32_t), size_t n, Lists out) {
-    Square whole = { 0, 0, 0 };
-    for (size_t i = 0; i < n; i++) stack[i] = i;
+/* Whether the numbers are a table; else the refusal. */
+static jird_changed judged(const jird_chart *c, const uint16_t *numbers, size_t length) {
+    jird_changed r = {JIRD_DONE, 0, c->triangles, c->entries};
+    if (length % 6 != 0 || length > JIRD_TABLE_LENGTH) r.number = JIRD_BAD_LENGTH;
+    for (size_t i = 0; r.number == JIRD_DONE && i < length / 6; i++)
+        if (!is_proper(numbers, i)) r.number = JIRD_FAULTY_TRIANGLE, r.value = i;
+    return r;
+}
+
+/* Squares from the whole one on; then the chart, or the refusal. */
+static jird_changed load_by(int (*square)(const uint16_t *, size_t, uint16_t *, Square, uint32_t), jird_chart *c, const uint16_t *numbers,
+                            size_t length) {
+    Square whole = {0, 0, 0};
+    jird_changed r = {JIRD_TOO_MANY_ENTRIES, 0, c->triangles, c->entries};
+    for (size_t i = 0; i < length / 6; i++) stack[i] = (uint16_t)i;
     found.count = 0;
-    if (!square(stack, n, stack + n, whole, 0)) return ENTRIES + 1;
-    return give(out);
+    if (!square(stack, length / 6, stack + length / 6, whole, 0)) return r;
+    give(c, numbers, length);
+    return (jird_changed){JIRD_DONE, 0, c->triangles, c->entries};
 }
 
-size_t plain_build(const uint16_t *table, size_t n, Lists out) {
-    if (n > TRIANGLES || !all_proper(table, n)) return REFUSED;
-    numbers = table;
-    return build_by(plain_square, n, out);
+jird_changed plain_load(jird_chart *c, const uint16_t *numbers, size_t length) {
+    jird_changed r = judged(c, numbers, length);
+    if (r.number != JIRD_DONE) return r;
+    given = numbers;
+    return load_by(plain_square, c, numbers, length);
 }
 
-size_t culled_build(const uint16_t *table, size_t n, Lists out) {
-    if (n > TRIANGLES || !all_proper(table, n)) return REFUSED;
-    prepare(table, n);
-    return build_by(culled_square, n, out);
+jird_changed culled_load(jird_chart *c, const uint16_t *numbers, size_t length) {
+    jird_changed r = judged(c, numbers, length);
+    if (r.number != JIRD_DONE) return r;
+    prepare(numbers, length / 6);
+    return load_by(culled_square, c, numbers, length);
+}
+
+/* ---- the chain rule */
+
+static uint64_t keys_of(uint32_t level) { return (uint64_t)1 << 2 * (LEVELS - level); }
+
+/* Entry k against the one before it; `next` is the key at which its cell must start, and then that after it. */
+static int follows(const jird_chart *c, size_t k, uint64_t *next) {
+    uint32_t key = c->keys[k], level = c->levels[k], item = c->items[k];
+    if (level > LEVELS || key % keys_of(level) != 0 || (item >= c->triangles && item != MARK)) return 0;
+    if (k > 0 && key == c->keys[k - 1] && level == c->levels[k - 1]) return item != MARK && c->items[k - 1] < item;
+    if (key != *next) return 0;
+    *next = key + keys_of(level);
+    return 1;
+}
+
+static int chained(const jird_chart *c) {
+    uint64_t next = 0;
+    if (c->triangles > TRIANGLES || c->entries < 1 || c->entries > ENTRIES) return 0;
+    for (size_t i = 0; i < c->triangles; i++)
+        if (!is_proper(c->table, i)) return 0;
+    for (size_t k = 0; k < c->entries; k++)
+        if (!follows(c, k, &next)) return 0;
+    return next == (uint64_t)1 << 32;
+}
+
+/* ---- locate */
+
+static uint32_t spread(uint32_t n) {
+    n = (n | n << 8) & 0x00ff00ff;
+    n = (n | n << 4) & 0x0f0f0f0f;
+    n = (n | n << 2) & 0x33333333;
+    return (n | n << 1) & 0x55555555;
+}
+
+static int has_point(const uint16_t *table, size_t i, Point p) {
+    Point a = corner(table, i, 0), b = corner(table, i, 1), c = corner(table, i, 2);
+    return orient(a, b, p) >= 0 && orient(b, c, p) >= 0 && orient(c, a, p) >= 0;
+}
+
+jird_located plain_locate(const jird_chart *c, uint16_t x, uint16_t y) {
+    jird_located r = {JIRD_DONE, JIRD_NOWHERE};
+    uint32_t z = spread(x) | spread(y) << 1;
+    size_t low = 0, high = c->entries;
+    if (!chained(c)) return (jird_located){JIRD_BROKEN_CHAIN, JIRD_NOWHERE};
+    while (high - low > 1) { /* the last entry whose key is at most z */
+        size_t middle = low + (high - low) / 2;
+        if (c->keys[middle] <= z) low = middle;
+        else high = middle;
+    }
+    while (low > 0 && c->keys[low - 1] == c->keys[low]) low--;
+    for (; low < high && c->items[low] != MARK; low++)
+        if (has_point(c->table, c->items[low], (Point){x, y})) return (jird_located){JIRD_DONE, c->items[low]};
+    return r;
+}
+
+/* ---- overlay */
+
+static uint64_t marks[TRIANGLES][TRIANGLES / 64];
+
+/* The place after the cell that starts at place k. */
+static size_t cell_end(const jird_chart *c, size_t k) {
+    uint32_t key = c->keys[k];
+    do k++;
+    while (k < c->entries && c->keys[k] == key);
+    return k;
+}
+
+/* Marks the pairs of two cells that overlap. */
+static void mark(const jird_chart *c, size_t i, size_t i_end, const jird_chart *d, size_t j, size_t j_end) {
+    if (c->items[i] == MARK || d->items[j] == MARK) return;
+    for (; i < i_end; i++)
+        for (size_t k = j; k < j_end; k++) marks[c->items[i]][d->items[k] / 64] |= (uint64_t)1 << d->items[k] % 64;
+}
+
+/* Walks both lists of cells and marks; how many pairs of cells overlap. */
+static size_t walk(const jird_chart *c, const jird_chart *d) {
+    size_t i = 0, j = 0, meetings = 0;
+    while (i < c->entries && j < d->entries) {
+        size_t i_end = cell_end(c, i), j_end = cell_end(d, j);
+        uint64_t c_end = c->keys[i] + keys_of(c->levels[i]), d_end = d->keys[j] + keys_of(d->levels[j]);
+        mark(c, i, i_end, d, j, j_end);
+        meetings++;
+        if (c_end <= d_end) i = i_end;
+        if (d_end <= c_end) j = j_end;
+    }
+    return meetings;
+}
+
+/* Whether a side of triangle i has all of triangle j outside or on its line. */
+static int separates(const uint16_t *table, size_t i, const uint16_t *other, size_t j) {
+    for (size_t k = 0; k < 3; k++) {
+        Point p = corner(table, i, k), q = corner(table, i, (k + 1) % 3);
+        if (orient(p, q, corner(other, j, 0)) <= 0 && orient(p, q, corner(other, j, 1)) <= 0 && orient(p, q, corner(other, j, 2)) <= 0)
+            return 1;
+    }
+    return 0;
+}
+
+static int shares(const jird_chart *c, size_t i, Box box, const jird_chart *d, size_t j) {
+    return !apart(box, box_around(d->table, j)) && !separates(c->table, i, d->table, j) && !separates(d->table, j, c->table, i);
+}
+
+jird_overlaid plain_overlay(const jird_chart *bed, const jird_chart *design, uint16_t *pairs) {
+    size_t count = 0;
+    if (!chained(bed) || !chained(design)) return (jird_overlaid){JIRD_BROKEN_CHAIN, 0, 0};
+    memset(marks, 0, bed->triangles * sizeof marks[0]);
+    size_t meetings = walk(bed, design);
+    for (size_t i = 0; i < bed->triangles; i++) {
+        Box box = box_around(bed->table, i);
+        for (size_t w = 0; w < TRIANGLES / 64; w++)
+            for (uint64_t left = marks[i][w]; left != 0; left &= left - 1) {
+                size_t j = 64 * w + (size_t)__builtin_ctzll(left);
+                if (!shares(bed, i, box, design, j)) continue;
+                if (count < JIRD_MOST_PAIRS) pairs[2 * count] = (uint16_t)i, pairs[2 * count + 1] = (uint16_t)j;
+                count++;
+            }
+    }
+    if (count > JIRD_MOST_PAIRS) {
+        memset(pairs, 0, JIRD_PAIRS_LENGTH * sizeof *pairs);
+        return (jird_overlaid){JIRD_TOO_MANY_PAIRS, 0, 0};
+    }
+    memset(pairs + 2 * count, 0, (JIRD_PAIRS_LENGTH - 2 * count) * sizeof *pairs);
+    return (jird_overlaid){JIRD_DONE, count, meetings};
 }

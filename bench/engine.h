@@ -1,16 +1,10 @@
-/* The hand-written quadtree engine of engine.c. */
+/* The hand-written engines of engine.c: the calls on a chart, with the same answers and the same checks as the library's. */
 #ifndef ENGINE_H
 #define ENGINE_H
-#include <stddef.h>
-#include <stdint.h>
+#include "jirdtungsten_charts.h"
 
-/* The three entry lists of a chart, 16,384 places each. */
-typedef struct { uint32_t *keys; uint8_t *levels; uint16_t *items; } Lists;
-
-enum { REFUSED = 16386 };
-
-/* Builds the entries of a table of n triangles: their number, 16,385 where they are too many (the lists stay as they were), or
-   REFUSED for too many triangles or one with D <= 0. */
-size_t plain_build(const uint16_t *table, size_t n, Lists out);
-size_t culled_build(const uint16_t *table, size_t n, Lists out);
+jird_changed plain_load(jird_chart *c, const uint16_t *numbers, size_t length);
+jird_changed culled_load(jird_chart *c, const uint16_t *numbers, size_t length);
+jird_located plain_locate(const jird_chart *c, uint16_t x, uint16_t y);
+jird_overlaid plain_overlay(const jird_chart *bed, const jird_chart *design, uint16_t *pairs);
 #endif

@@ -1,11 +1,12 @@
 #!/usr/bin/env bash
-# Measures the building of a quadtree beside hand-written engines: proves and builds the library, builds the C program, runs it.
+# Measures the library's load, locate and overlay beside hand-written engines: proves and builds the library, builds the C program with
+# it, runs it. What is measured is the archive that is installed.
+# usage: run.sh
+# It fails when the library is not proved, or an engine answers otherwise than the library.
 set -eu
 cd "$(dirname "$0")/.."
-mkdir -p target
-echo "== prove and build crates/bench_build"
-bash tests/prove.sh target/bench.log staticlib bench_build || { tail -n 20 target/bench.log; exit 1; }
-echo "== build bench/quadtree.c"
-cc -O3 -Wall -o target/bench_quadtree bench/quadtree.c bench/engine.c target/staticlib/libbench_build.a
-echo "== time per build, best of 40 rounds"
-target/bench_quadtree
+bash library/build.sh
+echo "== build bench/calls.c"
+cc -std=c11 -D_DEFAULT_SOURCE -O3 -Wall -Wextra -Wpedantic -Wconversion -Iinclude -o target/lib/bench bench/calls.c bench/engine.c target/lib/libjirdtungsten.a
+echo "== time per call, best of 40 rounds"
+target/lib/bench

@@ -10,7 +10,9 @@ for name in "$@"; do
     case $name in
     rt) what="rt, the Rattle toolchain (put the bin folder of its kit on the PATH)" ;;
     rustc) what="rustc, the Rust compiler (Debian: apt-get install rustc)" ;;
-    cc) what="cc, a C compiler (Debian: apt-get install gcc)" ;;
+    cc) what="cc, a C compiler (Debian: apt-get install gcc libc6-dev)" ;;
+    c++) what="c++, a C++ compiler (Debian: apt-get install g++)" ;;
+    ld | objcopy | nm | ar) what="$name (Debian: apt-get install binutils)" ;;
     *) what="$name (Debian: apt-get install $name)" ;;
     esac
     missing=${missing:+$missing; }$what

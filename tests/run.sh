@@ -58,6 +58,10 @@ check "two lists of calls and the overlay after them by the program and by the r
 check "the command program on the stored command streams, whole and in portions" python3 tests/log_cases.py --portions target/bin/overlay_log
 check "drawn command streams by the command program and by the reference model" python3 tests/fuzz.py --seed 7 --streams 4000 target/bin/overlay_log
 check "papers, their keys and faults by the front end and the command program" python3 tests/frontend.py target/bin/overlay_log
+check "the headers say what the exports and the definitions say, and wrong headers are noticed" python3 tests/headers.py
+check "the library is built, and shows the exports alone" bash library/build.sh
+check "the library from C and C++: marked cases, guard pages, sanitizers, valgrind, threads, install" python3 tests/library.py 7 20
+check "the stack of each export is within what its header says" python3 tests/stack.py
 
 echo "$passed passed, $failed failed"
 [ "$failed" -eq 0 ]

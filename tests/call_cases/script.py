@@ -156,8 +156,8 @@ def program_lines(steps):
     return engines.program_lines(PROGRAM, program_data(steps))
 
 
-def model_lines(steps):
-    """The model's lines, with the checksum of the buffers in place of its own hash."""
+def model_text(steps, sums):
+    """The steps as the model reads them, and where `sums` says so a checksum after each call."""
 
     def name(chart, buffer):
         return "pairs" if buffer == PAIRS else f"{BUFFERS[buffer]}{chart}"
@@ -177,6 +177,12 @@ def model_lines(steps):
             text.append(f"lend {name(chart, rest[0])} {rest[1]}")
         else:
             text.append(f"{what} {chart} " + " ".join(map(str, rest[0])))
-            text.append("sum" if what == "overlay" else f"sum {chart}")
-    lines = engines.model_lines("calls", "\n".join(text))
+            if sums:
+                text.append("sum" if what == "overlay" else f"sum {chart}")
+    return "\n".join(text)
+
+
+def model_lines(steps):
+    """The model's lines, with the checksum of the buffers in place of its own hash."""
+    lines = engines.model_lines("calls", model_text(steps, sums=True))
     return [call.rsplit(" ", 1)[0] + " " + total.split()[1] for call, total in zip(lines[::2], lines[1::2])]
