@@ -70,7 +70,7 @@ def environment(**more):
     first = os.path.abspath(PROGRAM[0]) if os.path.exists(PROGRAM[0]) else PROGRAM[0]
     own = {"CHARTKEY": os.path.join(ROOT, "chartkey"), "CHARTKEY_ENGINE": shlex.join([first] + PROGRAM[1:])}
     # the font library keeps its tables until the process ends
-    own.update(LSAN_OPTIONS="suppressions=" + os.path.join(ROOT, "tests", "display.supp"), ASAN_OPTIONS="exitcode=99")
+    own.update(LSAN_OPTIONS="print_suppressions=0:suppressions=" + os.path.join(ROOT, "tests", "display.supp"), ASAN_OPTIONS="exitcode=99")
     return {**os.environ, **own, **more}
 
 
