@@ -1,7 +1,8 @@
 #!/usr/bin/env bash
 # make display: builds target/bin/helm-display from display/, the proved library and cairo.
-# usage: build.sh [--sanitize]
+# usage: build.sh [--sanitize | --packages]
 #   --sanitize   builds target/display/helm-display, with address and undefined-behaviour sanitizers
+#   --packages   looks for the packages alone
 # What is missing of the system's packages is named with the command that brings it; as root that command is run, after it is said.
 # Where target/lib has no library yet, `make lib` makes it. It fails when a package is missing, the library or the program does not build.
 set -eu
@@ -47,14 +48,15 @@ case ${1:-} in
     program=target/display/helm-display
     options="-O1 -g -fsanitize=address,undefined -fno-sanitize-recover=all -fno-omit-frame-pointer"
     ;;
-"") ;;
+--packages | "") ;;
 *)
-    echo "usage: build.sh [--sanitize]"
+    echo "usage: build.sh [--sanitize | --packages]"
     exit 2
     ;;
 esac
 mkdir -p target "$(dirname "$program")"
 need_packages
+[ "${1:-}" != --packages ] || exit 0
 [ -f "$library" ] || make --no-print-directory lib
 # shellcheck disable=SC2086,SC2046
 "${CC:-cc}" -std=c11 -Wall -Wextra -Wpedantic -Wconversion $options -Iinclude -Idisplay $(pkg-config --cflags $modules) \

@@ -67,7 +67,7 @@ int main(int count, char **words) {
     status = tell_run(&r, &from, o.input);
     complete(&s, &o, &from);
     int drawing = o.watch ? watch(&o, &s, &d) : write_picture(&s, &o.view, o.output, &d);
-    if (o.report && drawing != FAILED) drawing = higher(drawing, print_report(&s, &r, &o.view, &d));
+    if (o.report && drawing != WRONG && drawing != FAILED) drawing = higher(drawing, print_report(&s, &r, &o.view, &d));
     free(from.title);
     free(from.id);
     return higher(status, drawing);

@@ -7,5 +7,6 @@ int write_picture(const scene *s, const view *v, const char *path, drawn *d) {
     const char *why = draw_scene(s, v, path ? path : "/dev/null", d);
     if (!why) return WELL;
     say("error: %s", why);
-    return FAILED;
+    bool no_such_page = v->layout == LAYOUT_SHEET && v->form != FORM_PDF && d->pages > 0 && v->page > d->pages;
+    return no_such_page ? WRONG : FAILED;
 }

@@ -3,7 +3,8 @@
 #define OUTPUT_H
 #include "draw.h"
 
-/* Draws to the path, "-" for standard output; null draws for the report alone. WELL, or FAILED after a message. */
+/* Draws to the path, "-" for standard output; null draws for the report alone. WELL; after a message
+ * WRONG if the sheet has no such page, else FAILED. */
 int write_picture(const scene *s, const view *v, const char *path, drawn *d);
 
 #endif

@@ -47,10 +47,11 @@ static int run_paper(const options *o, FILE *text, scene *s, stream_run *r, sour
     status = end_chartkey(&run);
     if (status) return status;
     from->is_paper = true;
-    from->foreseen = r->refused == 0;
     if (start_chartkey(&run, "--json", o->input, text)) return FAILED;
     read_names(run.output, &from->title, &from->id);
-    from->foreseen = end_chartkey(&run) == WELL;
+    status = end_chartkey(&run);
+    from->foreseen = status == WELL;
+    if (status == FAILED) say("note: without title and id of the paper, for chartkey cannot run the command program (make run builds it)");
     return WELL;
 }
 

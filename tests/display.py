@@ -332,6 +332,7 @@ def test_papers(folder):
     same("a paper that is said to be one", report_of("--paper", *SMALL, given=read(BASIN))[0], named)
     unbuilt = report_of(BASIN, *SMALL, CHARTKEY_ENGINE="/no/such/program")
     same("without the command program", (unbuilt[0]["title"], unbuilt[1]), ("turning-basin.txt", 1))
+    same("told without it", b"note: without title and id" in run(BASIN, "--report", *SMALL, CHARTKEY_ENGINE="/no/such/program").stderr, True)
     quoted = 'title "a \\ b é 港 /"\nid "<&>"\n'.encode()
     same("a title with signs", [report_of("--paper", *SMALL, given=quoted)[0][k] for k in ("title", "id")], ["a \\ b é 港 /", "<&>"])
     wrong = run("--report", "--paper", given=b"triangel 0,0 5,0 0,5\n")
@@ -378,7 +379,7 @@ def option_cases(folder):
     yield from (([*words, "--report", "--bytes", STREAM], 1, "split bed at byte 129: refused 7: the point is not strictly inside") for words in pictures[:2])
     for words, said in (
         ([], "give -o PICTURE, or --report"), (["--size", "319x200"], "it wants WxH, from 320x200 to 7680x4320"), (["--size", "7680x4321"], "WxH"),
-        (["--size", "640"], "WxH"), (["--size", "640x480x2"], "WxH"), (["--size"], "--size at the end: it wants"), (["--head", "1"], "X,Y, each 0 to 65535"),
+        (["--size", "640"], "WxH"), (["--size", "640x480x2"], "WxH"), (["--head", "1"], "X,Y, each 0 to 65535"),
         (["--head", "1,65536"], "0 to 65535"), (["--head", "1,-1"], "0 to 65535"), (["--head", "1, 1"], "0 to 65535"), (["--head", ""], "0 to 65535"),
         (["--head", "99999999999999999999,1"], "0 to 65535"),
         (["--window", "1,1,1,2"], "left below right"), (["--window", "1,2,3"], "X,Y,X,Y"), (["--page", "0"], "1 to 999"), (["--page", "1000"], "1 to 999"),
@@ -388,6 +389,8 @@ def option_cases(folder):
         (["--size", "640x480", "--a3", "--report"], "--size is of the helm's picture and --a3 of a sheet"), (["--watch", "--report"], "give -o PICTURE"),
         (["--title", "a\nb"], "UTF-8 on one line"), (["--title", "\udcff"], "UTF-8 on one line"), (["--report", "second"], "one FILE at a time")):
         yield [*words, STREAM], 2, said
+    yield [STREAM, "--page", "2", "-o", good + ".png"], 2, "there is no page 2: the sheet has 1"
+    yield [STREAM, "--size"], 2, "--size at the end: it wants"
     yield ["--watch", "-o", good + ".png"], 2, "the charts come from a FILE"
     yield ["--report", "--", "--cells"], 4, "cannot read --cells: No such file"
     yield ["--report", os.path.join(folder, "none")], 4, "cannot read"
@@ -469,11 +472,14 @@ def test_ink(folder):
         (BASIN, ["--window", "0,0,65535,65535", "--size", "1000x800"]),
         (BASIN, ["--window", "0,0,65535,65535", "--size", "1000x800", "--night"]),
         (BASIN, ["--sheet"]),
-        (os.path.join(EXAMPLES, "outer-harbour.txt"), ["--sheet", "--a3"]),
+        (os.path.join(EXAMPLES, "outer-harbour.txt"), ["--window", "15000,15000,35000,35000", "--size", "1600x1200"]),
     ):
         report, _ = report_of(source, *words, "-o", place, program=DISPLAY)
         for text in ink.faults_of(png.decoded(read(place)), report, "--night" in words, counts):
             fault(os.path.basename(source), *words, ":", text)
+    for what, least in ink.LEAST.items():
+        if counts[what] < least:
+            fault(f"only {counts[what]} {what} were looked at, not {least}")
 
 
 def test_stored_picture(folder):
