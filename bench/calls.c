@@ -73,8 +73,8 @@ static void overlay(int engine) {
 static int agrees(void (*call)(int), int e) {
     if (call == load) return memcmp(&charts[0], &charts[e], sizeof charts[0]) == 0;
     if (call == locate) return memcmp(places[0], places[e], sizeof places[0]) == 0;
-    return overlaid[0].number == overlaid[e].number && overlaid[0].pairs == overlaid[e].pairs && overlaid[0].meetings == overlaid[e].meetings
-        && memcmp(pairs[0], pairs[e], sizeof pairs[0]) == 0;
+    jird_overlaid a = overlaid[0], b = overlaid[e];
+    return a.number == b.number && a.pairs == b.pairs && a.meetings == b.meetings && memcmp(pairs[0], pairs[e], sizeof pairs[0]) == 0;
 }
 
 /* ---- measuring */

@@ -7,6 +7,7 @@ set -eu
 cd "$(dirname "$0")/.."
 bash library/build.sh
 echo "== build bench/calls.c"
-cc -std=c11 -D_DEFAULT_SOURCE -O3 -Wall -Wextra -Wpedantic -Wconversion -Iinclude -o target/lib/bench bench/calls.c bench/engine.c target/lib/libjirdtungsten.a
+cc -std=c11 -D_DEFAULT_SOURCE -O3 -Wall -Wextra -Wpedantic -Wconversion -Iinclude -o target/lib/bench \
+    bench/calls.c bench/engine.c target/lib/libjirdtungsten.a
 echo "== time per call, best of 40 rounds"
 target/lib/bench

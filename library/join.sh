@@ -31,6 +31,7 @@ ln -s "libjirdtungsten.so.$abi" libjirdtungsten.so
 
 # what a program sees of either: defined, not local, without the version's own name
 seen() { sed -n 's/.* [A-TV-Z] \([^@]*\).*/\1/p' | grep -v '^JIRDTUNGSTEN_' | sort; }
-nm -g --defined-only libjirdtungsten.a | seen | diff symbols - || { echo "libjirdtungsten.a shows other symbols than the headers have"; exit 1; }
-nm -D --defined-only libjirdtungsten.so | seen | diff symbols - || { echo "libjirdtungsten.so shows other symbols than the headers have"; exit 1; }
+other() { echo "$1 shows other symbols than the headers have"; exit 1; }
+nm -g --defined-only libjirdtungsten.a | seen | diff symbols - || other libjirdtungsten.a
+nm -D --defined-only libjirdtungsten.so | seen | diff symbols - || other libjirdtungsten.so
 echo "target/lib: libjirdtungsten.a and libjirdtungsten.so.$version, with $(wc -l <symbols) symbols each"

@@ -76,9 +76,11 @@ def write():
 # ---- what a header says
 
 # functions by name: what is returned, and the parameters as (type, name); structs by name: the fields as (type, name)
-Said = namedtuple("Said", "functions structs constants defines chart odd")
+Said = namedtuple("Said", "functions structs constants defines chart inlines odd")
 TYPES = {"u8": "uint8_t", "u16": "uint16_t", "u32": "uint32_t", "u64": "uint64_t", "usize": "size_t"}
 NAME = r"[A-Za-z_]\w*"
+# the lines of a header that say nothing of the exports
+PLAIN = r'#ifndef \w+_H|#define \w+_H|#include (<std(def|int)\.h>|"jirdtungsten\.h")|#ifdef __cplusplus|#endif|extern "C" \{|\}'
 
 
 def taken(pattern, text):
@@ -96,7 +98,7 @@ def fields_of(body):
     """The fields of a struct, without arrays."""
     fields = []
     for line in filter(str.strip, body.split(";")):
-        kind, names = line.split(None, 1)
+        kind, names = (line.split(None, 1) + [""])[:2]
         fields += [typed(f"{kind} {name}") for name in names.split(",")]
     return fields
 
@@ -108,7 +110,7 @@ def constants_of(bodies):
 def in_header(text):
     """What a header says; `odd` is what is left of it that is not understood."""
     text = re.sub(r"/\*.*?\*/", "", text, flags=re.S)
-    inline, text = taken(r"^static inline [^;{]*\{.*?^\}$", text)
+    inlines, text = taken(r"^static inline [^;{]*\{.*?^\}$", text)
     defines, text = taken(rf"^#define ({NAME}) (\S+) *$", text)
     enums, text = taken(rf"^(?:typedef )?enum \{{(.*?)\}}(?: {NAME})?;$", text)
     structs, text = taken(rf"^typedef struct \{{(.*?)\}} ({NAME});$", text)
@@ -116,10 +118,10 @@ def in_header(text):
     chart = [body for body, name in structs if name == "jird_chart"]
     shapes = [(name, fields_of(body)) for body, name in structs if name != "jird_chart"]
     prototypes = [(name, (gives, [typed(p) for p in parameters.split(",")])) for gives, name, parameters in functions]
-    odd = [l for l in text.split("\n") if l.strip() and not re.match(r"#(ifn?def|if|endif|include|define \w+_H$)|extern \"C\" \{|\}$", l)]
+    odd = [line for line in text.split("\n") if line.strip() and not re.fullmatch(PLAIN, line)]
     for kind, named in (("prototype", prototypes), ("struct", shapes)):
         odd += [f"{kind} {name} twice" for name in {n for n, _ in named} if [n for n, _ in named].count(name) > 1]
-    return Said(dict(prototypes), dict(shapes), dict(constants_of(enums)), dict(defines), "".join(chart), odd)
+    return Said(dict(prototypes), dict(shapes), dict(constants_of(enums)), dict(defines), "".join(chart), inlines, odd)
 
 
 # ---- what a source exports
@@ -180,6 +182,58 @@ def same_exports(header, said, functions, structs):
             yield f"{header}: {name} is {said.structs.get(name)}, and {given} of the source {structs.get(given)}"
 
 
+# ---- the inline functions
+
+
+def passed(parameters):
+    """What an inline function passes on for the parameters of a prototype, and its own parameters beside the chart."""
+    arguments, own, after_pointer = [], [], False
+    for kind, name in parameters:
+        base, whose = re.sub(r"[01]$", "", name), {"0": "bed", "1": "design"}.get(name[-1], "c")
+        if after_pointer:
+            arguments.append(length)
+        elif base in ("table", "keys", "levels", "items"):
+            arguments.append(f"{whose}->{base}")
+            length = f"JIRD_{'TABLE' if base == 'table' else 'ENTRIES'}_LENGTH"
+        elif base in ("triangles", "entries"):
+            arguments.append(f"{whose}->{base}")
+        else:
+            arguments.append(name)
+            own.append(f"{kind} {name}" + (", size_t length" if name == "numbers" else ""))
+            length = "length" if name == "numbers" else f"JIRD_{name.upper()}_LENGTH"
+        after_pointer = kind.endswith("*") and not after_pointer
+    return arguments, own
+
+
+def inline_text(name, gives, parameters):
+    """The inline function over charts that calls a prototype."""
+    arguments, own = passed(parameters)
+    charts = ["bed", "design"] if name == "jird_overlay" else ["c"]
+    call = f"{name}({', '.join(arguments)})"
+    body = f"return {call};"
+    if gives == "jird_changed":
+        body = f"jird_changed r = {call}; c->triangles = r.triangles; c->entries = r.entries; return r;"
+    chart = "jird_chart *" if gives == "jird_changed" else "const jird_chart *"
+    heads = ", ".join([f"{chart}{c}" for c in charts] + own)
+    return f"static inline {gives} {name.replace('jird_', 'jird_chart_')}({heads}) {{ {body} }}"
+
+
+def same_inlines(said):
+    """Where the inline functions are not the calls on a chart's own buffers, one for each."""
+
+    def plain(text):
+        return re.sub(r"\s+|(?<=\W) | (?=\W)", "", text)
+
+    wanted = {plain(inline_text(name, *f)): name for one in said.values() for name, f in one.functions.items()}
+    for text in said[CHARTS].inlines + said[HELM].inlines:
+        if plain(text) not in wanted and "jird_words(" not in text:
+            yield f"{CHARTS}: not the call on a chart's own buffers: {' '.join(text.split())[:80]} .."
+        wanted.pop(plain(text), None)
+    yield from (f"{CHARTS}: no inline function over a chart for {name}" for name in wanted.values())
+
+
+# ---- constants and types
+
 # constants of the headers: the file and the definition that each comes from
 LIMITS = {
     "JIRD_TABLE_LENGTH": ("crates/spec_charts/specs/Table.antt", "tableLength"),
@@ -220,12 +274,13 @@ def same_constants(texts, said):
 
 
 # what the types and prototypes of each JIRD_ABI are
-ABIS = {"1": "3457203279fef486"}
+ABIS = {"1": "ee9e360e70d40723"}
 
 
 def same_abi(said):
     """Whether JIRD_ABI is that of the types and prototypes."""
-    parts = [said[name][:3] + said[name][4:5] for name in sorted(said)]
+    constants = {name: value for one in said.values() for name, value in one.constants.items() if name != "JIRD_MOST_STACK"}
+    parts = [constants] + [(said[name].functions, said[name].structs, said[name].chart) for name in sorted(said)]
     digest = hashlib.sha256(repr(parts).encode()).hexdigest()[:16]
     if ABIS.get(said[HELM].defines.get("JIRD_ABI")) != digest:
         yield f"types, prototypes or constants are others than those of JIRD_ABI: raise it, and store `{digest}` for it in ABIS"
@@ -253,6 +308,7 @@ def faults(texts, sources):
         yield f"{HELM}: it has locate and overlay, and nothing else"
     yield from same_constants(texts, said)
     yield from same_chart(said)
+    yield from same_inlines(said)
     yield from same_abi(said)
 
 
@@ -269,6 +325,7 @@ def other_exports(named):
 # ---- wrong headers
 
 LENGTHS = "size_t triangles, size_t entries, "
+CLOSED = "\n#ifdef __cplusplus\n}"
 # the kind of fault, the header, a text that is in it (its first place is meant), and what stands there instead
 WRONG = [
     ("a name", HELM, "jird_located jird_locate(", "jird_located jird_find("),
@@ -284,14 +341,14 @@ WRONG = [
     ("a wider number", HELM, "uint16_t x, uint16_t y", "uint32_t x, uint16_t y"),
     ("a narrower length", HELM, "size_t pairs_length", "uint32_t pairs_length"),
     ("a signed number", CHARTS, "size_t i, size_t j", "size_t i, ptrdiff_t j"),
-    ("no pointer", CHARTS, "uint8_t *levels, size_t levels_length, uint16_t *items", "uint8_t levels, size_t levels_length, uint16_t *items"),
+    ("no pointer", CHARTS, "    uint8_t *levels, size_t", "    uint8_t levels, size_t"),
     ("a const missing", HELM, "const uint8_t *levels1", "uint8_t *levels1"),
     ("a const too many", HELM, "uint16_t *pairs", "const uint16_t *pairs"),
-    ("a const too many in an edit", CHARTS, "    uint16_t *table, size_t table_length, uint32_t *keys", "    uint16_t *table, size_t table_length, const uint32_t *keys"),
+    ("a const too many in a load", CHARTS, "table_length, uint32_t *keys", "table_length, const uint32_t *keys"),
     ("another answer", CHARTS, "jird_changed jird_flip(", "jird_part jird_flip("),
     ("no answer", CHARTS, "jird_sounded jird_soundness(", "void jird_soundness("),
-    ("the fields of a struct in another order", HELM, "    uint32_t number;\n    uint32_t triangle;", "    uint32_t triangle;\n    uint32_t number;"),
-    ("the fields of a struct in another order, of other widths", CHARTS, "    size_t start;\n    size_t length;", "    size_t length;\n    size_t start;"),
+    ("fields in another order", HELM, "    uint32_t number;\n    uint32_t triangle;", "    uint32_t triangle;\n    uint32_t number;"),
+    ("fields of a part in another order", CHARTS, "    size_t start;\n    size_t length;", "    size_t length;\n    size_t start;"),
     ("a field of another width", CHARTS, "uint64_t area;", "uint32_t area;"),
     ("a field of another width in an answer of counts", HELM, "size_t meetings;", "uint32_t meetings;"),
     ("a field missing", CHARTS, "    size_t entries;\n", ""),
@@ -306,12 +363,20 @@ WRONG = [
     ("less stack said over all than of a call", HELM, "JIRD_MOST_STACK = 262144", "JIRD_MOST_STACK = 65536"),
     ("no stack said", CHARTS, " Stack: at most 16 KB.", ""),
     ("a prototype missing", CHARTS, "jird_part jird_cell(", "/* jird_part jird_cell("),
-    ("a prototype too many", HELM, "\n#ifdef __cplusplus\n}", "\nsize_t build_table(const uint16_t *table, size_t table_length);\n\n#ifdef __cplusplus\n}"),
-    ("a prototype twice", CHARTS, "\n#ifdef __cplusplus\n}", "\njird_part jird_cell(size_t triangles);\n\n#ifdef __cplusplus\n}"),
+    ("a prototype too many", HELM, CLOSED, "\nsize_t build_table(const uint16_t *table, size_t table_length);\n" + CLOSED),
+    ("a prototype twice", CHARTS, CLOSED, "\njird_part jird_cell(size_t triangles);\n" + CLOSED),
     ("a chart with shorter lists", CHARTS, "uint8_t levels[JIRD_ENTRIES_LENGTH]", "uint8_t levels[JIRD_TABLE_LENGTH]"),
     ("a chart with wider lists", CHARTS, "uint16_t items[JIRD", "uint32_t items[JIRD"),
+    ("an inline function with counts exchanged", CHARTS, "c->triangles, c->entries, i, j", "c->entries, c->triangles, i, j"),
+    ("an inline function with x and y exchanged", CHARTS, "c->triangles, c->entries, x, y", "c->triangles, c->entries, y, x"),
+    ("an inline function with a longer length", CHARTS, "c->table, JIRD_TABLE_LENGTH", "c->table, JIRD_ENTRIES_LENGTH"),
+    ("an inline function that keeps an old count", CHARTS, "    c->entries = r.entries;\n", ""),
+    ("an inline function of another call", CHARTS, "r = jird_take_out(", "r = jird_flip("),
+    ("an inline overlay of one chart", CHARTS, "design->table, JIRD", "bed->table, JIRD"),
+    ("an inline function by another name", CHARTS, "jird_chart_cell(", "jird_cell_of("),
+    ("something left out by the preprocessor", CHARTS, "static inline jird_part", "#if 0\nstatic inline jird_part"),
     ("other words", CHARTS, "over 4,096 pairs", "over 4,000 pairs"),
-    ("a declaration that is no prototype", HELM, "\n#ifdef __cplusplus\n}", "\nextern int jird_errors;\n\n#ifdef __cplusplus\n}"),
+    ("a declaration that is no prototype", HELM, CLOSED, "\nextern int jird_errors;\n" + CLOSED),
 ]
 # the same of a source: what is exported and the header does not have
 WRONG_SOURCES = [

@@ -182,7 +182,9 @@ def made_calls(seed, count):
 
 
 def threads():
-    print("threads: " + run([compiled("threads"), "60"]).strip() + "; with sanitizers " + run([compiled("threads", options=SANITIZED), "10", "large"]).strip())
+    plain = run([compiled("threads"), "60"]).strip()
+    sanitized = run([compiled("threads", options=SANITIZED), "10", "large"]).strip()
+    print(f"threads: {plain}, with sanitizers {sanitized}")
 
 
 # ---- what is built and installed
@@ -240,22 +242,24 @@ def installed_programs(to):
         sys.exit("the installed program gives another log")
 
 
+OWN = ("lib/jirdtungsten", "lib/pkgconfig", "share/doc/jirdtungsten")
+
+
 def install():
     """With a prefix, and with a folder before it; afterwards nothing is left."""
     symbols()
-    for prefix, staged in (("prefix of mine", False), ("/usr", True)):
+    for staged in (False, True):
         with tempfile.TemporaryDirectory() as empty, tempfile.TemporaryDirectory() as folder:
-            stage = os.path.join(empty, "stage") if staged else ""
-            prefix = prefix if staged else os.path.join(empty, "prefix")
-            make("install", prefix, stage)
+            stage, prefix = (os.path.join(empty, "stage"), "/usr") if staged else ("", os.path.join(empty, "prefix"))
             to = stage + prefix
+            make("install", prefix, stage)
             count = len(files_below(to))
             built_examples(folder, to, stage)
             installed_programs(to)
             if f"prefix={prefix}\n" not in run(["cat", os.path.join(to, "lib", "pkgconfig", "jirdtungsten.pc")]):
                 sys.exit("jirdtungsten.pc has another prefix")
             make("uninstall", prefix, stage)
-            left = files_below(empty) + [name for name in ("lib/jirdtungsten", "share/doc/jirdtungsten") if os.path.exists(os.path.join(to, name))]
+            left = files_below(empty) + [name for name in OWN if os.path.exists(os.path.join(to, name))]
             if left:
                 sys.exit(f"left after `make uninstall`: {', '.join(left[:9])}")
     print(f"install: {count} files and links, 4 examples built and run from an empty folder, twice; nothing left")

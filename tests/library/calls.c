@@ -253,7 +253,7 @@ static int run_line(char *line) {
 }
 
 int main(int count, char **words) {
-    static const size_t widths[] = {2, 4, 1, 2}, lengths[] = {JIRD_TABLE_LENGTH, JIRD_ENTRIES_LENGTH, JIRD_ENTRIES_LENGTH, JIRD_ENTRIES_LENGTH};
+    static const size_t widths[] = {2, 4, 1, 2};
     char *line = NULL;
     size_t room = 0;
     if (count != 2 || (strcmp(words[1], "end") && strcmp(words[1], "start") && strcmp(words[1], "heap"))) {
@@ -263,7 +263,7 @@ int main(int count, char **words) {
     mode = words[1][0] == 'e' ? END : words[1][0] == 's' ? START : HEAP;
     for (size_t k = 0; k < BUFFERS; k++) {
         buffers[k] = (Buffer){.bytes = calloc(REGION, 1), .region = new_region(), .width = k < PAIRS ? widths[k % 4] : 2};
-        buffers[k].lent = buffers[k].places = k < PAIRS ? lengths[k % 4] : JIRD_PAIRS_LENGTH;
+        buffers[k].lent = buffers[k].places = k >= PAIRS ? JIRD_PAIRS_LENGTH : k % 4 == 0 ? JIRD_TABLE_LENGTH : JIRD_ENTRIES_LENGTH;
     }
     if (mode != HEAP && (signal(SIGSEGV, on_fault) == SIG_ERR || signal(SIGBUS, on_fault) == SIG_ERR)) fail("no handler");
     while (getline(&line, &room, stdin) > 0) {

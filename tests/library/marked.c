@@ -146,7 +146,8 @@ static void edits(const Calls *f, jird_chart *c, const uint16_t *uv) {
     f->load(c, uv, 12); /* 8 */
     CHECK(f->doubled_area(c).number == JIRD_DONE && f->doubled_area(c).area == 8589672450u);
     CHECK(f->soundness(c).number == JIRD_DONE && f->soundness(c).sound == 1);
-    CHECK(is_refused(f->flip(c, 0, 0), JIRD_NO_FLIP, 0, c) && is_refused(f->flip(c, 2, 0), JIRD_NO_SUCH_TRIANGLE, 0, c) && holds(c, uv, 12));
+    CHECK(is_refused(f->flip(c, 0, 0), JIRD_NO_FLIP, 0, c) && is_refused(f->flip(c, 2, 0), JIRD_NO_SUCH_TRIANGLE, 0, c));
+    CHECK(holds(c, uv, 12));
     CHECK(f->flip(c, 0, 1).number == JIRD_DONE && holds(c, flipped, 12) && f->doubled_area(c).area == 8589672450u);
     f->load(c, U, 6); /* 9, and with a point that is not symmetric */
     CHECK(f->split(c, 0, 10000, 10000).triangles == 3 && is_done(f->take_out(c, 10000, 10000), 1, 7) && holds(c, U, 6));

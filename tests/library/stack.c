@@ -50,8 +50,9 @@ static const struct {
     const char *word;
     void (*call)(void);
     size_t operands;
-} calls[] = {{"load", load, 0},           {"split", split, 3},     {"take_out", take_out, 2},   {"flip", flip, 2},      {"locate", locate, 2},
-             {"cell", cell, 2},           {"soundness", soundness, 0}, {"doubled_area", doubled_area, 0}, {"overlay", overlay, 0}};
+} calls[] = {{"load", load, 0},     {"split", split, 3}, {"take_out", take_out, 2},   {"flip", flip, 2},
+             {"locate", locate, 2}, {"cell", cell, 2},   {"soundness", soundness, 0}, {"doubled_area", doubled_area, 0},
+             {"overlay", overlay, 0}};
 
 /* The bytes of a stack filled with a value that hold another after a call on it. */
 static size_t depth(void (*call)(void), unsigned char value) {
