@@ -39,7 +39,7 @@ void paint_axes(const page *p) {
     for (double x = fmax(0, ceil(w->left / step) * step); x <= fmin(w->right, LAST_PLACE); x += step) tick(p, x, true);
     for (double y = fmax(0, ceil(w->top / step) * step); y <= fmin(w->bottom, LAST_PLACE); y += step) tick(p, y, false);
     text_at(p, f->right, f->top - p->style.tick - 1.9 * p->style.text, 1, "x \xE2\x86\x92", l);
-    text_at(p, f->left - p->style.tick - 0.4 * p->style.text, f->top - p->style.tick - 0.5 * p->style.text, 1, "y \xE2\x86\x93", l);
+    text_at(p, f->left - p->style.tick - 0.4 * p->style.text, f->top - p->style.tick - 1.9 * p->style.text, 1, "y \xE2\x86\x93", l);
 }
 
 /* Four parts, dark and light; gives where its text ends. */

@@ -79,6 +79,13 @@ static bool ground_of(const page *p, size_t pair, shape *out) {
     return true;
 }
 
+/* One mark stands for all whose middles are close to it. */
+static void add_mark(page *p, point at) {
+    for (size_t k = 0; k < p->smalls; k++)
+        if (hypot(p->small_at[k].x - at.x, p->small_at[k].y - at.y) < 0.9) return;
+    p->small_at[p->smalls++] = at;
+}
+
 void find_small_grounds(page *p) {
     shape g;
     p->smalls = 0;
@@ -86,7 +93,7 @@ void find_small_grounds(page *p) {
         p->small[k] = ground_of(p, k, &g) && fabs(shape_area(&g)) < p->style.least_ground;
         if (!p->small[k]) continue;
         shape bed = triangle_shape(p, BED, p->s->pairs[2 * k]);
-        p->small_at[p->smalls++] = g.n ? shape_middle(&g) : incentre(&bed);
+        add_mark(p, g.n ? shape_middle(&g) : incentre(&bed));
     }
 }
 

@@ -5,8 +5,6 @@
 #include <stdio.h>
 #include <stdlib.h>
 
-static const char *const NAMES[CHARTS] = { "bed", "design" };
-
 static bool upright(const page *p) { return p->height > p->width; }
 
 static void set_sizes(page *p) {
@@ -63,17 +61,19 @@ static bool plan_of_helm(page *p, box area) {
 }
 
 static double paint_position(const page *p, box at, double y) {
-    char text[96], across[32], down[32];
+    char number[32];
     double u = p->style.unit;
-    letter head = { 14 * u, false, false, p->ink->grey }, number = { 36 * u, true, false, p->ink->text };
+    letter head = { 14 * u, false, false, p->ink->grey }, large = { 36 * u, true, false, p->ink->text };
     text_at(p, at.left, y + 14 * u, 0, "Cutter head", head);
     if (!p->s->has_head) {
         letter none = { 22 * u, true, false, p->ink->warning };
         text_fitted(p, at.left, y + 42 * u, 0, at.right - at.left, "no position is known", none);
         return y + 56 * u;
     }
-    snprintf(text, sizeof text, "%s   %s", text_grouped(across, p->s->head_x), text_grouped(down, p->s->head_y));
-    text_fitted(p, at.left, y + 49 * u, 0, at.right - at.left, text, number);
+    double x = text_at(p, at.left, y + 49 * u, 0, "x ", head);
+    x = text_at(p, x, y + 49 * u, 0, text_grouped(number, p->s->head_x), large);
+    x = text_at(p, x + 22 * u, y + 49 * u, 0, "y ", head);
+    text_at(p, x, y + 49 * u, 0, text_grouped(number, p->s->head_y), large);
     return y + 62 * u;
 }
 
@@ -128,7 +128,8 @@ static double paint_partners(const page *p, box at, double y) {
     }
     if (bed == MOST) return y;
     size_t count = partners_text(p, bed, text, sizeof text);
-    snprintf(head, sizeof head, count ? "Bed %zu shares ground with %zu of the design" : "Bed %zu shares ground with none of the design", bed, count);
+    if (count) snprintf(head, sizeof head, "Bed %zu shares ground with %zu of the design", bed, count);
+    else snprintf(head, sizeof head, "Bed %zu shares ground with none of the design", bed);
     text_fitted(p, at.left, y + 14 * u, 0, at.right - at.left, head, l);
     if (count > 24) list.size = 15 * u;
     return text_block(p, (box){ at.left, y + 38 * u, at.right, y + 130 * u }, 1.3 * list.size, text, list) - 10 * u;
@@ -137,23 +138,64 @@ static double paint_partners(const page *p, box at, double y) {
 static void paint_panel(page *p, box at) {
     double u = p->style.unit, y = at.top;
     letter title = { 17 * u, true, false, p->ink->text }, small = { 14 * u, false, false, p->ink->grey };
+    box words = at, whole = at;
     text_fitted(p, at.left, y + 14 * u, 0, at.right - at.left, p->title, title);
-    y = paint_position(p, at, y + 26 * u);
-    for (int chart = 0; chart < CHARTS; chart++) y = paint_found(p, at, y, chart);
-    y = paint_partners(p, at, y) + 8 * u;
-    if (at.bottom - y < 120 * u) return;
-    text_at(p, at.left, y + 14 * u, 0, "Whole chart", small);
-    paint_overview(p, (box){ at.left, y + 24 * u, at.right, at.bottom });
+    if (upright(p)) {
+        whole.left = (at.left + at.right) / 2 + 20 * u;
+        words.right = whole.left - 20 * u;
+    }
+    y = paint_position(p, words, y + 26 * u);
+    for (int chart = 0; chart < CHARTS; chart++) y = paint_found(p, words, y, chart);
+    y = paint_partners(p, words, y) + 8 * u;
+    whole.top = upright(p) ? at.top + 26 * u : y;
+    if (whole.bottom - whole.top < 120 * u) return;
+    text_at(p, whole.left, whole.top + 14 * u, 0, "Whole chart", small);
+    whole.top += 24 * u;
+    paint_overview(p, whole);
 }
 
 static void paint_counts(const page *p, double x, double y, double align) {
     char text[160];
     letter l = { 13 * p->style.unit, false, false, p->ink->grey };
-    int n = snprintf(text, sizeof text, "%s %zu \xC2\xB7 %s %zu \xC2\xB7 ", NAMES[BED], p->s->charts[BED].triangles, NAMES[DESIGN], p->s->charts[DESIGN].triangles);
+    int n = snprintf(text, sizeof text, "bed %zu \xC2\xB7 design %zu \xC2\xB7 ", p->s->charts[BED].triangles, p->s->charts[DESIGN].triangles);
     if (n < 0) return;
     if (p->s->overlay.number) snprintf(text + n, sizeof text - (size_t)n, "overlay refused");
     else snprintf(text + n, sizeof text - (size_t)n, "%zu pairs", p->s->overlay.pairs);
     text_at(p, x, y, align, text, l);
+}
+
+static void paint_sample(page *p, int k, double x, double y) {
+    double u = p->style.unit;
+    shape s = { 4, { { x, y - 10 * u }, { x + 30 * u, y - 10 * u }, { x + 30 * u, y + u }, { x, y + u } } };
+    if (k == 2) {
+        trace(p, &s);
+        ink(p, p->ink->paired);
+        cairo_fill(p->to);
+        paint_lines_in(p, &s, 0);
+        return;
+    }
+    if (k == 3) trace(p, &s);
+    else {
+        cairo_move_to(p->to, x, y - 4 * u);
+        cairo_line_to(p->to, x + 30 * u, y - 4 * u);
+    }
+    if (k == DESIGN) cairo_set_dash(p->to, p->style.dash, 2, 0);
+    ink_at(p, p->ink->chart[k == DESIGN ? DESIGN : BED], k == 3 ? 0.6 : 1);
+    cairo_set_line_width(p->to, k == 3 ? p->style.cell : p->style.line[k]);
+    cairo_stroke(p->to);
+    cairo_set_dash(p->to, NULL, 0, 0);
+}
+
+/* Samples of what is in the plan, in one line. */
+static void paint_samples(page *p, double x, double y) {
+    static const char *const words[] = { "bed as sounded", "bed as designed", "shared ground", "cells" };
+    double u = p->style.unit;
+    letter l = { 12 * u, false, false, p->ink->grey };
+    for (int k = 0; k < 4; k++) {
+        if ((k == 2 && !p->pairs) || (k == 3 && !p->v->cells)) continue;
+        paint_sample(p, k, x, y);
+        x = text_at(p, x + 36 * u, y, 0, words[k], l) + 18 * u;
+    }
 }
 
 static box plan_area(const page *p) {
@@ -179,6 +221,7 @@ const char *draw_helm(page *p, sink *out) {
         cairo_paint(p->to);
         paint_plan(p);
         paint_below(p, p->frame.bottom + 15 * p->style.unit);
+        paint_samples(p, p->frame.left, p->frame.bottom + 42 * p->style.unit);
         paint_panel(p, panel_area(p));
         paint_counts(p, p->width - 20 * p->style.unit, p->height - 16 * p->style.unit, 1);
     }

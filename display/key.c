@@ -82,7 +82,7 @@ static void text_lines(page *p, listing *k, line_kind kind, const char *text) {
     }
 }
 
-typedef struct { char text[16 * MOST + 128]; size_t n; } note;
+typedef struct { char text[16 * MOST + 128]; size_t n; bool any; } note;
 
 static void add(note *t, const char *before, size_t first, size_t last) {
     size_t room = sizeof t->text - t->n;
@@ -91,14 +91,15 @@ static void add(note *t, const char *before, size_t first, size_t last) {
     if (n > 0 && (size_t)n < room) t->n += (size_t)n;
 }
 
-/* "bed 0, 3-7": the triangles for which `is` holds as wanted; runs are drawn together. */
-static size_t add_chart(note *t, const char *name, const bool *is, bool wanted, size_t n) {
+/* "bed 0, 3-7": the triangles for which `is` holds; runs are drawn together. */
+static size_t add_chart(note *t, const char *name, const bool *is, size_t n) {
     size_t listed = 0;
     for (size_t i = 0; i < n;) {
         size_t end = i;
-        while (end < n && is[end] == wanted) end++;
+        while (end < n && is[end]) end++;
         if (end > i) {
-            if (!listed) t->n += (size_t)snprintf(t->text + t->n, sizeof t->text - t->n, "%s%s", t->n ? "  " : "", name);
+            if (!listed) t->n += (size_t)snprintf(t->text + t->n, sizeof t->text - t->n, "%s%s", t->any ? "; " : " ", name);
+            t->any = true;
             add(t, listed ? ", " : " ", i, end - 1);
             listed += end - i;
         }
@@ -109,10 +110,10 @@ static size_t add_chart(note *t, const char *name, const bool *is, bool wanted, 
 
 static void list_lines(page *p, listing *k, const char *title, bool rest[CHARTS][MOST]) {
     static const char *const names[CHARTS] = { "bed", "design" };
-    note t = { "", 0 };
+    note t = { "", 0, false };
     size_t listed = 0;
     t.n = (size_t)snprintf(t.text, sizeof t.text, "%s", title);
-    for (int chart = 0; chart < CHARTS; chart++) listed += add_chart(&t, names[chart], rest[chart], true, p->triangles[chart]);
+    for (int chart = 0; chart < CHARTS; chart++) listed += add_chart(&t, names[chart], rest[chart], p->triangles[chart]);
     if (!listed) return;
     new_line(p, k, GAP);
     text_lines(p, k, NOTE, t.text);
@@ -122,6 +123,10 @@ static void rest_lines(page *p, listing *k) {
     bool rest[CHARTS][MOST];
     for (int chart = 0; chart < CHARTS; chart++)
         for (size_t i = 0; i < MOST; i++) rest[chart][i] = !p->paired[chart][i];
+    if (p->smalls) {
+        new_line(p, k, GAP);
+        text_lines(p, k, NOTE, "\xC2\xB0 shared ground under 1 mm\xC2\xB2 on this sheet");
+    }
     if (p->s->overlay.number == 0) list_lines(p, k, "In no pair:", rest);
     for (int chart = 0; chart < CHARTS; chart++)
         for (size_t i = 0; i < MOST; i++) rest[chart][i] = p->d->label_wanted[chart][i] && !p->d->label_set[chart][i];
@@ -143,7 +148,7 @@ bool key_lines(page *p, listing *k) {
 }
 
 double line_height(const listing *k, const line *l) {
-    static const double heights[] = { 0, 0, 7.4, 3.3, 3.9, 2.4 };
+    static const double heights[] = { 0, 0, 6.2, 3.3, 3.9, 2.4 };
     return l->kind == ROW || l->kind == MORE ? k->row : heights[l->kind];
 }
 

@@ -5,7 +5,8 @@
 #include <stdio.h>
 #include <stdlib.h>
 
-static const double DIGIT = 0.696, HALF_DIGIT = 0.365;     /* width and half the height of a bold digit of size 1 */
+/* Of a bold digit of size 1: from one to the next, the blank of both its sides, half its height. */
+static const double DIGIT = 0.696, BLANK = 0.08, HALF_DIGIT = 0.365;
 enum { FEW = 120 };
 
 static int by_value(const void *a, const void *b) {
@@ -14,7 +15,7 @@ static int by_value(const void *a, const void *b) {
 }
 
 /* Of the triangles of the chart that are in view. */
-static double median_inradius(const page *p, int chart) {
+double median_inradius(const page *p, int chart) {
     double all[MOST];
     size_t n = 0;
     for (size_t i = 0; i < p->triangles[chart]; i++) {
@@ -55,21 +56,21 @@ int label_steps(const page *p, int chart, bool first, step out[STEPS]) {
     return n;
 }
 
-double half_width(const page *p, int chart, step as, size_t digits) {
-    double text = 0.5 * DIGIT * (double)digits * as.height;
-    (void)p;
-    if (!as.framed) return text + (chart == DESIGN ? 0.18 : 0.12) * as.height;
+/* Half of the label; of a slanted one, at any height. */
+double half_width(int chart, step as, size_t digits) {
+    double text = 0.5 * (DIGIT * (double)digits - BLANK) * as.height;
+    if (!as.framed) return text;
     if (chart == BED) return fmax(0.8 * as.height, hypot(text, HALF_DIGIT * as.height) + 0.14 * as.height);
     return fmax(0.68 * as.height, text + 0.26 * as.height);
 }
 
 double half_height(int chart, step as, double half_width) {
-    if (!as.framed) return (HALF_DIGIT + 0.12) * as.height;
+    if (!as.framed) return HALF_DIGIT * as.height;
     return chart == BED ? half_width : 0.68 * as.height;
 }
 
 static void paint_frame(const page *p, const label *l, size_t digits) {
-    double x = half_width(p, l->chart, l->as, digits), y = half_height(l->chart, l->as, x);
+    double x = half_width(l->chart, l->as, digits), y = half_height(l->chart, l->as, x);
     cairo_new_path(p->to);
     if (l->chart == BED) cairo_arc(p->to, l->at.x, l->at.y, x, 0, 2 * acos(-1));
     else cairo_rectangle(p->to, l->at.x - x, l->at.y - y, 2 * x, 2 * y);
@@ -80,27 +81,39 @@ static void paint_frame(const page *p, const label *l, size_t digits) {
     cairo_stroke(p->to);
 }
 
-/* The number in its frame, or with its halo. */
-void paint_label(const page *p, const label *l, const char *number, size_t digits) {
+/* The letters of a label, and where they start. */
+static letter label_letter(const page *p, const label *l, const char *number, point *start) {
     letter as = { l->as.height, true, !l->as.framed && l->chart == DESIGN, p->ink->chart[l->chart] };
-    double lean = as.slanted ? 0.07 * l->as.height : 0;
-    double x = l->at.x - text_width(p, number, as) / 2 - lean, y = l->at.y + HALF_DIGIT * l->as.height;
-    if (l->as.framed) paint_frame(p, l, digits);
-    else {
-        text_path_at(p, x, y, number, as);
-        ink_at(p, p->ink->ground, 0.9);
-        cairo_set_line_width(p->to, 0.35 * l->as.height);
-        cairo_set_line_join(p->to, CAIRO_LINE_JOIN_ROUND);
-        cairo_stroke(p->to);
-        cairo_set_line_join(p->to, CAIRO_LINE_JOIN_MITER);
-    }
-    text_at(p, x, y, 0, number, as);
+    double lean = as.slanted ? SLANT * HALF_DIGIT * l->as.height : 0;
+    *start = (point){ l->at.x - text_width(p, number, as) / 2 - lean, l->at.y + HALF_DIGIT * l->as.height };
+    return as;
 }
 
-void paint_labels(const page *p) {
+/* The halo keeps shading lines and cells off the number. It is painted under the sides, so that it hides none. */
+void paint_halo(const page *p, const label *l, const char *number) {
+    point start;
+    letter as = label_letter(p, l, number, &start);
+    if (l->as.framed) return;
+    text_path_at(p, start.x, start.y, number, as);
+    ink_at(p, p->ink->ground, 0.9);
+    cairo_set_line_width(p->to, 0.35 * l->as.height);
+    cairo_set_line_join(p->to, CAIRO_LINE_JOIN_ROUND);
+    cairo_stroke(p->to);
+    cairo_set_line_join(p->to, CAIRO_LINE_JOIN_MITER);
+}
+
+void paint_label(const page *p, const label *l, const char *number, size_t digits) {
+    point start;
+    letter as = label_letter(p, l, number, &start);
+    if (l->as.framed) paint_frame(p, l, digits);
+    text_at(p, start.x, start.y, 0, number, as);
+}
+
+void paint_labels(const page *p, bool halos) {
     char number[24];
     for (size_t k = 0; k < p->label_count; k++) {
         int digits = snprintf(number, sizeof number, "%zu", p->labels[k].triangle);
-        paint_label(p, &p->labels[k], number, (size_t)digits);
+        if (halos) paint_halo(p, &p->labels[k], number);
+        else paint_label(p, &p->labels[k], number, (size_t)digits);
     }
 }

@@ -20,6 +20,7 @@ static void chart_sample(const page *p, int chart, double x, double y) {
     if (chart == DESIGN) cairo_set_dash(p->to, p->style.dash, 2, 0);
     cairo_stroke(p->to);
     cairo_set_dash(p->to, NULL, 0, 0);
+    paint_halo(p, &l, numbers[chart]);
     paint_label(p, &l, numbers[chart], 1);
 }
 

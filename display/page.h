@@ -7,6 +7,8 @@
 
 enum { MOST = JIRD_MOST_TRIANGLES, MOST_SIDES = 3 * MOST, MOST_CORNERS = 12, STEPS = 8, LAST_PLACE = 65535 };
 
+#define SLANT 0.21                      /* of slanted letters: across for each unit up */
+
 typedef struct { double x, y; } point;
 typedef struct { double left, top, right, bottom; } box;
 typedef struct { int n; point at[MOST_CORNERS]; } shape;                 /* a convex polygon */
@@ -68,6 +70,9 @@ cairo_surface_t *surface_open(page *p, double dots, sink *out);
 cairo_surface_t *surface_scratch(page *p);
 const char *surface_close(page *p, cairo_surface_t *surface, sink *out);
 
+/* png.c: the image as bytes; false if there is no memory. */
+bool png_write(cairo_surface_t *s, double dots_in_metre, sink *out);
+
 /* shapes.c */
 point corner(const page *p, int chart, size_t i, int k);                 /* of a triangle, in grid units */
 point on_page(const page *p, point grid);
@@ -109,11 +114,13 @@ void paint_cells(page *p, int chart);
 
 /* labels.c, placing.c */
 void place_labels(page *p);
+double median_inradius(const page *p, int chart);
 void find_label_sizes(page *p);
 int label_steps(const page *p, int chart, bool first, step out[STEPS]);
-void paint_labels(const page *p);
+void paint_labels(const page *p, bool halos);
+void paint_halo(const page *p, const label *l, const char *number);
 void paint_label(const page *p, const label *l, const char *number, size_t digits);
-double half_width(const page *p, int chart, step as, size_t digits);
+double half_width(int chart, step as, size_t digits);
 double half_height(int chart, step as, double half_width);
 
 /* plan.c */

@@ -69,16 +69,22 @@ static bool put_sides(lookup *g, const page *p) {
     return true;
 }
 
-static double greater(point q) { return fmax(fabs(q.x), fabs(q.y)); }
+static double lesser(double a, double b) { return a < b ? a : b; }
 
-/* How near the segment comes to the middle of a label with these halves: below 1 it is in the label. */
-static double nearness(segment s, point at, double half_x, double half_y) {
-    point a = { (s.a.x - at.x) / half_x, (s.a.y - at.y) / half_y }, b = { (s.b.x - at.x) / half_x, (s.b.y - at.y) / half_y };
-    double dx = b.x - a.x, dy = b.y - a.y, best = fmin(greater(a), greater(b));
+static double greater(point q) {
+    double x = fabs(q.x), y = fabs(q.y);
+    return x > y ? x : y;
+}
+
+/* How near the segment comes to the middle of a label with these halves, upright or slanted: below 1 it is in the label. */
+static double nearness(segment s, point at, double half_x, double half_y, double slant) {
+    point a = { (s.a.x - at.x + slant * (s.a.y - at.y)) / half_x, (s.a.y - at.y) / half_y };
+    point b = { (s.b.x - at.x + slant * (s.b.y - at.y)) / half_x, (s.b.y - at.y) / half_y };
+    double dx = b.x - a.x, dy = b.y - a.y, best = lesser(greater(a), greater(b));
     double turns[4][2] = { { -a.x, dx }, { -a.y, dy }, { a.y - a.x, dx - dy }, { -a.y - a.x, dx + dy } };
     for (int k = 0; k < 4; k++) {
         double t = turns[k][1] != 0 ? turns[k][0] / turns[k][1] : -1;
-        if (t > 0 && t < 1) best = fmin(best, greater((point){ a.x + t * dx, a.y + t * dy }));
+        if (t > 0 && t < 1) best = lesser(best, greater((point){ a.x + t * dx, a.y + t * dy }));
     }
     return best;
 }
@@ -90,19 +96,59 @@ static double round_nearness(segment s, point at, double radius) {
     return hypot(s.a.x + t * dx - at.x, s.a.y + t * dy - at.y) / radius;
 }
 
+/* The same for what is taken. */
+static double box_nearness(const box *b, point at, double half_x, double half_y) {
+    double x = fabs((b->left + b->right) / 2 - at.x) - (b->right - b->left) / 2;
+    double y = fabs((b->top + b->bottom) / 2 - at.y) - (b->bottom - b->top) / 2;
+    return x / half_x > y / half_y ? x / half_x : y / half_y;
+}
+
+/* A label as it is tried: its halves with what is kept free around it, and how far its middle must be from each side of its shape. */
+typedef struct {
+    double x, y, slant;
+    bool round;
+    int sides;
+    double normal[MOST_CORNERS][3];         /* across the side: x, y, and the least value of the middle */
+} trial;
+
+static trial trial_of(const lookup *g, const shape *s, const label *l) {
+    size_t digits = l->triangle < 10 ? 1 : l->triangle < 100 ? 2 : 3;
+    double half = half_width(l->chart, l->as, digits), sign = shape_area(s) > 0 ? 1 : -1;
+    bool slanted = !l->as.framed && l->chart == DESIGN;
+    trial t = { .x = half + g->pad, .y = half_height(l->chart, l->as, half) + g->pad, .slant = slanted ? SLANT : 0, .sides = s->n };
+    t.round = l->as.framed && l->chart == BED;
+    for (int k = 0; k < s->n; k++) {
+        point a = s->at[k], b = s->at[(k + 1) % s->n];
+        double length = hypot(b.x - a.x, b.y - a.y), nx = 0, ny = 0;
+        if (length > 0) {
+            nx = sign * (a.y - b.y) / length;
+            ny = sign * (b.x - a.x) / length;
+        }
+        t.normal[k][0] = nx;
+        t.normal[k][1] = ny;
+        t.normal[k][2] = nx * a.x + ny * a.y + (t.round ? t.x : t.x * fabs(nx) + t.y * fabs(ny - t.slant * nx));
+    }
+    return t;
+}
+
+static bool inside(const trial *t, point at) {
+    for (int k = 0; k < t->sides; k++)
+        if (t->normal[k][0] * at.x + t->normal[k][1] * at.y < t->normal[k][2]) return false;
+    return true;
+}
+
 /* The room around a label there, at most ENOUGH; 0 if it stands on something. */
-static double room_at(const lookup *g, point at, double half_x, double half_y, bool round) {
-    double x = half_x + g->pad, y = half_y + g->pad, best = ENOUGH;
-    if (at.x - x < g->frame.left || at.x + x > g->frame.right || at.y - y < g->frame.top || at.y + y > g->frame.bottom) return 0;
+static double room_at(const lookup *g, const trial *t, point at) {
+    double x = t->x, y = t->y, best = ENOUGH;
     for (size_t k = 0; k < g->near_count; k++) {
-        const box *b = &g->near[k];
-        if (at.x + half_x > b->left && at.x - half_x < b->right && at.y + half_y > b->top && at.y - half_y < b->bottom) return 0;
+        best = lesser(best, box_nearness(&g->near[k], at, x, y));
+        if (best < 1) return 0;
     }
     for (int r = row(g, at.y - ENOUGH * y); r <= row(g, at.y + ENOUGH * y); r++)
         for (int c = column(g, at.x - ENOUGH * x); c <= column(g, at.x + ENOUGH * x); c++)
             for (int k = g->first[r][c]; k >= 0; k = g->nodes[k].next) {
                 segment s = g->segments[g->nodes[k].segment];
-                best = fmin(best, round ? round_nearness(s, at, x) : nearness(s, at, x, y));
+                best = lesser(best, t->round ? round_nearness(s, at, x) : nearness(s, at, x, y, t->slant));
                 if (best < 1) return 0;
             }
     return best;
@@ -146,15 +192,15 @@ static void find_near(lookup *g, const shape *s) {
 }
 
 /* The best of the places for a label of this size; false if it has no room at any. */
-static bool best_place(const page *p, const lookup *g, label *l, const point *at, int n, double size) {
-    size_t digits = l->triangle < 10 ? 1 : l->triangle < 100 ? 2 : 3;
-    double x = half_width(p, l->chart, l->as, digits), y = half_height(l->chart, l->as, x), best = -INFINITY;
+static bool best_place(const lookup *g, const trial *t, const point *at, int n, double size, point *found) {
+    double best = -INFINITY;
     for (int k = 0; k < n; k++) {
-        double room = room_at(g, at[k], x, y, l->as.framed && l->chart == BED);
+        double room = inside(t, at[k]) ? room_at(g, t, at[k]) : 0;
+        if (room < 1) continue;
         double score = room - 0.3 * hypot(at[k].x - at[0].x, at[k].y - at[0].y) / size;
-        if (room < 1 || score <= best) continue;
+        if (score <= best) continue;
         best = score;
-        l->at = at[k];
+        *found = at[k];
     }
     return best > -INFINITY;
 }
@@ -165,9 +211,10 @@ static void take(lookup *g, box b) {
 
 static void keep_label(page *p, lookup *g, label l) {
     size_t digits = l.triangle < 10 ? 1 : l.triangle < 100 ? 2 : 3;
-    double x = half_width(p, l.chart, l.as, digits), y = half_height(l.chart, l.as, x);
+    double half = half_width(l.chart, l.as, digits), y = half_height(l.chart, l.as, half);
+    double x = half + (!l.as.framed && l.chart == DESIGN ? SLANT * y : 0);
     point grid = on_grid(p, l.at);
-    take(g, grown((box){ l.at.x - x, l.at.y - y, l.at.x + x, l.at.y + y }, g->pad / 2));
+    take(g, grown((box){ l.at.x - x, l.at.y - y, l.at.x + x, l.at.y + y }, l.as.framed ? 0 : 0.1 * l.as.height));
     p->labels[p->label_count++] = l;
     p->d->label_set[l.chart][l.triangle] = true;
     p->d->label_at[l.chart][l.triangle][0] = grid.x;
@@ -178,14 +225,15 @@ static void keep_label(page *p, lookup *g, label l) {
 static bool place(page *p, lookup *g, const wish *w) {
     const shape *s = &p->seen[w->chart][w->triangle];
     step steps[STEPS];
-    int count = label_steps(p, w->chart, w->first, steps);
-    int n[2] = { places(s, false, g->places[0]), places(s, true, g->places[1]) };
+    int count = label_steps(p, w->chart, w->first, steps), n[2] = { 0, 0 };
     label l = { w->chart, w->triangle, { 0, 0 }, { 0, false } };
     find_near(g, s);
     for (int k = 0; k < count; k++)
         for (int fine = 0; fine < 2; fine++) {
             l.as = steps[k];
-            if (!best_place(p, g, &l, g->places[fine], n[fine], sqrt(w->size))) continue;
+            trial t = trial_of(g, s, &l);
+            if (!n[fine]) n[fine] = places(s, fine == 1, g->places[fine]);
+            if (!best_place(g, &t, g->places[fine], n[fine], sqrt(w->size), &l.at)) continue;
             keep_label(p, g, l);
             return true;
         }

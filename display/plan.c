@@ -60,10 +60,17 @@ static void find_paired(page *p) {
     }
 }
 
-/* Lines are thinner where there are many. */
-static void thin_lines(page *p) {
+/* Lines are thinner where there are many, and where the triangles are. */
+static double thinner(const page *p) {
     size_t n = p->in_view[BED] > p->in_view[DESIGN] ? p->in_view[BED] : p->in_view[DESIGN];
-    double by = fmin(1, 9 / sqrt((double)(n ? n : 1))), *line = p->style.line;
+    double by = fmin(1, 9 / sqrt((double)(n ? n : 1)));
+    for (int chart = 0; chart < CHARTS; chart++)
+        if (p->in_view[chart]) by = fmin(by, 0.3 * median_inradius(p, chart) / p->style.line[chart]);
+    return fmax(by, 0.28);
+}
+
+static void thin_lines(page *p) {
+    double by = thinner(p), *line = p->style.line;
     double least = 0.28 * line[BED];
     for (int chart = 0; chart < CHARTS; chart++) line[chart] = fmax(least, line[chart] * by);
     p->style.underline *= fmax(by, 0.5);
@@ -71,7 +78,7 @@ static void thin_lines(page *p) {
     p->style.square *= fmax(by, 0.35);
     p->style.dash[0] *= fmax(by, 0.5);
     p->style.dash[1] *= fmax(by, 0.6);
-    p->style.pad = fmax(p->style.dot * 0.8, (line[DESIGN] + p->style.underline) / 2) + p->style.pad * by;
+    p->style.pad = fmax(p->style.dot * 0.6, line[BED] / 2) + 0.6 * p->style.pad * fmax(by, 0.3);
     if (p->in_view[BED] + p->in_view[DESIGN] > 120) p->style.strength *= 0.6;
 }
 
@@ -137,6 +144,7 @@ static void paint_inside(page *p) {
     fill_triangles(p);
     for (int chart = 0; chart < CHARTS && p->v->cells; chart++) paint_cells(p, chart);
     paint_shading(p);
+    paint_labels(p, true);
     paint_bed_sides(p);
     paint_design_sides(p);
     if (p->v->layout == LAYOUT_HELM)
@@ -144,7 +152,7 @@ static void paint_inside(page *p) {
             paint_triangle_sides(p, chart, under_head(p, chart), (chart == BED ? 5 : 4.4) * p->style.unit);
     paint_small_grounds(p);
     say_empty(p);
-    paint_labels(p);
+    paint_labels(p, false);
     if (p->s->has_head) paint_head(p, on_page(p, (point){ p->s->head_x, p->s->head_y }), p->style.head);
 }
 

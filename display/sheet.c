@@ -66,7 +66,8 @@ static double paint_refused(const sheet *t, double x, double y) {
     for (int chart = 0; chart < CHARTS; chart++) {
         uint32_t number = p->s->refused[chart];
         if (!number) continue;
-        snprintf(text, sizeof text, "The last change of the %s was refused, number %u: %s.", names[chart], (unsigned)number, jird_words(number));
+        snprintf(text, sizeof text, "The last change of the %s was refused, number %u: %s.", names[chart], (unsigned)number,
+                 jird_words(number));
         y = text_block(p, (box){ x, y + 4, x + t->column, p->height }, 3.8, text, l) - 3;
     }
     return y;
@@ -121,8 +122,10 @@ static void set_first_columns(sheet *t, double end) {
     double bottom = p->height - FOOT, top = legend_top(t);
     t->first_count = 0;
     if (!p->v->portrait) t->first[t->first_count++] = (box){ legend_left(t), end + 1, p->width - MARGIN, bottom };
-    else
-        for (int n = 1; n < 3; n++) t->first[t->first_count++] = (box){ column_left(t, n), top - 1.2, column_left(t, n) + t->column, bottom };
+    for (int n = 1; p->v->portrait && n < 3; n++) {
+        double left = column_left(t, n);
+        t->first[t->first_count++] = (box){ left, top - 1.2, left + t->column, bottom };
+    }
 }
 
 /* Goes through the lines, column by column. Those of the page are painted (0: none). Gives the last page. */
@@ -137,7 +140,7 @@ static int flow(const sheet *t, int wanted) {
             c = column_box(t, ++n, &on);
             y = c.top;
             if ((l->kind == ROW || l->kind == MORE) && on == wanted) paint_key_head(t->p, &t->key, c.left, y, "Key, continued");
-            if (l->kind == ROW || l->kind == MORE) y += 7.4;
+            if (l->kind == ROW || l->kind == MORE) y += 6.2;
         }
         if (on == wanted) paint_line(t->p, &t->key, l, c.left, y);
         y += high;
@@ -156,11 +159,22 @@ static bool set_rows(sheet *t) {
     return key_lines(t->p, &t->key);
 }
 
+/* A count with its noun, in the plural where it is not one. */
+static size_t counted(char *out, size_t room, const char *before, size_t n, const char *noun) {
+    int length = snprintf(out, room, "%s%zu %s%s", before, n, noun, n == 1 ? "" : "s");
+    return length > 0 && (size_t)length < room ? (size_t)length : 0;
+}
+
 static void counts(const page *p, char *out, size_t room) {
-    int n = snprintf(out, room, "bed %zu triangles   design %zu triangles   ", p->s->charts[BED].triangles, p->s->charts[DESIGN].triangles);
-    if (n < 0 || (size_t)n >= room) return;
-    if (p->s->overlay.number) snprintf(out + n, room - (size_t)n, "overlay refused: number %u", (unsigned)p->s->overlay.number);
-    else snprintf(out + n, room - (size_t)n, "%zu pairs   %zu meetings", p->s->overlay.pairs, p->s->overlay.meetings);
+    const jird_overlaid *o = &p->s->overlay;
+    size_t n = counted(out, room, "bed ", p->s->charts[BED].triangles, "triangle");
+    n += counted(out + n, room - n, "   design ", p->s->charts[DESIGN].triangles, "triangle");
+    if (o->number) {
+        snprintf(out + n, room - n, "   overlay refused: number %u", (unsigned)o->number);
+        return;
+    }
+    n += counted(out + n, room - n, "   ", o->pairs, "pair");
+    counted(out + n, room - n, "   ", o->meetings, "meeting");
 }
 
 static void paint_heading(const page *p) {
@@ -170,8 +184,8 @@ static void paint_heading(const page *p) {
     text_fitted(p, left, 14.8, 0, right - left - id - 6, p->title, title);
     text_fitted(p, right, 14.8, 1, 0.35 * (right - left), p->id, grey);
     counts(p, text, sizeof text);
-    double counted = text_width(p, text, grey);
-    text_fitted(p, left, 20, 0, right - left - counted - 6, "Key sheet: for the examiner only.", grey);
+    double wide = text_width(p, text, grey);
+    text_fitted(p, left, 20, 0, right - left - wide - 6, "Key sheet: for the examiner only.", grey);
     text_at(p, right, 20, 1, text, grey);
     cairo_move_to(p->to, left, 23);
     cairo_line_to(p->to, right, 23);

@@ -62,8 +62,9 @@ cairo_surface_t *surface_scratch(page *p) {
     return s;
 }
 
-static cairo_status_t ended(cairo_surface_t *s, bool image, sink *out) {
-    if (image && out) return cairo_surface_write_to_png_stream(s, pour, out);
+static cairo_status_t ended(const page *p, cairo_surface_t *s, sink *out) {
+    double dots = p->v->layout == LAYOUT_SHEET ? 200 / 0.0254 : 0;
+    if (p->v->form == FORM_PNG && out && !png_write(s, dots, out)) return CAIRO_STATUS_NO_MEMORY;
     cairo_surface_finish(s);
     return cairo_surface_status(s);
 }
@@ -75,7 +76,7 @@ const char *surface_close(page *p, cairo_surface_t *s, sink *out) {
     cairo_font_face_destroy(p->plain);
     cairo_font_face_destroy(p->bold);
     p->to = NULL;
-    if (is == CAIRO_STATUS_SUCCESS) is = ended(s, p->v->form == FORM_PNG, out);
+    if (is == CAIRO_STATUS_SUCCESS) is = ended(p, s, out);
     cairo_surface_destroy(s);
     return is == CAIRO_STATUS_SUCCESS ? NULL : cairo_status_to_string(is);
 }

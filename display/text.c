@@ -3,8 +3,6 @@
 #include <stdio.h>
 #include <string.h>
 
-static const double SLANT = 0.21;
-
 /* How many bytes the character at s has, if it is valid UTF-8 and can be shown; else 0. */
 static size_t character(const unsigned char *s) {
     static const unsigned least[] = { 0, 0, 0x80, 0x800, 0x10000 };
