@@ -4,8 +4,8 @@
 #include "chartkey.h"
 #include "say.h"
 #include <errno.h>
-#include <stdlib.h>
 #include <string.h>
+#include <sys/stat.h>
 
 static const char *name_of(const options *o) { return o->input ? o->input : "standard input"; }
 
@@ -20,6 +20,12 @@ static bool is_paper(const options *o, FILE *input) {
     int first = getc(input);
     if (first != EOF) ungetc(first, input);
     return first != EOF && first >= 9;
+}
+
+/* Whether it can be opened and read again by its name. */
+static bool is_plain(FILE *input) {
+    struct stat what;
+    return fstat(fileno(input), &what) == 0 && S_ISREG(what.st_mode);
 }
 
 /* The rest of a file in one without a name, so that chartkey can read it twice. Null if it cannot be. */
@@ -38,16 +44,18 @@ static FILE *kept(FILE *input) {
     return NULL;
 }
 
-/* A paper: chartkey makes a stream of it, and tells its title, its id, and whether it foresees what is refused. */
+/* A paper, by its name or as a text: chartkey makes a stream of it, and tells its title, its id, and whether it expects what is
+ * refused. */
 static int run_paper(const options *o, FILE *text, scene *s, stream_run *r, source *from) {
+    const char *paper = text ? NULL : o->input;
     chartkey_run run;
-    int status = start_chartkey(&run, "--bytes", o->input, text);
+    int status = start_chartkey(&run, "--bytes", paper, text);
     if (status) return status;
     run_stream(run.output, s, r);
     status = end_chartkey(&run);
     if (status) return status;
     from->is_paper = true;
-    if (start_chartkey(&run, "--json", o->input, text)) return FAILED;
+    if (start_chartkey(&run, "--json", paper, text)) return FAILED;
     read_names(run.output, &from->title, &from->id);
     status = end_chartkey(&run);
     from->foreseen = status == WELL;
@@ -55,7 +63,8 @@ static int run_paper(const options *o, FILE *text, scene *s, stream_run *r, sour
     return WELL;
 }
 
-static int run_standard_paper(const options *o, FILE *input, scene *s, stream_run *r, source *from) {
+/* A paper that can be read once only, from a pipe. */
+static int run_piped_paper(const options *o, FILE *input, scene *s, stream_run *r, source *from) {
     FILE *text = kept(input);
     if (!text) return cannot_read(o, errno);
     int status = run_paper(o, text, s, r, from);
@@ -75,7 +84,8 @@ int run_input(const options *o, scene *s, stream_run *r, source *from) {
         run_stream(input, s, r);
         if (r->trouble) status = cannot_read(o, r->trouble);
     } else {
-        status = o->input ? run_paper(o, NULL, s, r, from) : run_standard_paper(o, input, s, r, from);
+        bool piped = !o->input || !is_plain(input);
+        status = piped ? run_piped_paper(o, input, s, r, from) : run_paper(o, NULL, s, r, from);
     }
     if (o->input) fclose(input);
     return status;

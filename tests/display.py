@@ -70,8 +70,9 @@ def environment(leaks="0", **more):
     """Of a run. Looking for what is never freed takes longer than most runs, so that is done for the command lines alone."""
     first = os.path.abspath(PROGRAM[0]) if os.path.exists(PROGRAM[0]) else PROGRAM[0]
     own = {"CHARTKEY": os.path.join(ROOT, "chartkey"), "CHARTKEY_ENGINE": shlex.join([first] + PROGRAM[1:])}
+    own["ASAN_OPTIONS"] = "exitcode=99:detect_leaks=" + leaks
     # the font library keeps its tables until the process ends
-    own.update(LSAN_OPTIONS="print_suppressions=0:suppressions=" + os.path.join(ROOT, "tests", "display.supp"), ASAN_OPTIONS="exitcode=99:detect_leaks=" + leaks)
+    own["LSAN_OPTIONS"] = "print_suppressions=0:suppressions=" + os.path.join(ROOT, "tests", "display.supp")
     return {**os.environ, **own, **more}
 
 
@@ -330,10 +331,13 @@ def test_papers(folder):
         check_paper(name, place)
     named = report_of(BASIN, *SMALL)[0]
     same("a paper on standard input", report_of(*SMALL, given=read(BASIN))[0], named)
+    piped = report_of("/dev/stdin", *SMALL, given=read(BASIN))[0]
+    same("a paper by the name of a pipe", piped, named)
+    same("a stream by the name of a pipe", report_of("/dev/stdin", *SMALL, given=read(STREAM))[0]["overlay"], named["overlay"])
     same("a paper that is said to be one", report_of("--paper", *SMALL, given=read(BASIN))[0], named)
-    unbuilt = report_of(BASIN, *SMALL, CHARTKEY_ENGINE="/no/such/program")
-    same("without the command program", (unbuilt[0]["title"], unbuilt[1]), ("turning-basin.txt", 1))
-    same("told without it", b"note: without title and id" in run(BASIN, "--report", *SMALL, CHARTKEY_ENGINE="/no/such/program").stderr, True)
+    unbuilt = run(BASIN, "--report", *SMALL, CHARTKEY_ENGINE="/no/such/program")
+    same("without the command program", (json.loads(unbuilt.stdout)["title"], unbuilt.returncode), ("turning-basin.txt", 1))
+    same("told without it", b"note: without title and id" in unbuilt.stderr, True)
     quoted = 'title "a \\ b é 港 /"\nid "<&>"\n'.encode()
     same("a title with signs", [report_of("--paper", *SMALL, given=quoted)[0][k] for k in ("title", "id")], ["a \\ b é 港 /", "<&>"])
     wrong = run("--report", "--paper", given=b"triangel 0,0 5,0 0,5\n")
@@ -348,18 +352,18 @@ def test_papers(folder):
 def test_damaged():
     """A small stream of every command cut at each byte, and random bytes: what is whole is drawn, and the place is told."""
     rng = random.Random(SEED)
-    small = read(STREAM)[:26] + bytes([2, 0, 1, 0, 0, 10, 0, 0, 0, 0, 10, 10, 10, 0, 10, 2, 1, 3, 0, 0, 0, 1, 0, 1, 0, 4, 1, 0, 0, 0, 0])
-    small += bytes([5, 0, 0, 0, 1, 0, 6, 0, 0x30, 0x75, 0xE8, 0x3A, 7])
+    lines = ["1 U", "1 V", "2 0", "1 0,0 50000,0 0,50000", "2 1", "3 0 0 9,9", "4 1 9,9", "5 0 0 1", "6 0 30000,15000", "7"]
+    small = b"".join(map(streams.command, lines))
     given = [small[:k] for k in range(len(small) + 1)] + [rng.randbytes(rng.randrange(1, 40)) for _ in range(30)]
     given += [bytes([1] + 12 * [0] + [code, chart]) + bytes(8) for code in range(2, 7) for chart in (2, 3, 255)]
     given += [bytes([rng.randrange(9)]) + rng.randbytes(rng.randrange(30)) for _ in range(30)]
     for data, log in zip(given, model_logs(given)):
         bad = re.search(rb"^bad (\d+)$", log, re.M)
         done = run("--bytes", "--report", *SMALL, given=data)
-        report = json.loads(done.stdout)
+        report = json.loads(done.stdout or b'{"bad": "no report"}')
         same(f"damage of {data.hex()}", report["bad"], int(bad.group(1)) if bad else None)
         if bad:
-            told = f"helm-display: error: bad {report['bad']}: ".encode() in done.stderr
+            told = f"helm-display: error: bad {int(bad.group(1))}: ".encode() in done.stderr
             same(f"told of {data.hex()}", (done.returncode, told), (4, True))
         count("damaged streams", bool(bad))
 
@@ -367,40 +371,89 @@ def test_damaged():
 # ---- the command line
 
 
+# command lines that draw the turning basin; OUT is the name of a picture without its ending
+DRAWING = """
+-o OUT.png
+-o OUT.png --night --cells
+-o OUT.png --size 640x480 --head 30000,30000
+-o OUT.png --size=7680x4320
+-o OUT.png --window 0,0,65535,65535
+-o OUT.png --window=29000,27000,31000,29000 --cells
+-o OUT.png --head 65535,65535 --window 65534,65534,65535,65535
+-o OUT.png --title LONG --id LONG
+-o OUT.png --title '' --id ''
+-o OUT.png --sheet --page 1
+-o OUT.png --a3 --portrait
+-o OUT.svg
+-o OUT.svg --night --head 0,0
+-o OUT.svg --sheet --cells
+-o OUT.any --form svg
+-o OUT.pdf
+-o OUT.pdf --helm
+-o OUT.pdf --night
+-o OUT.pdf --a3 --cells
+-o OUT.pdf --a4 --portrait --title LONG
+"""
+# a command line, its status, and a part of what is said; FOLDER is a folder, STREAM the turning basin's stream, in which one is refused
+TOLD = """
+-o OUT.png STREAM | 1 | split bed at byte 129: refused 7: the point is not strictly inside
+--report --bytes STREAM | 1 | split bed at byte 129: refused 7
+STREAM | 2 | nothing to do: give -o PICTURE, or --report
+STREAM --nigth | 2 | --nigth: there is no such option
+STREAM --size | 2 | --size at the end: it wants
+--size 319x200 STREAM | 2 | it wants WxH, from 320x200 to 7680x4320
+--size 7680x4321 STREAM | 2 | it wants WxH
+--size 640 STREAM | 2 | it wants WxH
+--size 640x480x2 STREAM | 2 | it wants WxH
+--head 1 STREAM | 2 | it wants X,Y, each 0 to 65535
+--head 1,65536 STREAM | 2 | each 0 to 65535
+--head 1,-1 STREAM | 2 | each 0 to 65535
+--head '1, 1' STREAM | 2 | each 0 to 65535
+--head '' STREAM | 2 | each 0 to 65535
+--head 99999999999999999999,1 STREAM | 2 | each 0 to 65535
+--window 1,1,1,2 STREAM | 2 | left below right
+--window 1,2,3 STREAM | 2 | it wants X,Y,X,Y
+--page 0 STREAM | 2 | a number from 1 to 999
+--page 1000 STREAM | 2 | a number from 1 to 999
+--page 2 -o OUT.png STREAM | 2 | there is no page 2: the sheet has 1
+--form gif STREAM | 2 | it wants png, svg or pdf
+-o OUT.gif STREAM | 2 | ends with .png, .svg or .pdf
+-o OUT STREAM | 2 | ends with .png, .svg or .pdf
+-o '' STREAM | 2 | the name of a picture
+-o - STREAM | 2 | wants --form
+-o - --form png --report STREAM | 2 | both go to standard output
+--cells=1 --report STREAM | 2 | --cells: takes no value
+--sheet --night --report STREAM | 2 | --night is of the helm's picture and --sheet of a sheet
+--size 640x480 --a3 --report STREAM | 2 | --size is of the helm's picture and --a3 of a sheet
+--watch --report STREAM | 2 | give -o PICTURE
+--watch -o - --form png STREAM | 2 | give -o PICTURE
+--watch -o OUT.png | 2 | the charts come from a FILE
+--title TABBED STREAM | 2 | a text in UTF-8 on one line
+--id BROKEN STREAM | 2 | a text in UTF-8 on one line
+--report STREAM second | 2 | second: one FILE at a time
+--report -- --cells | 4 | cannot read --cells: No such file
+--report FOLDER/none | 4 | No such file
+--report FOLDER | 4 | Is a directory
+--report --paper FOLDER | 4 | irectory
+-o FOLDER/none/x.png STREAM | 4 | No such file or directory
+-o FOLDER --form png STREAM | 4 | Is a directory
+-o /dev/full --form png STREAM | 4 | No space left on device
+"""
+
+
 def option_cases(folder):
     """Arguments, the status, and a part of what is said."""
-    good = os.path.join(folder, "picture")
-    pictures = [["-o", good + form, *more] for form, more in (
-        (".png", []), (".png", ["--night", "--cells"]), (".png", ["--size", "640x480", "--head", "30000,30000"]),
-        (".png", ["--window", "0,0,65535,65535"]), (".png", ["--window=29000,27000,31000,29000", "--cells"]), (".png", ["--head", "0,0"]),
-        (".png", ["--sheet", "--page", "1"]), (".png", ["--a3", "--portrait"]), (".svg", []), (".svg", ["--night"]), (".svg", ["--sheet", "--cells"]),
-        (".pdf", []), (".pdf", ["--helm"]), (".pdf", ["--a3"]), (".pdf", ["--a4", "--portrait", "--cells"]), (".pdf", ["--night"]),
-        (".any", ["--form", "svg"]), (".png", ["--title", "x" * 2000, "--id", "é" * 500]), (".png", ["--title", "", "--id", ""]),
-        (".png", ["--head", "65535,65535", "--window", "65534,65534,65535,65535"]), (".png", ["--size", "7680x4320"]))]
-    yield from (([*words, BASIN], 0, "") for words in pictures)
-    yield from (([*words, "--report", "--bytes", STREAM], 1, "split bed at byte 129: refused 7: the point is not strictly inside") for words in pictures[:2])
-    for words, said in (
-        ([], "give -o PICTURE, or --report"), (["--size", "319x200"], "it wants WxH, from 320x200 to 7680x4320"), (["--size", "7680x4321"], "WxH"),
-        (["--size", "640"], "WxH"), (["--size", "640x480x2"], "WxH"), (["--head", "1"], "X,Y, each 0 to 65535"),
-        (["--head", "1,65536"], "0 to 65535"), (["--head", "1,-1"], "0 to 65535"), (["--head", "1, 1"], "0 to 65535"), (["--head", ""], "0 to 65535"),
-        (["--head", "99999999999999999999,1"], "0 to 65535"),
-        (["--window", "1,1,1,2"], "left below right"), (["--window", "1,2,3"], "X,Y,X,Y"), (["--page", "0"], "1 to 999"), (["--page", "1000"], "1 to 999"),
-        (["--form", "gif"], "png, svg or pdf"), (["-o", good + ".gif"], "ends with .png, .svg or .pdf"), (["-o", good], "ends with"), (["-o", ""], "the name of a picture"),
-        (["-o", "-"], "wants --form"), (["-o", "-", "--form", "png", "--report"], "both go to standard output"), (["--cells=1", "--report"], "takes no value"),
-        (["--nigth"], "there is no such option"), (["--sheet", "--night", "--report"], "--night is of the helm's picture and --sheet of a sheet"),
-        (["--size", "640x480", "--a3", "--report"], "--size is of the helm's picture and --a3 of a sheet"), (["--watch", "--report"], "give -o PICTURE"),
-        (["--title", "a\nb"], "UTF-8 on one line"), (["--title", "\udcff"], "UTF-8 on one line"), (["--report", "second"], "one FILE at a time")):
-        yield [*words, STREAM], 2, said
-    yield [STREAM, "--page", "2", "-o", good + ".png"], 2, "there is no page 2: the sheet has 1"
-    yield [STREAM, "--size"], 2, "--size at the end: it wants"
-    yield ["--watch", "-o", good + ".png"], 2, "the charts come from a FILE"
-    yield ["--report", "--", "--cells"], 4, "cannot read --cells: No such file"
-    yield ["--report", os.path.join(folder, "none")], 4, "cannot read"
-    yield ["--report", folder], 4, "Is a directory"
-    yield ["--report", "--paper", folder], 4, "irectory"
-    yield ["-o", os.path.join(folder, "none", "x.png"), BASIN], 4, "No such file or directory"
-    yield ["-o", folder, "--form", "png", BASIN], 4, "Is a directory"
-    yield ["-o", "/dev/full", "--form", "png", BASIN], 4, "No space left on device"
+    meant = {"OUT": os.path.join(folder, "picture"), "FOLDER": folder, "STREAM": STREAM}
+    meant.update(LONG=700 * "é ", TABBED="a\tb", BROKEN=os.fsdecode(b"\xff"))
+
+    def words(line):
+        return [re.sub("|".join(meant), lambda m: meant[m.group()], word) for word in shlex.split(line)]
+
+    for line in DRAWING.strip().split("\n"):
+        yield [*words(line), BASIN], 0, ""
+    for line in TOLD.strip().split("\n"):
+        given, status, said = line.split(" | ")
+        yield words(given), int(status), said
 
 
 def test_options(folder):
@@ -427,11 +480,11 @@ def test_outputs(folder):
     same("standard output", run("-o", "-", "--form", "png", BASIN).stdout, read(place))
     same("left beside the picture", [n for n in os.listdir(folder) if n.startswith("plain.png.")], [])
     for words in (["--report"], ["-o", "-", "--form", "pdf"], ["--help"]):
-        process = subprocess.Popen([DISPLAY, *words, STREAM], stdout=subprocess.PIPE, stderr=subprocess.PIPE, env=environment())
-        process.stdout.close()
-        said = process.stderr.read()
-        same(f"a closed pipe at {words}", (process.wait(WAIT), b"error" in said), (-signal.SIGPIPE if words != ["--help"] else process.returncode, False))
-        process.stderr.close()
+        reader, writer = os.pipe()
+        os.close(reader)
+        done = subprocess.run([DISPLAY, *words, STREAM], stdout=writer, stderr=subprocess.PIPE, env=environment(), timeout=WAIT)
+        os.close(writer)
+        same(f"a closed pipe at {words}", (done.returncode, b"error" in done.stderr), (-signal.SIGPIPE, False))
     closed = subprocess.run(["sh", "-c", '"$0" --report "$1" >&-', DISPLAY, STREAM], capture_output=True, env=environment())
     same("standard output closed", (closed.returncode, b"cannot write the report" in closed.stderr), (4, True))
     closed = subprocess.run(["sh", "-c", '"$0" --report <&-', DISPLAY], capture_output=True, env=environment())
@@ -529,7 +582,10 @@ def test_watch(folder):
     out, said = process.communicate(b"nonsense\n1 2 3\n9999999 1\n\n 7 , 8 \r\n5000\t6000", timeout=WAIT)
     same("the head of the last position", json.loads(out)["head"], [5000, 6000])
     same("lines that are no position", re.findall(rb"line (\d+) is no position", said), [b"5", b"6", b"7", b"8"])
-    same("tally", (process.returncode, b"6 positions read, 5 drawn, 1 passed over for newer ones, 4 lines were no position" in said), (0, True))
+    tally = re.search(rb"(\d+) positions read, (\d+) drawn, (\d+) passed over for newer ones, (\d+) lines were no position", said)
+    positions, drawn, passed, others = map(int, tally.groups()) if tally else 4 * [None]
+    # whether the last but one is drawn hangs on when the pipe is closed
+    same("tally", (process.returncode, positions, others, [drawn, passed] in ([6, 0], [5, 1])), (0, 6, 4, True))
     newest(folder)
     interrupted(folder)
     same("left beside the picture", [n for n in os.listdir(folder) if n.startswith("watch.png.")], [])
@@ -542,7 +598,8 @@ def newest(folder):
     with tempfile.TemporaryFile() as f:
         f.write(lines + 300 * b"x" + b"\n" + b"12 34")
         f.seek(0)
-        done = subprocess.run([CHECKED, "--watch", STREAM, *SMALL, "-o", place, "--report"], stdin=f, capture_output=True, env=environment(), timeout=WAIT)
+        words = [CHECKED, "--watch", STREAM, *SMALL, "-o", place, "--report"]
+        done = subprocess.run(words, stdin=f, capture_output=True, env=environment(), timeout=WAIT)
     report = json.loads(done.stdout)
     same("the newest", (report["head"], done.returncode), ([12, 34], 1))
     told = b"1001 positions read, 1 drawn, 1000 passed over for newer ones, 1 lines were no position"
@@ -556,7 +613,8 @@ def newest(folder):
 def interrupted(folder):
     """Ctrl-C ends it with the tally."""
     place = os.path.join(folder, "stopped.png")
-    process = subprocess.Popen([DISPLAY, "--watch", STREAM, *SMALL, "-o", place], stdin=subprocess.PIPE, stderr=subprocess.PIPE, env=environment())
+    words = [DISPLAY, "--watch", STREAM, *SMALL, "-o", place]
+    process = subprocess.Popen(words, stdin=subprocess.PIPE, stderr=subprocess.PIPE, env=environment())
     start = time.monotonic()
     while not os.path.exists(place) and time.monotonic() - start < WAIT:
         time.sleep(0.01)
@@ -593,9 +651,10 @@ def test_no_cairo(folder):
     """What the build says and does where cairo is missing: a pkg-config that finds nothing, and an apt-get that only tells."""
     script(folder, "pkg-config", "exit 1")
     script(folder, "apt-get", f'echo "$@" >>{shlex.quote(folder)}/asked; exit 1')
+    command = "install -y libcairo2-dev\n"
     for user, wanted, asked in (
         ("1000", "missing: libcairo2-dev (Debian, as root: apt-get install -y libcairo2-dev)\n", None),
-        ("0", "missing: libcairo2-dev; installing by: apt-get install -y libcairo2-dev\n", "install -y libcairo2-dev\nupdate\ninstall -y libcairo2-dev\n"),
+        ("0", "missing: libcairo2-dev; installing by: apt-get " + command, command + "update\n" + command),
     ):
         script(folder, "id", f"echo {user}")
         done = subprocess.run(["bash", "display/build.sh"], cwd=ROOT, capture_output=True, text=True,
@@ -612,8 +671,9 @@ def main():
         for place in places:
             os.mkdir(place)
         first, begun = draw_forms(places[0]), time.time()
-        parts = [(test_reports,), (test_papers, folder), (test_damaged,), (test_options, folder), (test_outputs, folder), (test_ink, folder),
-                 (test_stored_picture, places[3]), (test_watch, folder), (test_valgrind, folder), (test_no_cairo, places[2])]
+        parts = [(test_reports,), (test_papers, folder), (test_damaged,), (test_options, folder), (test_outputs, folder)]
+        parts += [(test_ink, folder), (test_stored_picture, places[3]), (test_watch, folder), (test_valgrind, folder)]
+        parts += [(test_no_cairo, places[2])]
         for part, *given in parts:
             start = time.monotonic()
             part(*given)

@@ -143,7 +143,8 @@ def place_fault(plan, place, seen):
         wanted = "under" if found and found["bed"]["triangle"] in bed else "paired" if any(i in bed for i, _ in key) else "ground"
     else:
         wanted = "ground"
-    return None if colours == {plan.colours[wanted]} else f"{at} is in bed {bed} and design {design} and should be {wanted} alone: {colours}"
+    wrong = f"{at} is in bed {bed} and design {design} and should be {wanted} alone: {colours}"
+    return None if colours == {plan.colours[wanted]} else wrong
 
 
 def place_faults(plan, seen):
