@@ -27,7 +27,7 @@ extern "C" {
 #endif
 
 #define JIRD_VERSION "1.0.0" /* base.request.fix: 1.4.0 has requests 1 to 4 */
-#define JIRD_ABI 1           /* rises with every change of a type or a prototype */
+#define JIRD_ABI 1           /* rises with every change of a type, a prototype or a constant but the stack */
 
 enum {
     JIRD_TABLE_LENGTH = 3072,

@@ -6,9 +6,11 @@
 #   PREFIX/lib                   libjirdtungsten.a, libjirdtungsten.so with its links, pkgconfig/jirdtungsten.pc
 #   PREFIX/lib/jirdtungsten      chartkey with its modules, and beside it the proved program overlay_log
 #   PREFIX/bin                   links to these two, and helm-display if it is built (make display)
+#   PREFIX/share/man             a page for each program and for the library
 #   PREFIX/share/doc/jirdtungsten, with examples
-# DESTDIR stands before every path that is written, for packages. Uninstall takes away what install would write now, and the folders
-# that are the project's own; other folders stay. It fails when something is not built, or cannot be written.
+# DESTDIR stands before every path that is written, for packages. Uninstall takes away what install would write now, the folders that are
+# the project's own, and other folders that it leaves empty, but not those of /usr and /usr/local. It fails when something is not built,
+# or cannot be written.
 set -eu
 cd "$(dirname "$0")/.."
 PREFIX=${PREFIX:-/usr/local}
@@ -29,7 +31,11 @@ files() {
     echo "755 chartkey $own/chartkey"
     for name in frontend/*.py; do echo "644 $name $own/$name"; done
     echo "755 target/bin/overlay_log $own/overlay_log"
-    if [ -f target/bin/helm-display ]; then echo "755 target/bin/helm-display bin/helm-display"; fi
+    for name in chartkey.1 overlay_log.1 jirdtungsten.3; do echo "644 target/man/$name share/man/man${name##*.}/$name"; done
+    if [ -f target/bin/helm-display ]; then
+        echo "755 target/bin/helm-display bin/helm-display"
+        echo "644 target/man/helm-display.1 share/man/man1/helm-display.1"
+    fi
     find README.md docs examples -type f | while read -r name; do echo "644 $name $doc/$name"; done
 }
 
@@ -51,6 +57,7 @@ built() {
 
 put() {
     local mode from name
+    python3 library/man.py target/man
     files | while read -r mode from name; do install -D -m "$mode" "$from" "$to/$name"; done
     mkdir -p "$to/bin" "$to/lib/pkgconfig"
     links | while read -r from name; do ln -sfn "$from" "$to/$name"; done
@@ -59,14 +66,25 @@ put() {
     echo "installed below $to"
 }
 
+# takes away the folders of others that are empty now, the deepest first
+empty_folders() {
+    local name
+    for name in share/man/man1 share/man/man3 share/man share/doc share bin include lib/pkgconfig lib; do
+        if [ -d "$to/$name" ]; then rmdir --ignore-fail-on-non-empty "$to/$name"; fi
+    done
+    if [ -d "$to" ]; then rmdir --ignore-fail-on-non-empty "$to"; fi
+}
+
 take_away() {
     local mode from name
     files | while read -r mode from name; do rm -f "$to/$name"; done
     links | while read -r from name; do rm -f "$to/$name"; done
-    rm -f "$to/lib/pkgconfig/jirdtungsten.pc" "$to/bin/helm-display" "$to/$own/frontend/__pycache__"/*.pyc
-    for name in "$own" "$doc" lib/pkgconfig; do
+    rm -f "$to/lib/pkgconfig/jirdtungsten.pc" "$to/bin/helm-display" "$to/share/man/man1/helm-display.1"
+    rm -f "$to/$own/frontend/__pycache__"/*.pyc
+    for name in "$own" "$doc"; do
         if [ -d "$to/$name" ]; then find "$to/$name" -depth -type d -empty -delete; fi
     done
+    case $to in /usr | /usr/local) ;; *) empty_folders ;; esac
     echo "taken away from below $to"
 }
 

@@ -214,7 +214,8 @@ def files_below(folder):
 
 
 def make(target, prefix, stage):
-    return run(["make", "-s", "-C", ROOT, target, f"PREFIX={prefix}", f"DESTDIR={stage}"])
+    outside = {name: value for name, value in os.environ.items() if name not in ("MAKEFLAGS", "MAKELEVEL", "MFLAGS")}
+    return run(["make", "-s", "-C", ROOT, target, f"PREFIX={prefix}", f"DESTDIR={stage}"], env=outside)
 
 
 def built_examples(folder, to, stage):
@@ -234,15 +235,16 @@ def built_examples(folder, to, stage):
 
 
 def installed_programs(to):
-    """chartkey and the proved program, as they are installed."""
+    """chartkey and the proved program, as they are installed, and the manual pages."""
     paper = os.path.join(to, "share", "doc", "jirdtungsten", "examples", "turning-basin.txt")
     if run([os.path.join(to, "bin", "chartkey"), paper], cwd=to) != headers.read("examples", "turning-basin.key"):
         sys.exit("the installed chartkey gives another key")
     if run([os.path.join(to, "bin", "overlay_log")], bytes([2, 0])) != "overlay log\n2 0 1\n":
         sys.exit("the installed program gives another log")
-
-
-OWN = ("lib/jirdtungsten", "lib/pkgconfig", "share/doc/jirdtungsten")
+    page = run(["cat", os.path.join(to, "share", "man", "man3", "jirdtungsten.3")])
+    missing = [name for name in map("jird_{}".format, said_numbers()[0]) if f".SH {name}\n" not in page]
+    if missing or "usage: chartkey" not in run(["cat", os.path.join(to, "share", "man", "man1", "chartkey.1")]):
+        sys.exit(f"the manual pages do not have {', '.join(missing) or 'the use of chartkey'}")
 
 
 def install():
@@ -259,9 +261,8 @@ def install():
             if f"prefix={prefix}\n" not in run(["cat", os.path.join(to, "lib", "pkgconfig", "jirdtungsten.pc")]):
                 sys.exit("jirdtungsten.pc has another prefix")
             make("uninstall", prefix, stage)
-            left = files_below(empty) + [name for name in OWN if os.path.exists(os.path.join(to, name))]
-            if left:
-                sys.exit(f"left after `make uninstall`: {', '.join(left[:9])}")
+            if os.path.exists(to):
+                sys.exit(f"left after `make uninstall`: {', '.join(files_below(to)[:9]) or 'empty folders'}")
     print(f"install: {count} files and links, 4 examples built and run from an empty folder, twice; nothing left")
 
 
@@ -276,6 +277,8 @@ def main():
         for word in words:
             PARTS[word]()
         return 0
+    if len(words) != 2 or not all(word.isdigit() for word in words):
+        sys.exit("usage: library.py SEED COUNT | PART..    (PART is one of " + ", ".join(PARTS) + ")")
     seed, count = map(int, words)
     marked()
     made_calls(seed, count)
