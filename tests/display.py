@@ -19,6 +19,7 @@ import os
 import random
 import re
 import shlex
+import shutil
 import signal
 import subprocess
 import sys
@@ -98,6 +99,19 @@ def report_of(*arguments, **more):
 
 
 # ---- building
+
+
+def need():
+    """What the test needs and is not here, with the command that brings it."""
+    if not PROGRAM:
+        sys.exit(__doc__)
+    for missing, what in (
+        (not os.path.exists(MODEL), "the reference model (make model)"),
+        (not shutil.which(PROGRAM[0]), f"{PROGRAM[0]} (make run)"),
+        (not shutil.which("valgrind"), "valgrind (Debian: apt-get install valgrind)"),
+    ):
+        if missing:
+            sys.exit(f"missing: {what}")
 
 
 def build():
@@ -665,6 +679,7 @@ def test_no_cairo(folder):
 
 
 def main():
+    need()
     build()
     with tempfile.TemporaryDirectory() as folder:
         places = [os.path.join(folder, name) for name in ("forms", "again", "fake", "pictures")]
