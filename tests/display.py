@@ -558,7 +558,7 @@ def test_stored_picture(folder):
     for name in os.listdir(folder):
         stored, now = (png.decoded(read(os.path.join(f, name))) for f in (PICTURES, folder))
         same(f"size of {name}", stored[:2], now[:2])
-        far = sum(max(abs(a - b) for a, b in zip(p, q)) > 40 for p, q in zip(png.blocks(stored, 8), png.blocks(now, 8)))
+        far = sum(max(abs(a - b) for a, b in zip(p, q)) > 24 for p, q in zip(png.blocks(stored, 8), png.blocks(now, 8)))
         if far > 20:
             fault(f"docs/pictures/{name} is not what the display draws: {far} blocks differ; make pictures draws it anew")
         count("stored pictures")
