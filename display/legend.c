@@ -24,9 +24,12 @@ static void chart_sample(const page *p, int chart, double x, double y) {
     paint_label(p, &l, numbers[chart], 1);
 }
 
-static void row_text(const page *p, double x, double y, double width, const char *text) {
+/* In as many lines as it takes; gives where the next row stands. */
+static double row_text(const page *p, double x, double y, double width, const char *text) {
+    const double lines = 3.4;
     letter l = { LETTERS, false, false, p->ink->text };
-    text_fitted(p, x + SAMPLE + 3, y + 0.36 * LETTERS, 0, width - SAMPLE - 3, text, l);
+    double end = text_block(p, (box){ x + SAMPLE + 3, y + 0.36 * LETTERS, x + width, p->height }, lines, text, l);
+    return end - 0.36 * LETTERS + PITCH - lines;
 }
 
 static shape sample_shape(double x, double y) {
@@ -70,11 +73,20 @@ static void mark_sample(const page *p, double x, double y) {
 
 static double charts_part(page *p, double x, double y, double width) {
     chart_sample(p, BED, x, y);
-    row_text(p, x, y, width, "bed as sounded, triangle 7");
-    y += PITCH;
+    y = row_text(p, x, y, width, "bed as sounded, triangle 7");
     chart_sample(p, DESIGN, x, y);
-    row_text(p, x, y, width, "bed as designed, triangle 4");
-    return y + PITCH;
+    return row_text(p, x, y, width, "bed as designed, triangle 4");
+}
+
+static double ground_part(page *p, double x, double y, double width) {
+    if (!p->pairs) return y;
+    ground_sample(p, x, y, false);
+    y = row_text(p, x, y, width, "bed triangle that is in the key");
+    ground_sample(p, x, y, true);
+    y = row_text(p, x, y, width, "shared ground; turns at each design side");
+    if (mark_radius(p) <= 0) return y;
+    mark_sample(p, x, y);
+    return row_text(p, x, y, width, "shared ground under 1 mm\xC2\xB2 on this sheet");
 }
 
 /* Gives where it ends. */
@@ -82,27 +94,14 @@ double paint_legend(page *p, double x, double y, double width) {
     letter head = { 3.2, true, false, p->ink->text };
     text_at(p, x, y + 2.4, 0, "Legend", head);
     y = charts_part(p, x, y + 7.2, width);
-    if (p->pairs) {
-        ground_sample(p, x, y, false);
-        row_text(p, x, y, width, "bed triangle that is in the key");
-        ground_sample(p, x, y + PITCH, true);
-        row_text(p, x, y + PITCH, width, "shared ground; turns at each design side");
-        y += 2 * PITCH;
-    }
-    if (mark_radius(p) > 0) {
-        mark_sample(p, x, y);
-        row_text(p, x, y, width, "shared ground under 1 mm\xC2\xB2 on this sheet");
-        y += PITCH;
-    }
+    y = ground_part(p, x, y, width);
     if (p->v->cells) {
         cell_sample(p, x, y);
-        row_text(p, x, y, width, "cells (leaf squares) of each chart");
-        y += PITCH;
+        y = row_text(p, x, y, width, "cells (leaf squares) of each chart");
     }
     if (p->s->has_head) {
         paint_head(p, (point){ x + SAMPLE / 2.0, y }, 1.15);
-        row_text(p, x, y, width, "cutter head");
-        y += PITCH;
+        y = row_text(p, x, y, width, "cutter head");
     }
     return y - 1;
 }

@@ -68,7 +68,7 @@ static double paint_refused(const sheet *t, double x, double y) {
         if (!number) continue;
         snprintf(text, sizeof text, "The last change of the %s was refused, number %u: %s.", names[chart], (unsigned)number,
                  jird_words(number));
-        y = text_block(p, (box){ x, y + 4, x + t->column, p->height }, 3.8, text, l) - 3;
+        y = text_block(p, (box){ x, y + 4, x + t->column, p->height }, 3.8, text, l) - 2;
     }
     return y;
 }
@@ -88,8 +88,8 @@ static double paint_found(const sheet *t, double x, double y) {
     letter head = { 3.2, true, false, p->ink->text }, plain = { 2.6, false, false, p->ink->text };
     if (!p->s->has_head) return y;
     snprintf(text, sizeof text, "Cutter head at %s, %s", text_grouped(across, p->s->head_x), text_grouped(down, p->s->head_y));
-    text_fitted(p, x, y + 4, 0, t->column, text, head);
-    y += 9;
+    text_fitted(p, x, y + 4.6, 0, t->column, text, head);
+    y += 9.6;
     for (int chart = 0; chart < CHARTS; chart++) {
         letter l = plain;
         if (p->s->found[chart].number) l.ink = p->ink->warning;

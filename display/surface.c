@@ -3,6 +3,7 @@
 #include <cairo-pdf.h>
 #include <cairo-svg.h>
 #include <math.h>
+#include <string.h>
 
 static cairo_status_t pour(void *sink_at, const unsigned char *bytes, unsigned int n) {
     return sink_add(sink_at, bytes, n) ? CAIRO_STATUS_SUCCESS : CAIRO_STATUS_NO_MEMORY;
@@ -62,10 +63,34 @@ cairo_surface_t *surface_scratch(page *p) {
     return s;
 }
 
+/* In an SVG cairo names groups by how many surfaces there were in this process: counted from 1 here, the bytes are always the same. */
+static void name_groups_from_one(sink *k) {
+    static const char word[] = "id=\"surface";
+    const size_t length = sizeof word - 1;
+    size_t kept = 0, at = 0;
+    unsigned long count = 0;
+    while (at < k->n) {
+        bool found = k->n - at > length && memcmp(k->at + at, word, length) == 0;
+        if (!found) {
+            k->at[kept++] = k->at[at++];
+            continue;
+        }
+        memmove(k->at + kept, word, length);
+        at += length;
+        kept += length;
+        size_t digits = 0;
+        while (at + digits < k->n && k->at[at + digits] >= '0' && k->at[at + digits] <= '9') digits++;
+        if (digits) k->at[kept++] = (unsigned char)('0' + ++count % 10);
+        at += digits;
+    }
+    k->n = kept;
+}
+
 static cairo_status_t ended(const page *p, cairo_surface_t *s, sink *out) {
     double dots = p->v->layout == LAYOUT_SHEET ? 200 / 0.0254 : 0;
     if (p->v->form == FORM_PNG && out && !png_write(s, dots, out)) return CAIRO_STATUS_NO_MEMORY;
     cairo_surface_finish(s);
+    if (p->v->form == FORM_SVG && out) name_groups_from_one(out);
     return cairo_surface_status(s);
 }
 
