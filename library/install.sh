@@ -36,6 +36,7 @@ files() {
         echo "755 target/bin/helm-display bin/helm-display"
         echo "644 target/man/helm-display.1 share/man/man1/helm-display.1"
     fi
+    echo "644 library/jirdtungsten.supp $doc/jirdtungsten.supp"
     find README.md docs examples -type f | while read -r name; do echo "644 $name $doc/$name"; done
 }
 

@@ -15,7 +15,8 @@ usage: library.py SEED COUNT     all of it; COUNT is at least 5
             and with the shared library; `chartkey` and the proved program run; `make uninstall`, and nothing is left
 
 The drivers (tests/library/*.c) are built with the address and undefined-behaviour sanitizers too; the code of the engine is not
-instrumented by them, but what it passes to memcpy and memset is. valgrind sees all of it. It fails on any difference, any warning of a
+instrumented by them, but what it passes to memcpy and memset is. valgrind sees all of it; library/jirdtungsten.supp says what it is told
+to pass over, and why. It fails on any difference, any warning of a
 compiler, and any status other than 0. The library, the model and the command program must be built."""
 
 import collections
@@ -30,7 +31,7 @@ import tempfile
 import calls
 import engines
 import headers
-from call_cases import boundaries, overlays, script
+from call_cases import boundaries, damage, script
 from engines import ROOT
 from tables import FLAT, U, V
 
@@ -39,7 +40,8 @@ BUILT = os.path.join(LIB, "test")
 STRICT = "-Wall -Wextra -Wpedantic -Wconversion -Werror -g -O1".split()
 SANITIZED = ["-fsanitize=address,undefined", "-fno-sanitize-recover=all"]
 C, CPP = ["cc", "-std=c11", "-D_DEFAULT_SOURCE"], ["c++", "-std=c++17", "-x", "c++"]
-VALGRIND = ["valgrind", "-q", "--error-exitcode=9", "--leak-check=full", "--track-origins=no"]
+SUPPRESSED = os.path.join(ROOT, "library", "jirdtungsten.supp")
+VALGRIND = ["valgrind", "-q", "--error-exitcode=9", "--leak-check=full", "--error-limit=no", f"--suppressions={SUPPRESSED}"]
 
 
 # ---- running
@@ -115,13 +117,13 @@ def fixed(seed, count):
 
 
 def few(seed):
-    """Some of each kind, for valgrind."""
+    """The same without the longest lists, for valgrind."""
     s = script.Script(random.Random(seed), short=True)
-    boundaries.lent_short(s, 1, 16383)
-    s.table([U] * 511, number=0)
-    s.call("", 10, "split", 0, 1, 1)
-    overlays.known_overlays(s)
-    calls.drawn(s, 2)
+    boundaries.lengths(s)
+    damage.damaged(s)
+    s.on(1)
+    calls.on_charts(s)
+    calls.drawn(s, 5)
     return s
 
 
