@@ -354,6 +354,12 @@ def test_papers(folder):
     same("told without it", b"note: without title and id" in unbuilt.stderr, True)
     quoted = 'title "a \\ b é 港 /"\nid "<&>"\n'.encode()
     same("a title with signs", [report_of("--paper", *SMALL, given=quoted)[0][k] for k in ("title", "id")], ["a \\ b é 港 /", "<&>"])
+    beside = os.path.join(folder, "bin")
+    os.mkdir(beside)
+    shutil.copy(DISPLAY, beside)
+    os.symlink(os.path.join(ROOT, "chartkey"), os.path.join(beside, "chartkey"))
+    for program in (os.path.join(beside, "helm-display"), DISPLAY):
+        same(f"chartkey is found by {program}", report_of(BASIN, *SMALL, program=program, CHARTKEY="")[1], 0)
     wrong = run("--report", "--paper", given=b"triangel 0,0 5,0 0,5\n")
     told = chartkey("--bytes", given=b"triangel 0,0 5,0 0,5\n")
     same("a wrong paper", (wrong.returncode, wrong.stdout, wrong.stderr), (2, b"", told.stderr))
