@@ -43,6 +43,17 @@ CHARTS = ("bed", "design")
 SEED = 7
 DRAWN = 60
 SMALL = ["--size", "320x200"]
+# the streams are drawn in these ways, one after the other
+VIEWS = (
+    SMALL,
+    ["--form", "pdf"],
+    [*SMALL, "--night", "--cells"],
+    ["--form", "pdf", "--a3", "--portrait", "--cells"],
+    ["--form", "svg", "--cells"],
+    ["--size", "3000x300"],
+    ["--form", "svg", "--sheet"],
+    [*SMALL, "--window", "30000,30000,36000,36000"],
+)
 WAIT = 120  # a guard against a hang, in seconds
 faults = []
 counts = {}
@@ -263,14 +274,16 @@ def check_report(name, report, data, log, tail_log, charts, head):
 
 
 def check_labels(name, report):
-    """Each number stands inside its triangle, and none is both set and left out."""
+    """Each number stands inside its triangle, and none is both set and left out; on a sheet every number is one of the two."""
     for chart in CHARTS:
         labels, table = report["picture"]["labels"][chart], report["charts"][chart]["table"]
         for i, x, y in labels["set"]:
             if not ink.inside(table[i], (x, y)):
                 fault(f"{name}: the number of {chart} {i} stands at {x},{y}, outside its triangle {table[i]}")
         count("numbers set", len(labels["set"]))
-        same(f"{name}: numbers set and left out", {i for i, *_ in labels["set"]} & set(labels["left_out"]), set())
+        numbers = sorted([i for i, *_ in labels["set"]] + labels["left_out"])
+        every = range(len(table)) if report["picture"]["layout"] == "sheet" else set(numbers)
+        same(f"{name}: numbers set and left out of {chart}", numbers, sorted(every))
 
 
 def test_reports():
@@ -279,7 +292,8 @@ def test_reports():
     logs, seen = model_logs([data for _, data in given]), []
     for k, (name, data) in enumerate(given):
         head = [rng.randrange(65536), rng.randrange(65536)] if k % 2 else None
-        report, status = report_of("--bytes", *SMALL, *(["--head", "{},{}".format(*head)] if head else []), given=data)
+        view = VIEWS[k % len(VIEWS)]
+        report, status = report_of("--bytes", *view, *(["--head", "{},{}".format(*head)] if head else []), given=data)
         if report is None:
             sys.exit("\n".join(faults))
         want = 4 if report["bad"] is not None else 1 if report["refused"] else 0
