@@ -160,7 +160,9 @@ static void paint_lines(const page *p, const lattice *l, const stretches *all) {
     }
     ink_at(p, p->ink->shading, p->style.strength);
     cairo_set_line_width(p->to, p->style.shade);
+    cairo_set_antialias(p->to, CAIRO_ANTIALIAS_FAST);
     cairo_stroke(p->to);
+    cairo_set_antialias(p->to, CAIRO_ANTIALIAS_DEFAULT);
 }
 
 void paint_lines_in(page *p, const shape *s, int direction) {

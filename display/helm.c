@@ -157,7 +157,8 @@ static void paint_panel(page *p, box at) {
 static void paint_counts(const page *p, double x, double y, double align) {
     char text[160];
     letter l = { 13 * p->style.unit, false, false, p->ink->grey };
-    int n = snprintf(text, sizeof text, "bed %zu \xC2\xB7 design %zu \xC2\xB7 ", p->s->charts[BED].triangles, p->s->charts[DESIGN].triangles);
+    const jird_chart *c = p->s->charts;
+    int n = snprintf(text, sizeof text, "bed %zu \xC2\xB7 design %zu \xC2\xB7 ", c[BED].triangles, c[DESIGN].triangles);
     if (n < 0) return;
     if (p->s->overlay.number) snprintf(text + n, sizeof text - (size_t)n, "overlay refused");
     else snprintf(text + n, sizeof text - (size_t)n, "%zu pairs", p->s->overlay.pairs);

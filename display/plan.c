@@ -79,6 +79,8 @@ static void thin_lines(page *p) {
     p->style.dash[0] *= fmax(by, 0.5);
     p->style.dash[1] *= fmax(by, 0.6);
     p->style.pad = fmax(p->style.dot * 0.6, line[BED] / 2) + 0.6 * p->style.pad * fmax(by, 0.3);
+    bool wide = p->v->layout == LAYOUT_HELM && (under_head(p, BED) < MOST || under_head(p, DESIGN) < MOST);
+    if (wide) p->style.pad = fmax(p->style.pad, 3.2 * p->style.unit);
     if (p->in_view[BED] + p->in_view[DESIGN] > 120) p->style.strength *= 0.6;
 }
 

@@ -1,5 +1,5 @@
-/* An image as PNG, written here for speed: cairo's own takes most of the time of a picture. Eight bits for red, green and blue; each
- * row as what it differs by from the row above; zlib's fastest level. */
+/* An image as PNG, written here for speed: cairo's own takes most of the time of a picture. Eight bits for red, green and blue, rows as
+ * they are, zlib's fastest level. */
 #include "page.h"
 #include <stdlib.h>
 #include <string.h>
@@ -18,14 +18,15 @@ static bool chunk(sink *out, const char *name, const unsigned char *bytes, size_
     return sink_add(out, length, 4) && sink_add(out, (const unsigned char *)name, 4) && sink_add(out, bytes, n) && sink_add(out, check, 4);
 }
 
-/* Red, green, blue of one row, less those of the row above. */
-static void fill_row(unsigned char *to, const unsigned char *row, const unsigned char *above, int width) {
-    *to++ = 2;
+/* Red, green, blue of one row; filter 0, which here gives less than the others. */
+static void fill_row(unsigned char *to, const unsigned char *row, int width) {
+    *to++ = 0;
     for (int x = 0; x < width; x++) {
-        uint32_t now, then = 0;
-        memcpy(&now, row + 4 * x, 4);
-        if (above) memcpy(&then, above + 4 * x, 4);
-        for (int shift = 16; shift >= 0; shift -= 8) *to++ = (unsigned char)((now >> shift) - (then >> shift));
+        uint32_t dot;
+        memcpy(&dot, row + 4 * x, 4);
+        *to++ = (unsigned char)(dot >> 16);
+        *to++ = (unsigned char)(dot >> 8);
+        *to++ = (unsigned char)dot;
     }
 }
 
@@ -36,8 +37,7 @@ static bool packed(cairo_surface_t *s, int width, int height, unsigned char *row
     uLongf n = compressBound((uLong)(row * (size_t)height));
     unsigned char *bytes = malloc(n);
     if (!bytes) return false;
-    for (int y = 0; y < height; y++)
-        fill_row(rows + row * (size_t)y, from + (ptrdiff_t)y * stride, y ? from + (ptrdiff_t)(y - 1) * stride : NULL, width);
+    for (int y = 0; y < height; y++) fill_row(rows + row * (size_t)y, from + (ptrdiff_t)y * stride, width);
     bool done = compress2(bytes, &n, rows, (uLong)(row * (size_t)height), 1) == Z_OK && chunk(out, "IDAT", bytes, n);
     free(bytes);
     return done;

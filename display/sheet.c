@@ -236,7 +236,7 @@ static const char *paint_pages(sheet *t, sink *out) {
     page *p = t->p;
     bool all = p->v->form == FORM_PDF;
     if (!all && (p->v->page < 1 || p->v->page > p->d->pages)) {
-        snprintf(words, sizeof words, "there is no page %d: the sheet has %d", p->v->page, p->d->pages);
+        snprintf(words, sizeof words, "there is no page %d: the sheet has %d page%s", p->v->page, p->d->pages, p->d->pages == 1 ? "" : "s");
         return words;
     }
     cairo_surface_t *s = surface_open(p, dots[p->v->form], out);

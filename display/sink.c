@@ -34,13 +34,17 @@ static bool poured(const sink *k, FILE *f) {
     return (k->n == 0 || fwrite(k->at, 1, k->n, f) == k->n) && fflush(f) == 0;
 }
 
-/* Straight into what stands there: a device, a pipe, a link. */
-static const char *write_straight(const sink *k, const char *path) {
-    FILE *f = fopen(path, "wb");
-    if (!f) return cannot(path);
+/* Into the open file, and closes it. */
+static const char *write_to(const sink *k, FILE *f, const char *path) {
     const char *fault = poured(k, f) ? NULL : cannot(path);
     if (fclose(f) != 0 && !fault) fault = cannot(path);
     return fault;
+}
+
+/* Straight into what stands there: a device, a pipe, a link, a file in a folder that takes no new ones. */
+static const char *write_straight(const sink *k, const char *path) {
+    FILE *f = fopen(path, "wb");
+    return f ? write_to(k, f, path) : cannot(path);
 }
 
 /* Beside the file, then in its place. */
@@ -49,9 +53,10 @@ static const char *write_beside(const sink *k, const char *path) {
     char *part = malloc(n);
     if (!part) return "out of memory";
     snprintf(part, n, "%s.part", path);
-    const char *fault = write_straight(k, part);
-    if (!fault && rename(part, path) != 0) fault = cannot(path);
-    if (fault) remove(part);
+    FILE *f = fopen(part, "wb");
+    const char *fault = f ? write_to(k, f, path) : write_straight(k, path);
+    if (f && !fault && rename(part, path) != 0) fault = cannot(path);
+    if (f && fault) remove(part);
     free(part);
     return fault;
 }
