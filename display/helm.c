@@ -12,7 +12,8 @@ static void set_sizes(page *p) {
     p->height = p->v->height;
     double u = upright(p) ? fmin(p->width / 800, p->height / 1280) : fmin(p->width / 1280, p->height / 800);
     p->style = (style){
-        .line = { 2.6 * u, 2.2 * u }, .underline = 2 * u, .dash = { 9 * u, 4.5 * u }, .dot = 3.2 * u, .square = 2.8 * u,
+        .line = { 2.6 * u, 2.2 * u }, .underline = 2 * u, .dash = { 9 * u, 4.5 * u }, .under = { 5 * u, 4.4 * u },
+        .dot = 3.2 * u, .square = 2.8 * u,
         .gap = 7.5 * u, .shade = 0.9 * u, .strength = 0.6, .cell = 0.8 * u, .head = 16 * u,
         .text = 13 * u, .tick = 6 * u, .apart = 90 * u, .border = 1.6 * u, .pad = 1.5 * u, .unit = u,
     };

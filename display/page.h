@@ -19,6 +19,7 @@ typedef struct { double height; bool framed; } step;                     /* one 
 /* Sizes of what stands in a plan. */
 typedef struct {
     double line[CHARTS], underline, dash[2];
+    double under[CHARTS];                   /* sides of the triangle under the cutter head; 0 if they are as the others */
     double dot, square;                     /* corners: radius, half a side */
     double gap, shade, strength;            /* shading lines: distance, width, how dark */
     double cell, head;                      /* width of a cell's side, radius of the crosshair's ring */

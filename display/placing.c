@@ -8,7 +8,7 @@
 enum { ACROSS = 64, MOST_PLACES = 800, MOST_TAKEN = CHARTS * MOST + 64 };
 static const double ENOUGH = 1.6;       /* a label with this much of its own size around it wants no more */
 
-typedef struct { point a, b; } segment;
+typedef struct { point a, b; double wide; } segment;       /* wide: by how much more than a side it reaches to each hand */
 typedef struct { int next, segment; } node;
 typedef struct { int chart; size_t triangle; double size; bool first; } wish;
 
@@ -17,7 +17,7 @@ typedef struct {
     double across, down;                /* of one cell of the grid */
     double pad;                         /* kept free around a label */
     int first[ACROSS][ACROSS];
-    segment segments[CHARTS * MOST_SIDES];
+    segment segments[CHARTS * (MOST_SIDES + 3)];
     node *nodes;
     size_t node_count, node_room;
     box taken[MOST_TAKEN], near[MOST_TAKEN];
@@ -58,14 +58,25 @@ static bool put_segment(lookup *g, segment s, int number) {
     return true;
 }
 
+static bool put_side(lookup *g, const page *p, side s, double wide, int *n) {
+    segment on = { on_page(p, (point){ s.ax, s.ay }), on_page(p, (point){ s.bx, s.by }), wide };
+    return !clip_segment(grown(p->frame, g->pad), &on.a, &on.b) || put_segment(g, on, (*n)++);
+}
+
+/* All sides, and once more those of the triangles under the cutter head, which are painted wider. */
 static bool put_sides(lookup *g, const page *p) {
     int n = 0;
-    for (int chart = 0; chart < CHARTS; chart++)
-        for (size_t k = 0; k < p->side_count[chart]; k++) {
-            const side *s = &p->sides[chart][k];
-            segment on = { on_page(p, (point){ s->ax, s->ay }), on_page(p, (point){ s->bx, s->by }) };
-            if (clip_segment(grown(p->frame, g->pad), &on.a, &on.b) && !put_segment(g, on, n++)) return false;
+    for (int chart = 0; chart < CHARTS; chart++) {
+        for (size_t k = 0; k < p->side_count[chart]; k++)
+            if (!put_side(g, p, p->sides[chart][k], 0, &n)) return false;
+        size_t i = under_head(p, chart);
+        double wide = (p->style.under[chart] - p->style.line[chart]) / 2;
+        for (int k = 0; k < 3 && i < MOST && wide > 0; k++) {
+            point a = corner(p, chart, i, k), b = corner(p, chart, i, (k + 1) % 3);
+            side s = { (int32_t)a.x, (int32_t)a.y, (int32_t)b.x, (int32_t)b.y };
+            if (!put_side(g, p, s, wide, &n)) return false;
         }
+    }
     return true;
 }
 
@@ -148,7 +159,8 @@ static double room_at(const lookup *g, const trial *t, point at) {
         for (int c = column(g, at.x - ENOUGH * x); c <= column(g, at.x + ENOUGH * x); c++)
             for (int k = g->first[r][c]; k >= 0; k = g->nodes[k].next) {
                 segment s = g->segments[g->nodes[k].segment];
-                best = lesser(best, t->round ? round_nearness(s, at, x) : nearness(s, at, x, y, t->slant));
+                double r = t->round ? round_nearness(s, at, x + s.wide) : nearness(s, at, x + s.wide, y + s.wide, t->slant);
+                best = lesser(best, r);
                 if (best < 1) return 0;
             }
     return best;

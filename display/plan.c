@@ -79,8 +79,6 @@ static void thin_lines(page *p) {
     p->style.dash[0] *= fmax(by, 0.5);
     p->style.dash[1] *= fmax(by, 0.6);
     p->style.pad = fmax(p->style.dot * 0.6, line[BED] / 2) + 0.6 * p->style.pad * fmax(by, 0.3);
-    bool wide = p->v->layout == LAYOUT_HELM && (under_head(p, BED) < MOST || under_head(p, DESIGN) < MOST);
-    if (wide) p->style.pad = fmax(p->style.pad, 3.2 * p->style.unit);
     if (p->in_view[BED] + p->in_view[DESIGN] > 120) p->style.strength *= 0.6;
 }
 
@@ -151,7 +149,7 @@ static void paint_inside(page *p) {
     paint_design_sides(p);
     if (p->v->layout == LAYOUT_HELM)
         for (int chart = 0; chart < CHARTS; chart++)
-            paint_triangle_sides(p, chart, under_head(p, chart), (chart == BED ? 5 : 4.4) * p->style.unit);
+            paint_triangle_sides(p, chart, under_head(p, chart), p->style.under[chart]);
     paint_small_grounds(p);
     say_empty(p);
     paint_labels(p, false);
