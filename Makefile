@@ -1,5 +1,5 @@
 # make alone prints the targets. Each target first tells what it needs and is not here.
-TARGETS := run test lib install uninstall fuzz bench stack model map mutants
+TARGETS := run test lib display pictures install uninstall fuzz bench stack model map mutants
 PREFIX := /usr/local
 
 run.does := proves and builds the command program, and shows a paper with its key, and document 01's example
@@ -26,6 +26,16 @@ uninstall.does := takes away what make install puts there; the same PREFIX and D
 uninstall.needs := find
 uninstall.takes := a second
 uninstall.by = PREFIX='$(PREFIX)' DESTDIR='$(DESTDIR)' bash library/install.sh uninstall
+
+display.does := builds helm-display, which draws charts, key and cutter head as PNG, SVG or PDF (docs/DISPLAY.md)
+display.needs := cc
+display.takes := 10 seconds where the library is made (make lib); cairo is named if it is missing, and installed as root
+display.by := bash display/build.sh
+
+pictures.does := draws the pictures of the pages anew, docs/pictures/, by helm-display
+pictures.needs := cc python3
+pictures.takes := 10 seconds where the library is made
+pictures.by := bash display/build.sh && bash display/pictures.sh
 
 fuzz.does := drawn command streams by the command program and by the reference model, log for log; SEED=7, SECONDS=600 or STREAMS=100000
 fuzz.needs := target/bin/overlay_log rustc cc python3

@@ -63,6 +63,7 @@ check "the headers say what the exports and the definitions say, and wrong heade
 check "the library is built, and shows the exports alone" bash library/build.sh
 check "the library from C and C++: marked cases, guard pages, sanitizers, valgrind, threads, install" python3 tests/library.py 7 20
 check "the stack of each export is within what its header says" python3 tests/stack.py
+check "the display: reports, ink, options, damaged streams, watch, under sanitizers and valgrind" python3 tests/display.py target/bin/overlay_log
 
 echo "$passed passed, $failed failed"
 [ "$failed" -eq 0 ]

@@ -1,0 +1,17 @@
+/* colours.h: the colours by day (and on paper) and by night. */
+#ifndef COLOURS_H
+#define COLOURS_H
+
+typedef struct { double r, g, b, a; } colour;
+
+typedef struct {
+    colour ground, text, grey, rule, tint;  /* page, letters, lesser letters, thin lines, every second row of the key */
+    colour chart[2];                        /* bed, design */
+    colour paired, under;                   /* filled: bed triangles with a pair, the triangle under the cutter head */
+    colour shading, mark;                   /* lines over shared ground; crosshair and circles */
+    colour warning;                         /* words of a refusal */
+} palette;
+
+extern const palette by_day, by_night;
+
+#endif

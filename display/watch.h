@@ -1,0 +1,10 @@
+/* watch.h: draws the picture anew for each position of the cutter head. */
+#ifndef WATCH_H
+#define WATCH_H
+#include "options.h"
+
+/* Reads positions from standard input until it ends, or Ctrl-C. The charts of the scene and their overlay stay; each position is
+ * located and drawn. Where several lines wait the newest wins. The exit status, after a tally on standard error. */
+int watch(const options *o, scene *s, drawn *d);
+
+#endif
