@@ -7,7 +7,7 @@ what says it and what holds it. Refused are:
 - a number of rows, or of rows that are later, that is not the one that the part says;
 - an empty column in a row that is not later;
 - a name that the file does not define. Logic defines by a signature, a record or data declaration, a field or a constructor, at
-  the top or inside a module, record or data, never local to a proof; code by fn, struct, enum or const; Python by def or class; a
+  the top or inside a module, record or data, never local to a proof; code by fn, struct, enum or const; Python by def or class; C by a function's first line; a
   case by its `name:` line; a page by a heading or the bold words that start a paragraph;
 - more than one definition under `said by`, a definition or a page under `held by`, a name twice in a row;
 - a row that its kind does not fit: a definition is said by one, a contract by code; a law or theorem is held by a proved fact, an
@@ -137,6 +137,8 @@ def defined(path):
         return in_code(path, text)
     if end == ".py":
         return dict.fromkeys(re.findall(r"^\s*(?:def|class) (\w+)", text, re.M), "test")
+    if end == ".c":
+        return dict.fromkeys(re.findall(r"^\w[\w *]*?\b(\w+)\([^;{}]*\) \{$", text, re.M), "tool")
     if end == ".txt":
         return dict.fromkeys(re.findall(r"^name: (.+)$", text, re.M), "test")
     if end == ".md":
