@@ -5,7 +5,7 @@
 #include <stdlib.h>
 #include <string.h>
 
-enum { ACROSS = 64, MOST_PLACES = 800, MOST_TAKEN = CHARTS * MOST + 64 };
+enum { ACROSS = 64, MOST_PLACES = 1300, MOST_TAKEN = CHARTS * MOST + 64 };
 enum { PARTS = 11, FINER_ON_SHEET = 40, FINER_AT_HELM = 27 };  /* of a triangle's side; the helm has less time */
 static const double ENOUGH = 1.6;       /* a label with this much of its own size around it wants no more */
 
