@@ -5,7 +5,8 @@
 #include <stdlib.h>
 #include <string.h>
 
-enum { ACROSS = 64, MOST_PLACES = 800, MOST_TAKEN = CHARTS * MOST + 64 };
+enum { ACROSS = 64, MOST_PLACES = 1300, MOST_TAKEN = CHARTS * MOST + 64 };
+enum { PARTS = 11, FINER_ON_SHEET = 40, FINER_AT_HELM = 27 };  /* of a triangle's side; the helm has less time */
 static const double ENOUGH = 1.6;       /* a label with this much of its own size around it wants no more */
 
 typedef struct { point a, b; double wide; } segment;       /* wide: by how much more than a side it reaches to each hand */
@@ -177,14 +178,14 @@ static int lattice(point a, point b, point c, int parts, point *out) {
 }
 
 /* Places inside the shape: the middle and a lattice; of a triangle that is whole in view, 45 and the incentre. */
-static int places(const shape *s, bool fine, point out[MOST_PLACES]) {
+static int places(const shape *s, int parts, point out[MOST_PLACES]) {
     int n = 1;
     if (s->n == 3) {
         out[0] = incentre(s);
-        return n + lattice(s->at[0], s->at[1], s->at[2], fine ? 27 : 11, out + n);
+        return n + lattice(s->at[0], s->at[1], s->at[2], parts, out + n);
     }
     out[0] = shape_middle(s);
-    for (int k = 0; k < s->n; k++) n += lattice(out[0], s->at[k], s->at[(k + 1) % s->n], fine ? 12 : 6, out + n);
+    for (int k = 0; k < s->n; k++) n += lattice(out[0], s->at[k], s->at[(k + 1) % s->n], parts / 3 + 3, out + n);
     return n;
 }
 
@@ -238,13 +239,14 @@ static bool place(page *p, lookup *g, const wish *w) {
     const shape *s = &p->seen[w->chart][w->triangle];
     step steps[STEPS];
     int count = label_steps(p, w->chart, w->first, steps), n[2] = { 0, 0 };
+    int finer = p->v->layout == LAYOUT_SHEET ? FINER_ON_SHEET : FINER_AT_HELM;
     label l = { w->chart, w->triangle, { 0, 0 }, { 0, false } };
     find_near(g, s);
     for (int k = 0; k < count; k++)
         for (int fine = 0; fine < 2; fine++) {
             l.as = steps[k];
             trial t = trial_of(g, s, &l);
-            if (!n[fine]) n[fine] = places(s, fine == 1, g->places[fine]);
+            if (!n[fine]) n[fine] = places(s, fine ? finer : PARTS, g->places[fine]);
             if (!best_place(g, &t, g->places[fine], n[fine], sqrt(w->size), &l.at)) continue;
             keep_label(p, g, l);
             return true;
