@@ -54,7 +54,8 @@ typedef struct {
     point small_at[JIRD_MOST_PAIRS];
     size_t smalls;
     side sides[CHARTS][MOST_SIDES];         /* each once */
-    size_t side_count[CHARTS];
+    side common[CHARTS * MOST_SIDES];       /* what both charts have of them */
+    size_t side_count[CHARTS], common_count;
     label labels[CHARTS * MOST];
     size_t label_count, left_out[CHARTS];
     double most_height[CHARTS];             /* of labels without frames on a sheet */
@@ -94,6 +95,7 @@ void ink_at(const page *p, colour c, double strength);
 
 /* sides.c */
 void find_sides(page *p, int chart);
+void find_common_sides(page *p);
 void paint_bed_sides(const page *p);
 void paint_design_sides(const page *p);
 void paint_triangle_sides(const page *p, int chart, size_t i, double width);

@@ -96,6 +96,7 @@ bool plan_ready(page *p, box area, box window, bool fill_area) {
     find_paired(p);
     thin_lines(p);
     for (int chart = 0; chart < CHARTS; chart++) find_sides(p, chart);
+    find_common_sides(p);
     find_directions(p);
     if (p->style.least_ground > 0) find_small_grounds(p);
     find_label_sizes(p);

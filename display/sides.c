@@ -31,15 +31,20 @@ static lined line_of(point p, point q) {
 
 static int order(int64_t a, int64_t b) { return a < b ? -1 : a > b; }
 
-static int by_line(const void *a, const void *b) {
-    const lined *l = a, *m = b;
-    int64_t parts[5][2] = { { l->ux, m->ux }, { l->uy, m->uy }, { l->off, m->off }, { l->s.ax, m->s.ax }, { l->s.ay, m->s.ay } };
-    for (int k = 0; k < 5; k++)
-        if (parts[k][0] != parts[k][1]) return order(parts[k][0], parts[k][1]);
-    return 0;
+/* The order of the two lines, 0 where they are one. */
+static int line_order(const lined *l, const lined *m) {
+    if (l->ux != m->ux) return order(l->ux, m->ux);
+    return l->uy != m->uy ? order(l->uy, m->uy) : order(l->off, m->off);
 }
 
-static bool one_line(const lined *l, const lined *m) { return l->ux == m->ux && l->uy == m->uy && l->off == m->off; }
+static int by_line(const void *a, const void *b) {
+    const lined *l = a, *m = b;
+    int lines = line_order(l, m);
+    if (lines) return lines;
+    return l->s.ax != m->s.ax ? order(l->s.ax, m->s.ax) : order(l->s.ay, m->s.ay);
+}
+
+static bool one_line(const lined *l, const lined *m) { return line_order(l, m) == 0; }
 
 /* Fills p->sides of the chart: sorted, joined, sides without length left out. */
 void find_sides(page *p, int chart) {
@@ -65,6 +70,25 @@ void find_sides(page *p, int chart) {
     }
     p->side_count[chart] = kept;
     free(all);
+}
+
+static lined line_again(const side *s) { return line_of((point){ s->ax, s->ay }, (point){ s->bx, s->by }); }
+
+/* Fills p->common: the parts of sides that both charts have. The sides of each are in the order of their lines. */
+void find_common_sides(page *p) {
+    size_t i = 0, j = 0;
+    p->common_count = 0;
+    while (i < p->side_count[BED] && j < p->side_count[DESIGN]) {
+        lined l = line_again(&p->sides[BED][i]), m = line_again(&p->sides[DESIGN][j]);
+        int lines = line_order(&l, &m);
+        side both = before(l.s.ax, l.s.ay, m.s.ax, m.s.ay) ? m.s : l.s;
+        bool bed_ends = before(l.s.bx, l.s.by, m.s.bx, m.s.by);
+        both.bx = bed_ends ? l.s.bx : m.s.bx;
+        both.by = bed_ends ? l.s.by : m.s.by;
+        if (lines == 0 && before(both.ax, both.ay, both.bx, both.by)) p->common[p->common_count++] = both;
+        if (lines < 0 || (lines == 0 && bed_ends)) i++;
+        else j++;
+    }
 }
 
 /* The part of the side that may be seen; where it starts, from the side's own start, in `skipped`. */
@@ -130,10 +154,15 @@ void paint_bed_sides(const page *p) {
     paint_corners(p, BED);
 }
 
+/* Where the bed has the same side, it is seen in the gaps of the dashes. */
 void paint_design_sides(const page *p) {
     trace_sides(p, p->sides[DESIGN], p->side_count[DESIGN]);
     ink(p, p->ink->ground);
     cairo_set_line_width(p->to, p->style.line[DESIGN] + p->style.underline);
+    cairo_stroke(p->to);
+    trace_sides(p, p->common, p->common_count);
+    ink(p, p->ink->chart[BED]);
+    cairo_set_line_width(p->to, p->style.line[BED]);
     cairo_stroke(p->to);
     ink(p, p->ink->chart[DESIGN]);
     dash_sides(p, p->sides[DESIGN], p->side_count[DESIGN], p->style.line[DESIGN]);
