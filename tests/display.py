@@ -12,7 +12,8 @@ streams, streams that the reference model draws from a fixed seed, the example p
   - the same input gives other bytes of PDF or SVG, or the picture of the README is not what the display draws: blocks of 8 by 8
     pixels are compared by their mean colour, so that another version of the font or of cairo does not matter, and a line elsewhere does;
   - --watch draws another picture than --head of the same position, or not the newest, or leaves half a picture or a part of one;
-  - an option, an error or a missing package has another status or message than is said."""
+  - an option, an error or a missing package has another status or message than is said;
+  - the installed display does not find what it needs, or is left after make uninstall."""
 
 import json
 import os
@@ -584,6 +585,20 @@ def test_stored_picture(folder):
         count("stored pictures")
 
 
+def test_installed(folder):
+    """make install puts the display where it finds chartkey; make uninstall takes it away."""
+    to = os.path.join(folder, "usr")
+    place = {**{k: v for k, v in os.environ.items() if not k.startswith("CHARTKEY")}, "PREFIX": "/usr", "DESTDIR": folder}
+    for word in ("install", "uninstall"):
+        done = subprocess.run(["bash", "library/install.sh", word], cwd=ROOT, env=place, capture_output=True, text=True)
+        same(f"make {word}: {done.stdout}{done.stderr}", done.returncode, 0)
+        if word == "install":
+            drawn = subprocess.run([os.path.join(to, "bin", "helm-display"), "-o", "basin.pdf", BASIN], cwd=folder, env=place, timeout=WAIT)
+            same("the installed display draws a paper", (drawn.returncode, read(os.path.join(folder, "basin.pdf"))[:5]), (0, b"%PDF-"))
+            count("installed programs")
+    same("what is left after make uninstall", os.path.exists(to), False)
+
+
 # ---- watch
 
 
@@ -702,13 +717,13 @@ def main():
     need()
     build()
     with tempfile.TemporaryDirectory() as folder:
-        places = [os.path.join(folder, name) for name in ("forms", "again", "fake", "pictures")]
+        places = [os.path.join(folder, name) for name in ("forms", "again", "fake", "pictures", "installed")]
         for place in places:
             os.mkdir(place)
         first, begun = draw_forms(places[0]), time.time()
         parts = [(test_reports,), (test_papers, folder), (test_damaged,), (test_options, folder), (test_outputs, folder)]
         parts += [(test_ink, folder), (test_stored_picture, places[3]), (test_watch, folder), (test_valgrind, folder)]
-        parts += [(test_no_cairo, places[2])]
+        parts += [(test_no_cairo, places[2]), (test_installed, places[4])]
         for part, *given in parts:
             start = time.monotonic()
             part(*given)
