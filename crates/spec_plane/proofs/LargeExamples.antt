@@ -4,7 +4,8 @@ use mathlib.Core.Path.{_≡_, refl}
 use mathlib.Core.Bool.{true, false}
 use mathlib.Core.List.{List, [], _∷_, map}
 use Rattle.spec_plane.specs.declared.Point.{Point}
-use Rattle.spec_plane.specs.Triangle.{cornerAt, rotated}
+use Rattle.spec_plane.specs.Point.{orient}
+use Rattle.spec_plane.specs.Triangle.{cornerAt, rotated, doubledArea}
 use Rattle.spec_plane.specs.Box.{apart, triangleBox}
 use Rattle.spec_plane.proofs.Examples.{at, tri, box}
 
@@ -46,3 +47,7 @@ rotated-large :
     ≡ map (λ i. rotated three i) (1 ∷ 2 ∷ 1 ∷ 1 ∷ 0 ∷ 1 ∷ 0 ∷ 0 ∷ 2 ∷ 0 ∷ 2 ∷ 2 ∷ [])
 unfolding rotated cornerAt
 rotated-large = refl
+
+area-large : doubledArea (tri 0 0 100000 0 7 100003) ≡ 10000300000
+unfolding doubledArea orient
+area-large = refl

@@ -107,3 +107,7 @@ run-end-keys = record {
     below : (i : ℕ) → 0 ≤ i → i < 1 → getD (6000000007 ∷ 8000000009 ∷ []) i 0 < 7000000001
     below zero h k = omega arith
     below (suc i) h k = absurd (omega arith)
+
+-- the end of a cell, with places beyond 32 bits: after the last key all places have the same
+cell-end-large : CellEnd [] 5000000004 5000000003 5000000004
+cell-end-large = record { after = omega arith; within = omega arith; same = λ i h k. refl; other = λ h e. omega arith }
