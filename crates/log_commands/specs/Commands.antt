@@ -6,10 +6,12 @@ use Prim.Native.Nat.{ℕ, _+_, _%_, _≤_}
 use lib.ListN.{length, getD, take, drop}
 use Rattle.spec_charts.specs.Table.{numbersPerTriangle, tableLength}
 use Rattle.spec_calls.specs.Buffers.{Chart}
+use Rattle.spec_calls.specs.Lent.{Lent}
 use Rattle.spec_log.specs.Log.{State, Step, waitStep, loadStep, stepOf}
 use Rattle.log_lines.specs.Bytes.{Wrote}
 use Rattle.log_state.specs.State.{Charts, Ran}
-use Rattle.log_events.specs.Both.{Both}
+use Rattle.log_events.specs.declared.BothCounts.{BothCounts}
+use Rattle.log_events.specs.Both.{Both, bothGiven, bothLeft}
 
 -- n is a number of numbers that wait: whole triangles, at most 512
 pub record Whole (n : ℕ) : Type 0 where
@@ -59,3 +61,19 @@ RanEdit held b b′ at next before after = (s : State) → Charts s (b .first) (
 abbrev pub RanHeld : List ℕ → Both → List ℕ → ℕ → Both → List ℕ → ℕ → ℕ → ℕ → List ℕ → List ℕ → Type 0
 RanHeld held b waiting n b′ waiting′ n′ at next before after = (s : State) → Running s (b .first) (b .second) waiting n
     → RanCommand (stepOf (getD held 0 0) (drop 1 held) s) at next before after (b′ .first) (b′ .second) waiting′ n′
+
+-- the lists of both charts that a caller lends: with their counts, the charts at entry and at exit
+pub record BothLent : Type 0 where
+  pub entry : BothCounts → Both
+  pub exit : BothCounts → Both
+
+abbrev pub lentBoth : Lent → Lent → Lent → Lent → Lent → Lent → Lent → Lent → BothLent
+lentBoth table0 keys0 levels0 items0 table1 keys1 levels1 items1 = record {
+  entry = bothGiven table0 keys0 levels0 items0 table1 keys1 levels1 items1;
+  exit = bothLeft table0 keys0 levels0 items0 table1 keys1 levels1 items1;
+}
+
+-- any command was made on lent lists: the counts n became n′, and how many numbers wait w became w′
+abbrev pub RanLent : List ℕ → BothLent → BothCounts → BothCounts → Lent → ℕ → ℕ → Lent → ℕ → ℕ → Type 0
+RanLent held charts n n′ waiting w w′ out at next =
+    RanHeld held (charts .entry n) (waiting .entry .now) w (charts .exit n′) (waiting .exit .now) w′ at next (out .entry .now) (out .exit .now)

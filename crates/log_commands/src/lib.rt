@@ -12,7 +12,7 @@ ghost use Rattle.spec_log.specs.Log.{wordsOf};
 ghost use Rattle.log_events.specs.Both.{bothGiven, bothLeft};
 ghost use Rattle.log_events.specs.Events.{lineRoom};
 ghost use Rattle.log_readers.specs.Readers.{overlayRoom};
-ghost use Rattle.log_commands.specs.Commands.{Whole, waitingLength, Waited, RanLoad, RanEdit, RanHeld};
+ghost use Rattle.log_commands.specs.Commands.{Whole, waitingLength, Waited, RanLoad, RanEdit, lentBoth, RanLent};
 
 // The numbers before those of the waiting table, so that with them it is the call that loads it.
 const CALL_HEAD: usize = 2;
@@ -161,7 +161,7 @@ pub fn run_command(
     at: usize,
 ) -> Done
     requires { ⌜ Whole waits × ((waitingLength ≤ length (now waiting)) × ((pairsLength ≤ length (now pairs)) × (at + overlayRoom ≤ length (now out)))) ⌝ }
-    ensures { λ r. ⌜ RanHeld (now (held .entry)) (bothGiven table0 keys0 levels0 items0 table1 keys1 levels1 items1 counts) (now (waiting .entry)) waits (bothLeft table0 keys0 levels0 items0 table1 keys1 levels1 items1 (r .counts)) (now (waiting .exit)) (r .waits) at (r .at) (now (out .entry)) (now (out .exit)) ⌝ }
+    ensures { λ r. ⌜ RanLent (now (held .entry)) (lentBoth table0 keys0 levels0 items0 table1 keys1 levels1 items1) counts (r .counts) waiting waits (r .waits) out at (r .at) ⌝ }
     ensures { λ r. ⌜ (r .at ≤ length (now (out .exit))) × Whole (r .waits) ⌝ }
 {
     let b = held[0];

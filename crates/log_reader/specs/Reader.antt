@@ -6,12 +6,13 @@ use mathlib.Core.List.{List}
 use Prim.Native.Nat.{ℕ, _+_, _≤_, _<_}
 use lib.ListN.{length, take}
 use Rattle.spec_calls.specs.Buffers.{Chart, tooShort}
+use Rattle.spec_calls.specs.Lent.{Lent}
 use Rattle.log_portions.specs.Portions.{Reading, startReading, Fed}
 use Rattle.log_lines.specs.Bytes.{Wrote}
 use Rattle.log_events.specs.declared.BothCounts.{BothCounts}
 use Rattle.log_events.specs.Both.{Both}
 use Rattle.log_readers.specs.Readers.{overlayRoom}
-use Rattle.log_commands.specs.Commands.{Whole, Running}
+use Rattle.log_commands.specs.Commands.{Whole, Running, BothLent}
 use Rattle.log_reader.specs.declared.Reader.{Reader}
 
 -- there are 13 places for bytes and one of them is free, and whole triangles wait
@@ -45,6 +46,11 @@ pub record ReadOn (r : Reader) (n room : ℕ) (r′ : Reader) (used at : ℕ) : 
 abbrev pub FedFrom : (Reading → Fed) → Reader → Both → List ℕ → Reader → Both → List ℕ → ℕ → ℕ → List ℕ → List ℕ → Type 0
 FedFrom f r b waiting r′ b′ waiting′ at next before after = (q : Reading) → Keeps q r (b .first) (b .second) waiting
     → FedAs (f q) at next before after r′ (b′ .first) (b′ .second) waiting′
+
+-- the same on lent lists
+abbrev pub FedLent : (Reading → Fed) → Reader → Reader → BothLent → Lent → Lent → ℕ → ℕ → Type 0
+FedLent f r r′ charts waiting out at next =
+    FedFrom f r (charts .entry (r .counts)) (waiting .entry .now) r′ (charts .exit (r′ .counts)) (waiting .exit .now) at next (out .entry .now) (out .exit .now)
 
 -- the counts of charts that are not begun
 abbrev pub noCounts : BothCounts

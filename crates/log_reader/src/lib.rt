@@ -12,8 +12,8 @@ ghost use Rattle.log_lines.specs.Bytes.{Wrote};
 ghost use Rattle.log_events.specs.Both.{bothGiven, bothLeft};
 ghost use Rattle.log_events.specs.Events.{lineRoom};
 ghost use Rattle.log_readers.specs.Readers.{overlayRoom};
-ghost use Rattle.log_commands.specs.Commands.{waitingLength};
-ghost use Rattle.log_reader.specs.Reader.{Ready, FedFrom, noCounts, Begun, ReadOn};
+ghost use Rattle.log_commands.specs.Commands.{waitingLength, lentBoth};
+ghost use Rattle.log_reader.specs.Reader.{Ready, FedLent, noCounts, Begun, ReadOn};
 
 // What is kept between two bytes: the bytes of a command that is not whole and how many they are, the offset of the next command
 // byte, whether `bad` was printed, how many numbers wait, and the counts of both charts.
@@ -100,7 +100,7 @@ fn feed_byte(
 ) -> Fed
     requires { ⌜ Ready reader × ((reader .ended ≡ false) × (reader .offset + 13 < 2 ^ 64)) ⌝ }
     requires { ⌜ (waitingLength ≤ length (now waiting)) × ((pairsLength ≤ length (now pairs)) × (at + overlayRoom ≤ length (now out))) ⌝ }
-    ensures { λ r. ⌜ FedFrom (λ q. feedByte x q) reader (bothGiven table0 keys0 levels0 items0 table1 keys1 levels1 items1 (reader .counts)) (now (waiting .entry)) (r .reader) (bothLeft table0 keys0 levels0 items0 table1 keys1 levels1 items1 (r .reader .counts)) (now (waiting .exit)) at (r .at) (now (out .entry)) (now (out .exit)) ⌝ }
+    ensures { λ r. ⌜ FedLent (λ q. feedByte x q) reader (r .reader) (lentBoth table0 keys0 levels0 items0 table1 keys1 levels1 items1) waiting out at (r .at) ⌝ }
     ensures { λ r. ⌜ Ready (r .reader) × ((r .at ≤ length (now (out .exit))) × (r .reader .offset + r .reader .count ≤ reader .offset + reader .count + 1)) ⌝ }
 {
     let count = reader.count;
@@ -175,7 +175,7 @@ pub fn read_portion(
 ) -> Portion
     requires { ⌜ Ready reader × (reader .offset + reader .count + length (now input) + 13 < 2 ^ 64) ⌝ }
     requires { ⌜ (waitingLength ≤ length (now waiting)) × (pairsLength ≤ length (now pairs)) ⌝ }
-    ensures { λ r. ⌜ FedFrom (λ q. feed (take (r .used) (now (input .entry))) q) reader (bothGiven table0 keys0 levels0 items0 table1 keys1 levels1 items1 (reader .counts)) (now (waiting .entry)) (r .reader) (bothLeft table0 keys0 levels0 items0 table1 keys1 levels1 items1 (r .reader .counts)) (now (waiting .exit)) 0 (r .at) (now (out .entry)) (now (out .exit)) ⌝ }
+    ensures { λ r. ⌜ FedLent (λ q. feed (take (r .used) (now (input .entry))) q) reader (r .reader) (lentBoth table0 keys0 levels0 items0 table1 keys1 levels1 items1) waiting out 0 (r .at) ⌝ }
     ensures { λ r. ⌜ ReadOn reader (length (now (input .entry))) (length (now (out .exit))) (r .reader) (r .used) (r .at) ⌝ }
 {
     let mut kept = reader;

@@ -4,9 +4,7 @@ use base_answers::Overlaid;
 use replay_lists::Counts;
 use replay_lists::run_history;
 ghost use mathlib.Core.Path.{_≡_};
-ghost use Rattle.spec_calls.specs.Lent.{given, leftChart};
-ghost use Rattle.base_answers.specs.Outcomes.{leftPairs};
-ghost use Rattle.replay.specs.Replay.{Replayed};
+ghost use Rattle.replay.specs.Replay.{lentChart, ReplayedLent};
 
 // The counts of both charts, and the overlay's answer.
 pub struct ReplayAnswer {
@@ -43,7 +41,7 @@ pub fn replay(
     entries1: usize,
     pairs: &mut [u16],
 ) -> ReplayAnswer
-    ensures { λ r. ⌜ Replayed (given table0 keys0 levels0 items0 triangles0 entries0) (given table1 keys1 levels1 items1 triangles1 entries1) (now (pairs .entry)) (now (calls0 .entry)) (now (calls1 .entry)) (leftChart table0 keys0 levels0 items0 (r .first .triangles) (r .first .entries)) (leftChart table1 keys1 levels1 items1 (r .second .triangles) (r .second .entries)) (leftPairs pairs (r .overlaid)) ⌝ }
+    ensures { λ r. ⌜ ReplayedLent calls0 (lentChart table0 keys0 levels0 items0) triangles0 entries0 calls1 (lentChart table1 keys1 levels1 items1) triangles1 entries1 pairs r ⌝ }
 {
     let first = run_history(calls0, table0, keys0, levels0, items0, triangles0, entries0);
     let second = run_history(calls1, table1, keys1, levels1, items1, triangles1, entries1);
