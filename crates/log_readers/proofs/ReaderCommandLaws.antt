@@ -39,21 +39,11 @@ unfolding chartIn
 in-second zero d e p z = absurd (z refl)
 in-second (suc c) d e p z = refl
 
-found-number : (o : Option ℕ) → foundNumber o ∷ [] ≡ locatedNumbers o
-unfolding locatedNumbers
-found-number none = refl
-found-number (some i) = refl
-
-pub locate-printed : (c : ℕ) (p : Point) (l : Located) {n f : ℕ} {d e : Chart} → locatedOf l ≡ locateCall (chartIn c d e) p
-    → n ≡ outcomeNumber (locatedOutcome l) → f ≡ foundNumber (locatedOf l .found)
-    → (s : State) → Charts s d e → line 6 (n ∷ f ∷ []) ≡ locateStep c p s .printed
-unfolding chartIn locateStep tableIn
-locate-printed zero p l q i j s h =
-    let g = q ∙ locate-told (h .first) p in
-    ap₂ (λ n ns. line 6 (n ∷ ns)) (i ∙ ap (λ x. x .number) g) (ap (λ m. m ∷ []) j ∙ found-number (locatedOf l .found) ∙ ap (λ x. locatedNumbers (x .found)) g)
-locate-printed (suc c) p l q i j s h =
-    let g = q ∙ locate-told (h .second) p in
-    ap₂ (λ n ns. line 6 (n ∷ ns)) (i ∙ ap (λ x. x .number) g) (ap (λ m. m ∷ []) j ∙ found-number (locatedOf l .found) ∙ ap (λ x. locatedNumbers (x .found)) g)
+pub locate-printed : (c : ℕ) (p : Point) {l : Calls.Located} {d e : Chart} → l ≡ locateCall (chartIn c d e) p
+    → (s : State) → Charts s d e → locatedLine l ≡ locateStep c p s .printed
+unfolding chartIn locateStep tableIn locatedLine
+locate-printed zero p q s h = ap locatedLine (q ∙ locate-told (h .first) p)
+locate-printed (suc c) p q s h = ap locatedLine (q ∙ locate-told (h .second) p)
 
 -- ---- command 7
 
@@ -91,8 +81,3 @@ lines-done o h z f g = rw (eq-eqb (o .number) 0 (sym h ∙ z), z, f, g)
 pub lines-refused : (o : Calls.Overlaid) {n : ℕ} → n ≡ o .number → (n ≡ 0 → ⊥) → line 7 (n ∷ []) ≡ overlaidLines o
 unfolding overlaidLines
 lines-refused o h z = rw (ne-eqb (o .number) 0 (λ q. z (h ∙ q)), h)
-
--- the first line of an overlay has at most 84 bytes
-pub head-short : (n i j : ℕ) → n < 2 ^ 64 → i < 2 ^ 64 → j < 2 ^ 64 → length (line 7 (n ∷ i ∷ j ∷ [])) ≤ 84
-head-short n i j h k l =
-    omega (arith, line-short 7 (n ∷ i ∷ j ∷ []) (omega arith) (every-cons (h, every-cons (k, every-cons (l, every-nil (λ m. m < 2 ^ 64))))))
