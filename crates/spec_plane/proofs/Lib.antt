@@ -4,5 +4,6 @@ pub mod OrientLaws
 pub mod SideLaws
 pub mod ExtremeLaws
 pub mod InteriorLaws
+pub mod PositionLaws
 pub mod Examples
 pub mod LargeExamples
