@@ -7,3 +7,4 @@ pub mod InteriorLaws
 pub mod PositionLaws
 pub mod Examples
 pub mod LargeExamples
+pub mod PositionExamples

@@ -24,6 +24,13 @@ pub onLine-sums : (q r p : Point) → onLine q r p ≡ eqb (orientLow q r p) (or
 unfolding onLine
 onLine-sums q r p = diff-zero (orient-difference q r p)
 
+-- both ends of a side are on its line
+pub onLine-start : (q r : Point) → onLine q r q ≡ true
+onLine-start q r = onLine-sums q r q ∙ eq-eqb (orientLow q r q) (orientHigh q r q) (omega arith)
+
+pub onLine-end : (q r : Point) → onLine q r r ≡ true
+onLine-end q r = onLine-sums q r r ∙ eq-eqb (orientLow q r r) (orientHigh q r r) (omega arith)
+
 above : (l h : ℕ) → ltb l h ≡ leb l h && not (eqb l h)
 above l h = elim (decLe l h) [
   | yes g ↦ elim (decLe h l) [
@@ -34,7 +41,7 @@ above l h = elim (decLe l h) [
 ]
 
 -- D > 0 where D ≥ 0 and D is not zero
-positive-nonzero : (q r p : Point) → ltZ (pos 0) (orient q r p) ≡ leZ (pos 0) (orient q r p) && not (onLine q r p)
+pub positive-nonzero : (q r p : Point) → ltZ (pos 0) (orient q r p) ≡ leZ (pos 0) (orient q r p) && not (onLine q r p)
 positive-nonzero q r p =
     orient-positive q r p
     ∙ above (orientLow q r p) (orientHigh q r p)
