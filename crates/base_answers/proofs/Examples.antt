@@ -10,7 +10,7 @@ use Rattle.spec_charts.specs.Refusals.{refused, done}
 use Rattle.spec_charts.proofs.RefusalsExamples.{rows}
 use Rattle.spec_calls.specs.Buffers.{chartOf}
 use Rattle.spec_calls.specs.Calls as Calls
-use Rattle.base_answers.specs.Outcomes.{verdictOutcome, changedOf, locatedOutcome, locatedPosition, locatedOf, foundNumber, soundnessOutcome, soundnessOf, areaOutcome, areaOf, overlaidOf}
+use Rattle.base_answers.specs.Outcomes.{verdictOutcome, changedOf, locatedOutcome, locatedPosition, locatedOf, foundNumber, isFound, soundnessOutcome, soundnessOf, areaOutcome, areaOf, overlaidOf}
 use Rattle.base_answers.specs.declared.Verdict.{Verdict}
 use Rattle.base_answers.specs.declared.Verdict.the-variants as verdicts
 use Rattle.base_answers.specs.declared.Changed.{Changed}
@@ -85,6 +85,9 @@ located-example = refl
 
 found-number-example : map (λ r. foundNumber (locatedOf r .found)) allLocated ≡ 9 ∷ 0 ∷ 40031 ∷ 65535 ∷ 65535 ∷ 65535 ∷ []
 found-number-example = refl
+
+is-found-example : map (λ r. isFound (locatedOf r .found)) allLocated ≡ true ∷ true ∷ true ∷ false ∷ false ∷ false ∷ []
+is-found-example = refl
 
 -- Soundness
 

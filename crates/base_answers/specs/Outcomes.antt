@@ -59,6 +59,11 @@ abbrev pub foundNumber : Option ℕ → ℕ
 foundNumber none = 65535
 foundNumber (some i) = i
 
+-- whether a triangle was found
+abbrev pub isFound : Option ℕ → Bool
+isFound none = false
+isFound (some i) = true
+
 -- soundness: done with yes or no, or refused
 abbrev pub soundnessOutcome : Soundness → Outcome Bool
 soundnessOutcome soundnesses.Sound = done true

@@ -6,7 +6,7 @@ ghost use mathlib.Core.Path.{_≡_};
 ghost use mathlib.Core.Bool.{false};
 ghost use mathlib.Core.Option.{none};
 ghost use Rattle.spec_charts.specs.Refusals.{rowOf, outcomeNumber, outcomeValue, doneOr};
-ghost use Rattle.base_answers.specs.Outcomes.{verdictOutcome, locatedOutcome, locatedPosition, foundNumber, soundnessOutcome, areaOutcome};
+ghost use Rattle.base_answers.specs.Outcomes.{verdictOutcome, locatedOutcome, locatedPosition, foundNumber, isFound, soundnessOutcome, areaOutcome};
 
 // How judging a chart, a load, an edit or an overlay went.
 pub enum Verdict {
@@ -130,6 +130,17 @@ pub fn located_triangle(l: Located) -> u16
         Located::At(i, _) => i,
         Located::Nowhere => NOWHERE,
         Located::Refused(_) => NOWHERE,
+    }
+}
+
+// Whether it found a triangle.
+pub fn is_found(l: Located) -> bool
+    ensures { λ b. ⌜ b ≡ isFound (doneOr none (locatedOutcome l)) ⌝ }
+{
+    match l {
+        Located::At(_, _) => true,
+        Located::Nowhere => false,
+        Located::Refused(_) => false,
     }
 }
 

@@ -1,7 +1,7 @@
 -- Commands 6 and 7 on charts that hold the tables of a state: what they print.
 -- Assumes nothing.
 use mathlib.Core.Path.{_≡_, refl, sym, _∙_, ap, ap₂}
-use mathlib.Core.Bool.{Bool, true, false}
+use mathlib.Core.Bool.{Bool, true, false, true≢false}
 use mathlib.Core.List.{List, [], _∷_, _++_}
 use mathlib.Core.Option.{Option, none, some}
 use Prim.Native.Nat.{ℕ, zero, suc, _^_, _≤_, _<_}
@@ -12,6 +12,7 @@ use lib.ListN.{length}
 use Rattle.theory_lists.proofs.ListsLaws.{every-cons}
 use Rattle.theory_lists.proofs.EveryLaws.{every-nil}
 use Rattle.spec_plane.specs.declared.Point.{Point}
+use Rattle.spec_plane.specs.Position.{positionNumber}
 use Rattle.spec_charts.specs.declared.Refusal.{Refusal}
 use Rattle.spec_charts.specs.declared.Refusal.the-variants.{TooManyPairs}
 use Rattle.spec_charts.specs.Refusals.{Outcome, done, refuseIf, outcomeNumber}
@@ -21,10 +22,11 @@ use Rattle.spec_calls.specs.Calls.{locateCall, overlayCall, overlaidBy}
 use Rattle.spec_calls.specs.Calls as Calls
 use Rattle.spec_log.specs.Log.{State, line, tableIn, locatedNumbers, locateStep, overlayStep}
 use Rattle.base_answers.specs.declared.Located.{Located}
-use Rattle.base_answers.specs.Outcomes.{locatedOutcome, locatedOf, foundNumber}
+use Rattle.base_answers.specs.declared.Located.the-variants as locations
+use Rattle.base_answers.specs.Outcomes.{locatedOf, foundNumber, isFound}
 use Rattle.log_lines.specs.Bytes.{pairLines}
 use Rattle.log_lines.proofs.LineLaws.{line-short}
-use Rattle.log_state.specs.State.{Charts, chartIn, overlaidLines}
+use Rattle.log_state.specs.State.{Charts, chartIn, locatedLine, overlaidLines}
 use Rattle.log_state.proofs.HoldingLaws.{locate-told, overlay-told}
 
 -- ---- command 6
@@ -38,6 +40,22 @@ pub in-second : (c : ℕ) (d e : Chart) (p : Point) → (c ≡ 0 → ⊥) → lo
 unfolding chartIn
 in-second zero d e p z = absurd (z refl)
 in-second (suc c) d e p z = refl
+
+-- the line where a triangle was found, and where none was
+pub found-line : (l : Located) {n i k : ℕ} → isFound (locatedOf l .found) ≡ true
+    → n ≡ locatedOf l .number → i ≡ foundNumber (locatedOf l .found) → k ≡ positionNumber (locatedOf l .position)
+    → line 6 (n ∷ i ∷ k ∷ []) ≡ locatedLine (locatedOf l)
+unfolding locatedLine locatedNumbers
+found-line (locations.At i q) f g h e = rw (g, h, e)
+found-line locations.Nowhere f g h e = absurd (true≢false (sym f))
+found-line (locations.Refused r) f g h e = absurd (true≢false (sym f))
+
+pub nowhere-line : (l : Located) {n i : ℕ} → isFound (locatedOf l .found) ≡ false
+    → n ≡ locatedOf l .number → i ≡ foundNumber (locatedOf l .found) → line 6 (n ∷ i ∷ []) ≡ locatedLine (locatedOf l)
+unfolding locatedLine locatedNumbers
+nowhere-line (locations.At i q) f g h = absurd (true≢false f)
+nowhere-line locations.Nowhere f g h = rw (g, h)
+nowhere-line (locations.Refused r) f g h = rw (g, h)
 
 pub locate-printed : (c : ℕ) (p : Point) {l : Calls.Located} {d e : Chart} → l ≡ locateCall (chartIn c d e) p
     → (s : State) → Charts s d e → locatedLine l ≡ locateStep c p s .printed

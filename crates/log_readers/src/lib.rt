@@ -68,11 +68,12 @@ fn put_located(located: Located, out: &mut [u8], at: usize) -> usize
 {
     let number = base_answers::located_number(located) as u64;
     let triangle = numbers::wide(base_answers::located_triangle(located));
-    let Located::At(_, q) = located else {
-        let others = [number, triangle];
+    if base_answers::is_found(located) {
+        let q = base_answers::located_position(located);
+        let others = [number, triangle, numbers::wide(base_positions::position_number(q))];
         return put_line(6, &others, out, at);
-    };
-    let others = [number, triangle, numbers::wide(base_positions::position_number(q))];
+    }
+    let others = [number, triangle];
     put_line(6, &others, out, at)
 }
 
