@@ -10,7 +10,7 @@ use native.Mathlib.Omega.{arith}
 use lib.ListN.{length, getD}
 use Rattle.theory_lists.proofs.ListsLaws.{getD-member}
 use Rattle.spec_plane.specs.declared.Point.{Point}
-use Rattle.spec_plane.specs.declared.Position.the-variants.{AtC, Outside}
+use Rattle.spec_plane.specs.declared.Position.the-variants.{Inside, AtC, Outside}
 use Rattle.spec_squares.specs.declared.Square.{Square}
 use Rattle.spec_squares.specs.Square.{wholeSquare, topLeft, bottomLeft, bottomRight}
 use Rattle.spec_charts.specs.Table.{Table}
@@ -114,7 +114,11 @@ found-nowhere-example d p h e =
     let n = h .nowhere .1 (λ i l t. let z : i < 0 = subst (λ table. i < length table) e l in omega arith) in
     λ i. record { number = h .number i; found = n i; position = h .outside n i }
 
--- at the corner c of the triangle found, and nowhere else
+-- at corner c of triangle 0, and inside triangle 1, where each is found
 position-found-example : FoundUnder indexedA (at 60000 45000) → locateCall indexedA (at 60000 45000) .position ≡ AtC
 unfolding evaluate
 position-found-example h = h .position 0 refl AtC .1 refl
+
+inside-found-example : FoundUnder indexedA (at 50000 50000) → locateCall indexedA (at 50000 50000) .position ≡ Inside
+unfolding evaluate
+inside-found-example h = h .position 1 refl Inside .1 tt
