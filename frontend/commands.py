@@ -138,8 +138,8 @@ def shown(operand, value):
 # ---- printed values in words
 
 
-def in_key(field, value):
-    """A printed value as the key says it."""
+def for_people(field, value):
+    """A printed value for people."""
     if field.values:
         word, takes, which = field.values[value]
         return f"{word} {takes.what} {shown(takes, which)}" if takes else word

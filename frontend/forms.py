@@ -70,7 +70,7 @@ def answer(step):
         return f"REFUSED {step.number}: {meaning(step)}"
     row, values = step.call.row, step.values
     mark = commands.mark_of(row, values)
-    parts = [commands.in_key(field, values[field.name]) for field in row.prints if values[field.name] is not None]
+    parts = [commands.for_people(field, values[field.name]) for field in row.prints if values[field.name] is not None]
     parts += [mark.nothing] if mark else []
     if row.count is None:
         return ", ".join(parts)

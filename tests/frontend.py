@@ -392,7 +392,7 @@ def test_statuses(folder):
 # ---- positions
 
 TRIANGLE = b"triangle 10,20 50,20 30,60\nload bed\n"
-# each position as an answer, by its number: how the key says it, and a point of the triangle
+# each position as an answer, by its number: how people read it, and a point of the triangle
 POSITIONS = {
     "inside": ("inside", "30,30"),
     "on ab": ("on side ab", "20,20"),
