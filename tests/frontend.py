@@ -1,5 +1,6 @@
 #!/usr/bin/env python3
-"""Holds chartkey to what docs/PAPERS.md says of it: stored keys, exit statuses, messages, forms, schema, round trips, wrong logs.
+"""Holds chartkey to what docs/PAPERS.md says of it: stored keys, exit statuses, messages, positions, forms, schema, round trips,
+wrong logs.
 
 It draws random bytes, papers with a byte changed and streams from a fixed seed, and fails when chartkey ends with anything but a
 message and a status. `--store` writes the stored forms of examples/ anew, by the program given: look at what changed.
