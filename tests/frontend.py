@@ -392,6 +392,7 @@ def test_statuses(folder):
 
 # ---- positions
 
+DEFINED = os.path.join(ROOT, "crates", "spec_plane", "specs", "Position.antt")
 TRIANGLE = b"triangle 10,20 50,20 30,60\nload bed\n"
 # each position as an answer, by its number: how people read it, and a point of the triangle
 POSITIONS = {
@@ -408,6 +409,9 @@ POSITIONS = {
 def test_positions():
     """Every position in the log, the key and JSON; met where it is expected, and told where another is. Expectations that cannot be met
     together can be read, and all but one of them are not met."""
+    cases = re.findall(r"^positionNumber (\w)(\w*?)([A-Z]\w*)? = (\d+)$", read(DEFINED).decode(), re.M)
+    named = {int(n): f"{first}{rest} {name}".strip().lower() for first, rest, name, n in cases}
+    same("the numbers of positions by their definition", named, dict(enumerate([*POSITIONS, "outside"])))
     answers = [*POSITIONS, "nowhere"]
     for k, answer in enumerate(answers):
         said, at = POSITIONS.get(answer, (None, "30,61"))
