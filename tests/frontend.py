@@ -409,8 +409,8 @@ POSITIONS = {
 def test_positions():
     """Every position in the log, the key and JSON; met where it is expected, and told where another is. Expectations that cannot be met
     together can be read, and all but one of them are not met."""
-    cases = re.findall(r"^positionNumber (\w)(\w*?)([A-Z]\w*)? = (\d+)$", read(DEFINED).decode(), re.M)
-    named = {int(n): f"{first}{rest} {name}".strip().lower() for first, rest, name, n in cases}
+    cases = re.findall(r"^positionNumber (\w+) = (\d+)$", read(DEFINED).decode(), re.M)
+    named = {int(n): re.sub(r"\B(?=[A-Z])", " ", case).lower() for case, n in cases}
     same("the numbers of positions by their definition", named, dict(enumerate([*POSITIONS, "outside"])))
     answers = [*POSITIONS, "nowhere"]
     for k, answer in enumerate(answers):
