@@ -10,6 +10,7 @@ from .faults import FAILED, UNMET, WRONG, Fault, Faults, clean, listed, of_file,
 VARIABLE = "CHARTKEY_ENGINE"
 FORMS = ("--json", "--csv", "--log", "--bytes", "--from-bytes", "-q")
 PLAIN = ("--help", "-h", "--version")
+NO_BREAK = "\u00a0"  # a blank at which no line is broken
 VERBS = {"check": (None, "--json"), "numbers": (None,)}  # and the forms that each has
 
 # what is asked: a verb or None, a form or None, the paper or None for standard input, the program or None
@@ -38,10 +39,12 @@ a paper has a command a line; # starts a comment; a point is x,y:"""
     written += [commands.form(row) for row in commands.COMMANDS if row.count == commands.WAITS] + [paper.LINES["triangles"]]
     written += [commands.form(row) for row in commands.COMMANDS if row.count != commands.WAITS]
     rows = ["".join(f"{text:24}" for text in written[k : k + 3]) for k in range(0, len(written), 3)]
-    can = ", ".join(map(paper.answer_form, commands.all_expectations()))
+    can = ", ".join(paper.answer_form(e).replace(" ", NO_BREAK) for e in commands.all_expectations())
+    answers = "\n".join(forms.wrapped("    ", can.split(" "))).replace(NO_BREAK, " ")
     tail = f"""  expect ANSWER           of the command above: one of
-    {can}
-CHART is {' or '.join(commands.CHARTS)}; docs/PAPERS.md tells more
+{answers}
+{"; ".join(map(paper.names_told, commands.all_names()))}
+docs/PAPERS.md tells more
 exit status: 0 well, 1 refused, 2 wrong paper, 3 expectation not met, 4 failure
 """
     return head + "".join(f"\n  {row.rstrip()}" for row in rows) + "\n" + tail

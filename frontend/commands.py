@@ -11,8 +11,8 @@ MOST = 65535  # the largest 16-bit number, and the mark for nowhere
 MOST_WAITING = 512
 HEADING = "overlay log"
 
-# ---- operands: kind, name in JSON (None: a fixed word without bytes), how help writes it, what each of its numbers is
-Operand = namedtuple("Operand", "kind name letter what", defaults=(None,))
+# ---- operands: kind, name in JSON (None: it has no bytes), how help writes it, what each of its numbers or names is, and the names
+Operand = namedtuple("Operand", "kind name letter what names", defaults=(None, ()))
 # how many 16-bit numbers each kind has; a chart is one byte
 WIDTHS = {"number": 1, "point": 2}
 
@@ -29,14 +29,39 @@ def fixed(text):
     return Operand("fixed", None, text)
 
 
-CHART = Operand("chart", "chart", "CHART")
+CHART = Operand("chart", "chart", "CHART", "chart", CHARTS)
+
+# ---- what follows a word of an answer: a number, or one of some names
+N = number(None, "N", "the number expected")
+SIDE = Operand("name", None, "SIDE", "side", ("ab", "bc", "ca"))
+CORNER = Operand("name", None, "CORNER", "corner", ("a", "b", "c"))
+
+# ---- values that have words: a word, and which of the names that it takes
+Said = namedtuple("Said", "word takes which", defaults=(None, None))
+
+
+def said(word, takes=None):
+    """The values that a word stands for: one, or one for each name that it takes."""
+    return tuple(Said(word, takes, k) for k in range(len(takes.names))) if takes else (Said(word),)
+
+
+POSITIONS = said("inside") + said("on", SIDE) + said("at", CORNER)  # of a point in a triangle that holds it, from 0
 
 # ---- what is printed after the number 0. A field has its name in JSON, its word after `expect`, least and most (TRIANGLES: below the
-# chart's count), the words for one and for many, and the value that means nothing with its word; such a value ends the line.
-Field = namedtuple("Field", "name word least most one many mark nothing", defaults=(None, None))
+# chart's count), the words for one and for many, and the value that means nothing with its word; such a value ends the line. A field
+# whose values have words has these alone.
+Field = namedtuple("Field", "name word least most one many mark nothing values", defaults=(None, None, ()))
+
+
+def in_words(name, values):
+    """A field whose values, from 0, have words."""
+    return Field(name, None, 0, len(values) - 1, None, None, values=values)
+
+
 TRIANGLES = "triangles"
 ENTRIES = Field("entries", "entries", 1, 16384, "{} entry", "{} entries")
 FOUND = Field("found", "triangle", 0, TRIANGLES, "triangle {}", "triangle {}", MOST, "nowhere")
+POSITION = in_words("position", POSITIONS)
 PAIRS = Field("pairs", "pairs", 0, 4096, "{} pair", "{} pairs")
 MEETINGS = Field("meetings", "meetings", 1, 32767, "{} meeting", "{} meetings")
 
@@ -59,7 +84,7 @@ COMMANDS = (
     Command(3, "split", (CHART, number("triangle", "T"), fixed("at"), point("point", "P")), (ENTRIES,), (6, 7, 10, 11), 2),
     Command(4, "take-out", (CHART, point("point", "P")), (ENTRIES,), (8, 11), -2),
     Command(5, "flip", (CHART, number("i", "I"), number("j", "J")), (ENTRIES,), (6, 9, 11), 0),
-    Command(6, "locate", (CHART, point("point", "P")), (FOUND,), ()),
+    Command(6, "locate", (CHART, point("point", "P")), (FOUND, POSITION), ()),
     Command(7, "overlay", (), (PAIRS, MEETINGS), (12,), None, PAIRS),
 )
 
@@ -105,27 +130,54 @@ def written(row, values):
 
 
 def shown(operand, value):
-    if operand.kind == "chart":
-        return CHARTS[value]
+    if operand.names:
+        return operand.names[value]
     return "{},{}".format(*value) if operand.kind == "point" else str(value)
 
 
-def counted(field, value):
-    """A printed value in words."""
-    if value is None:
-        return field.nothing
+# ---- printed values in words
+
+
+def for_people(field, value):
+    """A printed value for people."""
+    if field.values:
+        word, takes, which = field.values[value]
+        return f"{word} {takes.what} {shown(takes, which)}" if takes else word
     return (field.one if value == 1 else field.many).format(value)
 
 
-# ---- expectations: word, the field that it is about (None: the number returned), whether a number follows
+def worded(word, takes, value):
+    """A word and what follows it, as they stand after `expect`."""
+    return f"{word} {shown(takes, value)}" if takes else word
+
+
+def in_answer(field, value):
+    """A printed value as it stands after `expect`."""
+    return worded(*field.values[value]) if field.values else worded(field.word, N, value)
+
+
+def in_json(field, value):
+    """A printed value in JSON."""
+    return in_answer(field, value) if field.values and value is not None else value
+
+
+def mark_of(row, values):
+    """The field whose value is a mark, which ended the line; or None."""
+    return next((field for field in row.prints if values[field.name] is None), None)
+
+
+# ---- expectations: word, the field that it is about (None: the number returned), what follows the word, or None
 Expectation = namedtuple("Expectation", "word field takes")
-ACCEPTED = Expectation("accepted", None, False)
-REFUSED = Expectation("refused", None, True)
+ACCEPTED = Expectation("accepted", None, None)
+REFUSED = Expectation("refused", None, N)
+# words that are no answers, and the word of the answer that is meant
+MEANT = {**{value.takes.what: value.word for value in POSITIONS if value.takes}, "outside": FOUND.nothing}
 
 
 def of_field(field):
     """What can be expected of a field."""
-    return [Expectation(field.word, field, True)] + ([Expectation(field.nothing, field, False)] if field.nothing else [])
+    words = [Expectation(value.word, field, value.takes) for value in field.values] or [Expectation(field.word, field, N)]
+    return list(dict.fromkeys(words)) + ([Expectation(field.nothing, field, None)] if field.nothing else [])
 
 
 def expectations(row):
@@ -136,3 +188,14 @@ def expectations(row):
 def all_expectations():
     """Each expectation once, in the order of the rows."""
     return list(dict.fromkeys(e for row in COMMANDS for e in expectations(row)))
+
+
+def all_names():
+    """The operands that are names, those of answers too, in the order of the rows."""
+    operands = [operand for row in COMMANDS for operand in row.operands] + [e.takes for e in all_expectations() if e.takes]
+    return list(dict.fromkeys(operand for operand in operands if operand.names))
+
+
+def choice(names, word):
+    """Names in a row, the last after a word."""
+    return f"{', '.join(names[:-1])} {word} {names[-1]}"

@@ -48,8 +48,9 @@ def found(expected, group):
     field = expected.wanted.field
     if field is None:
         return commands.ACCEPTED.word
-    value = group[0].values.get(field.name, "none")
-    return field.nothing if value is None else f"{field.word} {value}"
+    step = group[0]
+    value = step.values[field.name]
+    return commands.mark_of(step.call.row, step.values).nothing if value is None else commands.in_answer(field, value)
 
 
 def meaning(step):
@@ -67,8 +68,11 @@ def answer(step):
     """One command's answer."""
     if step.number:
         return f"REFUSED {step.number}: {meaning(step)}"
-    parts = [commands.counted(field, step.values[field.name]) for field in step.call.row.prints if field.name in step.values]
-    if step.call.row.count is None:
+    row, values = step.call.row, step.values
+    mark = commands.mark_of(row, values)
+    parts = [commands.for_people(field, values[field.name]) for field in row.prints if values[field.name] is not None]
+    parts += [mark.nothing] if mark else []
+    if row.count is None:
         return ", ".join(parts)
     count = step.counts[commands.chart_of(step.call)]
     return "accepted: " + ", ".join(([] if count is None else [plural(count, "triangle")]) + parts)
@@ -187,13 +191,13 @@ def step_json(step):
     call = step.call
     made = {"line": call.line, **({"from": call.where} if call.where else {}), "command": call.row.word}
     for operand, value in zip(commands.valued(call.row), call.values):
-        made[operand.name] = commands.CHARTS[value] if operand.kind == "chart" else value
+        made[operand.name] = commands.shown(operand, value) if operand.names else value
     made["number"] = step.number
     if step.number:
         return {**made, **step.values, "meaning": meaning(step)}
     if call.row.count is not None:
         made["triangles"] = step.counts[commands.chart_of(call)]
-    values = {name: value for name, value in step.values.items() if not call.row.lists or name != call.row.lists.name}
+    values = {field.name: commands.in_json(field, step.values[field.name]) for field in call.row.prints if field is not call.row.lists}
     return {**made, **values, **({call.row.lists.name: step.pairs} if call.row.lists else {})}
 
 

@@ -119,20 +119,21 @@ class Reader:
             self.counts[chart] += change or 0
 
     def fields(self, row, rest, count, of):
-        """The values that an accepted command prints. A mark is None, and nothing stands after it."""
-        values = {}
+        """The values that an accepted command prints. A mark is None, as are the fields after it, for which nothing stands there."""
+        values = dict.fromkeys(field.name for field in row.prints)
+        left = iter(rest)
         for field in row.prints:
-            if None in values.values():
+            what, value = field.word or field.name, next(left, None)
+            if value is None:
+                raise self.misfit(f"another count of numbers than {of} has: its {what} is missing")
+            if value == field.mark:
                 break
-            if len(values) >= len(rest):
-                raise self.misfit(f"another count of numbers than {of} has")
-            value = rest[len(values)]
             most = field.most if field.most != commands.TRIANGLES else commands.MOST - 1 if count is None else count - 1
-            if value != field.mark and not field.least <= value <= most:
-                raise self.misfit(f"{of} cannot have {value} as its {field.name}")
-            values[field.name] = None if value == field.mark else value
-        if len(values) != len(rest):
-            raise self.misfit(f"another count of numbers than {of} has")
+            if not field.least <= value <= most:
+                raise self.misfit(f"{of} cannot have {value} as its {what}")
+            values[field.name] = value
+        for value in left:
+            raise self.misfit(f"another count of numbers than {of} has: {value} is too much")
         return values
 
     def pairs(self, count, of):

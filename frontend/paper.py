@@ -121,18 +121,19 @@ def point(place, token, what):
     return None if None in both else tuple(both)
 
 
-def chart(place, token):
-    if token.text in commands.CHARTS:
-        return commands.CHARTS.index(token.text)
-    hint = close(token.text, commands.CHARTS) or "the charts are " + " and ".join(commands.CHARTS)
-    place.at(token, f"`{short(token.text)}` is no chart", hint)
+def one_of(place, token, what, names):
+    """Which of the names a token is, or None after a fault."""
+    if token.text in names:
+        return names.index(token.text)
+    hint = close(token.text, names) or f"the {what}s are {commands.choice(names, 'and')}"
+    place.at(token, f"`{short(token.text)}` is no {what}", hint)
     return None
 
 
 def operand(place, wanted, token):
     """The value of an operand, or None after a fault; a fixed word's value is itself."""
-    if wanted.kind == "chart":
-        return chart(place, token)
+    if wanted.names:
+        return one_of(place, token, wanted.what, wanted.names)
     if wanted.kind == "point":
         return point(place, token, wanted.what)
     if wanted.kind == "number":
@@ -193,14 +194,15 @@ class Reader:
             known = [row.word for row in commands.COMMANDS] + list(LINES)
             place.at(head, f"unknown command `{short(head.text)}`", close(head.text, known))
 
-    def fits(self, place, tokens, count, form):
+    def fits(self, place, tokens, count, form, hint=None):
         """Whether as many words follow the first as are wanted."""
         last = tokens[-1]
+        hint = hint or f"written `{form}`"
         if len(tokens) <= count:
             missing = form.split()[len(tokens)]
-            place.fault(last.column + len(last.text), 1, f"`{tokens[0].text}` ends too early: {missing} is missing", f"written `{form}`")
+            place.fault(last.column + len(last.text), 1, f"`{tokens[0].text}` ends too early: {missing} is missing", hint)
         elif len(tokens) > count + 1:
-            place.at(tokens[count + 1], f"`{short(tokens[count + 1].text)}` is too much here", f"written `{form}`")
+            place.at(tokens[count + 1], f"`{short(tokens[count + 1].text)}` is too much here", hint)
         return len(tokens) == count + 1
 
     def operands(self, place, row, tokens):
@@ -277,11 +279,10 @@ class Reader:
         known = commands.all_expectations()
         wanted = next((e for e in known if e.word == tokens[1].text), None)
         if not wanted:
-            hint = close(tokens[1].text, [e.word for e in known]) or "expect " + " | ".join(map(answer_form, known))
-            return place.at(tokens[1], f"unknown answer `{short(tokens[1].text)}`", hint)
-        if not self.fits(place, tokens, 2 if wanted.takes else 1, f"expect {answer_form(wanted)}"):
+            return place.at(tokens[1], f"unknown answer `{short(tokens[1].text)}`", answer_hint(tokens[1].text, known))
+        if not self.fits(place, tokens, 2 if wanted.takes else 1, f"expect {answer_form(wanted)}", answer_written(wanted)):
             return None
-        value = number(place, tokens[2], "the number expected", 10**9) if wanted.takes else None
+        value = taken(place, wanted.takes, tokens[2]) if wanted.takes else None
         if self.group is None:
             return place.at(tokens[0], "no command stands above it")
         if self.group and (value is not None or not wanted.takes):
@@ -298,17 +299,39 @@ class Reader:
         elif wanted is commands.REFUSED and value not in row.refusals:
             can = ", ".join(map(str, row.refusals))
             place.at(tokens[2], f"`{row.word}` is never refused with {value}", f"its numbers are {can}")
-        elif wanted.field and value is not None and not wanted.field.least <= value <= commands.most_of(wanted.field):
+        elif wanted.field and wanted.takes is commands.N and not wanted.field.least <= value <= commands.most_of(wanted.field):
             hint = f"it is {wanted.field.least} to {commands.most_of(wanted.field)}"
             place.at(tokens[2], f"`{row.word}` never answers `{wanted.word} {value}`", hint)
         else:
-            text = f"{wanted.word} {value}" if wanted.takes else wanted.word
+            text = commands.worded(wanted.word, wanted.takes, value)
             column, end = tokens[0].column, tokens[-1].column + len(tokens[-1].text)
             self.paper.expected.append(Expected(place, text, wanted, first, last, column, end - column))
 
 
+def taken(place, wanted, token):
+    """The value of what follows a word of an answer, or None after a fault; a number that no command answers is told later."""
+    return operand(place, wanted, token) if wanted.names else number(place, token, wanted.what, 10**9)
+
+
 def answer_form(wanted):
-    return f"{wanted.word} N" if wanted.takes else wanted.word
+    return f"{wanted.word} {wanted.takes.letter}" if wanted.takes else wanted.word
+
+
+def names_told(wanted):
+    """What can be written for a letter."""
+    return f"{wanted.letter} is {commands.choice(wanted.names, 'or')}"
+
+
+def answer_written(wanted):
+    """How an expectation is written."""
+    names = f"; {names_told(wanted.takes)}" if wanted.takes and wanted.takes.names else ""
+    return f"written `expect {answer_form(wanted)}`{names}"
+
+
+def answer_hint(word, known):
+    """What may be meant by a word that is no answer."""
+    meant = next((e for e in known if e.word == commands.MEANT.get(word)), None)
+    return answer_written(meant) if meant else close(word, [e.word for e in known]) or "expect " + " | ".join(map(answer_form, known))
 
 
 def cells(text):

@@ -39,19 +39,21 @@ def head(row):
 
 
 def field_shape(field):
+    if field.values:
+        return {"enum": [commands.in_json(field, value) for value in range(field.least, field.most + 1)]}
     most = commands.MOST - 1 if field.most == commands.TRIANGLES else field.most
-    return {"type": ["integer", "null"] if field.nothing else "integer", "minimum": field.least, "maximum": most}
+    return {"type": "integer", "minimum": field.least, "maximum": most}
 
 
-def accepted(row):
+def accepted(row, printed):
+    """An accepted command that printed so many of its fields; the others are null."""
     fields = {**head(row), "number": {"const": 0}}
     if row.count is not None:
         fields["triangles"] = {**COUNT, **nullable("integer")} if row.count == commands.UNTOLD else COUNT
-    fields.update({field.name: field_shape(field) for field in row.prints})
+    fields.update({field.name: field_shape(field) if k < printed else {"const": None} for k, field in enumerate(row.prints)})
     if row.lists:
         fields[row.lists.name] = listed(SHAPES["point"], row.lists.most)
-    ends = [field.nothing for field in row.prints]
-    return record(fields, ["from"] + [f.name for k, f in enumerate(row.prints) if any(ends[:k])])
+    return record(fields, ["from"])
 
 
 def refused(row, number):
@@ -63,7 +65,10 @@ def steps():
     """Every step that a command can have."""
     for row in commands.COMMANDS:
         if row.count != commands.WAITS:
-            yield accepted(row)
+            yield accepted(row, len(row.prints))
+        for k, field in enumerate(row.prints):
+            if field.nothing:
+                yield accepted(row, k)
         for number in row.refusals:
             yield refused(row, number)
 

@@ -1,5 +1,6 @@
 #!/usr/bin/env python3
-"""Holds chartkey to what docs/PAPERS.md says of it: stored keys, exit statuses, messages, forms, schema, round trips, wrong logs.
+"""Holds chartkey to what docs/PAPERS.md says of it: stored keys, exit statuses, messages, positions, forms, schema, round trips,
+wrong logs.
 
 It draws random bytes, papers with a byte changed and streams from a fixed seed, and fails when chartkey ends with anything but a
 message and a status. `--store` writes the stored forms of examples/ anew, by the program given: look at what changed.
@@ -35,7 +36,7 @@ VECTORS = os.path.join(ROOT, "tests", "vectors")
 SCRIPT = os.path.join(ROOT, "chartkey")
 # the form of each kind of stored file
 STORED = {".key": [], ".json": ["--json"], ".csv": ["--csv"], ".log": ["--log"], ".bin": ["--bytes"]}
-PAPERS = 4
+PAPERS = 5
 faults = []
 counts = {}
 statuses = set()
@@ -142,6 +143,22 @@ def test_schema():
     for change in ({"line": 0}, {"number": 1}, {"chart": "sea"}, {"entries": None}, {"extra": 1}, {"meaning": "x"}, {"command": "overlay"}):
         if not list(misfits({**good, "steps": [{**step, **change}]}, SCHEMA, "output")):
             fault("the schema takes a wrong step:", change)
+    step = next(s for s in good["steps"] if "found" in s)
+    for found, position, is_right in (
+        (0, "on ab", True),
+        (None, None, True),
+        (0, None, False),
+        (None, "inside", False),
+        (None, "outside", False),
+        (0, "outside", False),
+        (0, "on ac", False),
+        (0, "ab", False),
+        (0, 1, False),
+    ):
+        wrong = list(misfits({**good, "steps": [{**step, "found": found, "position": position}]}, SCHEMA, "output"))
+        same(f"the schema on found {found}, position {position}", not wrong, is_right)
+    del step["position"]
+    same("the schema on a triangle without a position", bool(list(misfits({**good, "steps": [step]}, SCHEMA, "output"))), True)
     for change in ({"status": 2}, {"title": 5}, {"steps": {}}, {"errors": []}):
         if not list(misfits({**good, **change}, SCHEMA, "output")):
             fault("the schema takes a wrong answer:", change)
@@ -169,6 +186,8 @@ def test_examples():
     steps = json.loads(run("--json", os.path.join(EXAMPLES, "every-number.txt")).out)["steps"]
     same("numbers that a paper can meet", sorted({s["number"] for s in steps}), [0] + list(range(4, 13)))
     same("most triangles", max(s.get("triangles", 0) for s in steps), 512)
+    steps = json.loads(run("--json", os.path.join(EXAMPLES, "every-position.txt")).out)["steps"]
+    same("positions of a paper", {s["position"] for s in steps if "found" in s}, {*POSITIONS, None})
 
 
 # ---- messages and statuses
@@ -213,6 +232,23 @@ KINDS_OF_FAULTS = [
     (b"overlay\nexpect entries 2", [(2, 8, "`overlay` never answers `entries N`", "pairs N, meetings N")]),
     (b"overlay\nexpect refused 7", [(2, 16, "`overlay` is never refused with 7", "12")]),
     (b"locate bed 1,1\nexpect refused 7", [(2, 8, "`locate` never answers `refused N`", "nowhere")]),
+    (b"locate bed 1,1\nexpect on ac", [(2, 11, "`ac` is no side", "the sides are ab, bc and ca")]),
+    (b"locate bed 1,1\nexpect on 2", [(2, 11, "`2` is no side", "the sides are ab, bc and ca")]),
+    (b"locate bed 1,1\nexpect on AB", [(2, 11, "`AB` is no side", "did you mean `ab`?")]),
+    (b"locate bed 1,1\nexpect at d", [(2, 11, "`d` is no corner", "the corners are a, b and c")]),
+    (b"locate bed 1,1\nexpect at 1,1", [(2, 11, "`1,1` is no corner", "the corners are a, b and c")]),
+    (b"locate bed 1,1\nexpect on", [(2, 10, "SIDE is missing", "written `expect on SIDE`; SIDE is ab, bc or ca")]),
+    (b"locate bed 1,1\nexpect at #a", [(2, 10, "CORNER is missing", "written `expect at CORNER`; CORNER is a, b or c")]),
+    (b"locate bed 1,1\nexpect on side bc", [(2, 16, "`bc` is too much here", "SIDE is ab, bc or ca")]),
+    (b"locate bed 1,1\nexpect inside 0", [(2, 15, "`0` is too much here", "written `expect inside`")]),
+    (b"locate bed 1,1\nexpect inside, on ab", [(2, 8, "unknown answer `inside,`", "did you mean `inside`?")]),
+    (b"locate bed 1,1\nexpect side ab", [(2, 8, "unknown answer `side`", "written `expect on SIDE`")]),
+    (b"locate bed 1,1\nexpect corner a", [(2, 8, "unknown answer `corner`", "written `expect at CORNER`")]),
+    (b"locate bed 1,1\nexpect outside", [(2, 8, "unknown answer `outside`", "written `expect nowhere`")]),
+    (b"locate bed 1,1\nexpect position 3", [(2, 8, "unknown answer `position`", "nowhere | inside | on SIDE | at CORNER |")]),
+    (b"load bed\nexpect inside", [(2, 8, "`load` never answers `inside`", "it can be accepted, refused N, entries N")]),
+    (b"overlay\nexpect on ab", [(2, 8, "`overlay` never answers `on SIDE`", "it can be accepted, refused N, pairs N")]),
+    (b"expect at a", [(1, 1, "no command stands above it", "")]),
     (b"overlai\nexpect entries 2", [(1, 1, "unknown command", "overlay")]),
     (b"overlay\nload b\x01ed\nexpect entries 2", [(2, 7, "U+0001", "--from-bytes")]),
     (b"title x", [(1, 7, "between double quotes", '"x"')]),
@@ -354,6 +390,51 @@ def test_statuses(folder):
              (1, f"standard input:2:1: error: refused 5: {numbers.meaning(5, 0, None, 'line 1')}"))
 
 
+# ---- positions
+
+DEFINED = os.path.join(ROOT, "crates", "spec_plane", "specs", "Position.antt")
+TRIANGLE = b"triangle 10,20 50,20 30,60\nload bed\n"
+# each position as an answer, by its number: how people read it, and a point of the triangle
+POSITIONS = {
+    "inside": ("inside", "30,30"),
+    "on ab": ("on side ab", "20,20"),
+    "on bc": ("on side bc", "40,40"),
+    "on ca": ("on side ca", "20,40"),
+    "at a": ("at corner a", "10,20"),
+    "at b": ("at corner b", "50,20"),
+    "at c": ("at corner c", "30,60"),
+}
+
+
+def test_positions():
+    """Every position in the log, the key and JSON; met where it is expected, and told where another is. Expectations that cannot be met
+    together can be read, and all but one of them are not met."""
+    cases = re.findall(r"^positionNumber (\w+) = (\d+)$", read(DEFINED).decode(), re.M)
+    named = {int(n): re.sub(r"\B(?=[A-Z])", " ", case).lower() for case, n in cases}
+    same("the numbers of positions by their definition", named, dict(enumerate([*POSITIONS, "outside"])))
+    answers = [*POSITIONS, "nowhere"]
+    for k, answer in enumerate(answers):
+        said, at = POSITIONS.get(answer, (None, "30,61"))
+        asked = TRIANGLE + f"locate bed {at}\n".encode()
+        same(f"{answer}: log", run("--log", given=asked).out.split(b"\n")[2], b"6 0 0 %d" % k if said else b"6 0 65535")
+        told = f"triangle 0, {said}" if said else answer
+        same(f"{answer}: key", f"    3  locate bed {at}  {told}\n" in run(given=asked).out.decode(), True)
+        step = json.loads(run("--json", given=asked).out)["steps"][1]
+        same(f"{answer}: JSON", (step["found"], step["position"]), (0, answer) if said else (None, None))
+        met = f"expect {answer}\n" + ("expect triangle 0\n" if said else "") + "expect accepted\n"
+        same(f"{answer}: met", run(given=asked + met.encode())[::2], (0, ""))
+        come = run("--json", given=asked + "".join(f"expect {other}\n" for other in answers).encode())
+        unmet = [(e["line"], e["expected"]) for e in json.loads(come.out)["unmet"]]
+        same(f"{answer}: status of all answers", come.status, 3)
+        same(f"{answer}: not met", unmet, [(4 + n, other) for n, other in enumerate(answers) if other != answer])
+        for e in json.loads(come.out)["unmet"]:
+            same(f"{answer}: found for {e['expected']}", e["found"], "triangle 0" if e["expected"] == "nowhere" else answer)
+        count("positions")
+    come = run(given=TRIANGLE + b"locate bed 10,20\nexpect  on\tca # no\n")
+    want = "standard input:4:1: error: expected on ca, found at a\n    4 | expect  on\tca # no\n      | ^^^^^^^^^^^^^\n"
+    same("a position not met", (come.status, come.err), (3, want))
+
+
 # ---- hostile bytes
 
 
@@ -369,7 +450,8 @@ def hostile(data, what, with_engine=False):
 def test_hostile(draw):
     texts = [read(os.path.join(EXAMPLES, n)) for n in sorted(os.listdir(EXAMPLES)) if n.endswith(".txt")]
     words = [w.encode() for row in commands.COMMANDS for w in [row.word] + [o.letter for o in row.operands]]
-    words += [w.encode() for w in paper.LINES] + [b"refused", b"pairs", b"7", b"-", b"99999", b"bed", b"design", b"0,0", b"(1,2)"]
+    words += [w.encode() for w in paper.LINES] + [b"7", b"-", b"99999", b"bed", b"design", b"0,0", b"(1,2)"]
+    words += [w.encode() for e in commands.all_expectations() for w in [e.word, *(e.takes.names if e.takes else ())]]
     words += [b'"', b'"x.csv"', b"#", b"\n", b"\n", b"\n", b"\t", b"\r"]
     for k in range(400):
         hostile(bytes(draw.randrange(256) for _ in range(draw.randrange(60))), "random bytes", k < 30)
@@ -475,7 +557,7 @@ def test_round_trips(draw):
 
 PAPER = b"triangle 0,0 65535,0 0,65535\nload bed\ntriangle 0,0 65535,0 0,65535\ntriangle 0,0 9,0 0,9\nload design\n"
 PAPER += b"split bed 0 at 5,6\nlocate bed 1,1\noverlay\nload bed\n"
-LOG = b"overlay log\n2 0 7\n2 0 40\n3 7\n6 0 0\n7 0 2 7\n0 0\n0 1\n2 0 1\n"
+LOG = b"overlay log\n2 0 7\n2 0 40\n3 7\n6 0 0 0\n7 0 2 7\n0 0\n0 1\n2 0 1\n"
 # what a program does wrong: its log, and the line of the log and a part of the message that chartkey gives
 SHAMS = [
     ("prints nothing", b"", 1, "the log is cut: its heading is missing"),
@@ -487,7 +569,7 @@ SHAMS = [
     ("one pair too many", LOG.replace(b"\n0 1\n", b"\n0 1\n0 2\n"), 9, "another answer"),
     ("an extra line", LOG + b"2 0 1\n", 10, "goes on after the last answer"),
     ("an empty extra line", LOG + b"\n", 10, "goes on after the last answer"),
-    ("an answer too few", LOG.replace(b"6 0 0\n", b""), 5, "another answer"),
+    ("an answer too few", LOG.replace(b"6 0 0 0\n", b""), 5, "another answer"),
     ("a number too many", LOG.replace(b"2 0 40", b"2 0 40 1"), 3, "another count of numbers"),
     ("a number too few", LOG.replace(b"2 0 40", b"2 0"), 3, "another count of numbers"),
     ("a refusal with a number beside", LOG.replace(b"3 7", b"3 7 1"), 4, "another count of numbers"),
@@ -501,7 +583,14 @@ SHAMS = [
     ("line ends of two bytes", LOG.replace(b"\n", b"\r\n"), 1, "does not begin with"),
     ("a number that the command never gives", LOG.replace(b"3 7", b"3 12"), 4, "never refused with 12"),
     ("a number that there is not", LOG.replace(b"3 7", b"3 13"), 4, "never refused with 13"),
-    ("a triangle that is not there", LOG.replace(b"6 0 0", b"6 0 1"), 5, "cannot have 1"),
+    ("a triangle that is not there", LOG.replace(b"6 0 0 0", b"6 0 1 0"), 5, "cannot have 1 as its triangle"),
+    ("no triangle", LOG.replace(b"6 0 0 0", b"6 0"), 5, "its triangle is missing"),
+    ("no position", LOG.replace(b"6 0 0 0", b"6 0 0"), 5, "(line 7) has: its position is missing"),
+    ("outside as the position of a triangle", LOG.replace(b"6 0 0 0", b"6 0 0 7"), 5, "(line 7) cannot have 7 as its position"),
+    ("the mark as a position", LOG.replace(b"6 0 0 0", b"6 0 0 65535"), 5, "cannot have 65535 as its position"),
+    ("a number after a position", LOG.replace(b"6 0 0 0", b"6 0 0 0 0"), 5, "another count of numbers"),
+    ("nowhere and outside", LOG.replace(b"6 0 0 0", b"6 0 65535 7"), 5, "`locate bed 1,1` (line 7) has: 7 is too much"),
+    ("nowhere and inside", LOG.replace(b"6 0 0 0", b"6 0 65535 0"), 5, "`locate bed 1,1` (line 7) has: 0 is too much"),
     ("a faulty triangle that is not there", LOG.replace(b"2 0 40", b"2 5 2"), 3, "not there"),
     ("a pair that is not there", LOG.replace(b"\n0 1\n", b"\n0 2\n"), 8, "not there"),
     ("a pair twice", LOG.replace(b"\n0 1\n", b"\n0 0\n"), 8, "not after"),
@@ -524,6 +613,11 @@ def sham(folder, text):
 def test_wrong_logs(folder, draw):
     calls = paper.read(PAPER, "p").calls
     same("the good log", len(log.read(LOG, calls)[0]), 6)
+    for k in range(len(POSITIONS)):
+        step = log.read(LOG.replace(b"6 0 0 0", b"6 0 0 %d" % k), calls)[0][3]
+        same(f"the good log with position {k}", step.values, {"found": 0, "position": k})
+    step = log.read(LOG.replace(b"6 0 0 0", b"6 0 65535"), calls)[0][3]
+    same("the good log with nowhere", step.values, {"found": None, "position": None})
     for what, printed, line, message in SHAMS:
         program = sham(folder, f"sys.stdin.buffer.read()\nsys.stdout.buffer.write({printed!r})")
         come = run(given=PAPER, program=program)
@@ -707,6 +801,9 @@ def test_help():
     for word in [commands.form(row) for row in commands.COMMANDS] + [*cli.FORMS, *cli.VERBS, "--engine", *paper.LINES.values()]:
         if word not in text:
             fault("help does not tell", word)
+    for word in [paper.answer_form(e) for e in commands.all_expectations()] + ["SIDE is ab, bc or ca", "CORNER is a, b or c"]:
+        if not any(word in line for line in lines):
+            fault("help does not tell in a line", word)
     same("-h is --help", run("-h", "x", "y").out.decode(), text)
     told = run("numbers").out.decode()
     same("each number once", [int(n) for n in re.findall(r"^ ?(\d+)  ", told, re.M)], list(range(13)))
@@ -742,12 +839,10 @@ MOVED_LOG = b"overlay log\n2 0 7\n3 0 19\n6 0 2 4\n6 0 65535\n7 0 0 9\n"
 
 
 def test_moved_rows():
-    """What document 02 asks of commands 1, 3 and 6 moves rows of the table, and nothing else."""
+    """What document 02 asks later of commands 1 and 3 moves rows of the table, and nothing else."""
     whole, rows = commands.COMMANDS, list(commands.COMMANDS)
-    position = commands.Field("position", "position", 0, 6, "position {}", "position {}")
     rows[0] = rows[0]._replace(operands=rows[0].operands + (commands.number("class", "K", "a class"),))
     rows[2] = rows[2]._replace(operands=(commands.CHART, commands.point("point", "P")), count=commands.UNTOLD)
-    rows[5] = rows[5]._replace(prints=(commands.FOUND, position))
     commands.COMMANDS = tuple(rows)
     try:
         one = paper.read(MOVED, "moved")
@@ -758,10 +853,10 @@ def test_moved_rows():
         answers = forms.Answers(one, *log.read(MOVED_LOG, one.calls))
         same("status", answers.status, 0)
         told = forms.people(answers)
-        for part in ("accepted: 19 entries", "triangle 2, position 4", "nowhere\n", "in no pair: design (none)"):
+        for part in ("accepted: 19 entries", "triangle 2, at corner a", "nowhere\n", "in no pair: design (none)"):
             same(f"tells {part!r}", part in told, True)
         same("schema", list(misfits(json.loads(forms.answers_json(answers, None)), schema.schema(), "output")), [])
-        same("help", "triangle A B C K" in cli.help_text() and "position N" in cli.help_text(), True)
+        same("help", "triangle A B C K" in cli.help_text() and "split CHART P" in cli.help_text(), True)
         same("a class", paper.read(b"triangle 0,0 1,0 0,1 x", "p").faults.kept[0].message, "a class is a whole number, not `x`")
     finally:
         commands.COMMANDS = whole
@@ -772,7 +867,7 @@ def tests(folder, draw):
     yield test_examples, ()
     if STORE:
         return
-    plain = (test_schema, test_messages, test_no_permission, test_help, test_words, test_moved_rows)
+    plain = (test_schema, test_messages, test_positions, test_no_permission, test_help, test_words, test_moved_rows)
     plain += (test_terminal, test_closed_and_full)
     yield from ((test, ()) for test in plain)
     with_folder = (test_tables_of_triangles, test_statuses, test_limits, test_programs, test_processes)
