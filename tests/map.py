@@ -46,6 +46,7 @@ PASSING = {
     "overlay_log": {"log_events": ("log_reader", "BothCounts"), "replay_lists": ("log_events", "Counts")},
     "test_calls": {"spec_plane": ("test_changes", "Point")},
     "test_readers": {"io": ("test_support", None), "libc": ("test_support", None)},
+    "test_support": {"spec_plane": ("base_answers", "Position")},
     "test_replay": {"replay_lists": ("replay", "Counts")},
 }
 NEEDS = crates.needs()
