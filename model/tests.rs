@@ -212,33 +212,22 @@ fn position_by_walking(t: &Tri, p: Point) -> Position {
     if between_sides(t, p) { Inside } else { Outside }
 }
 
-/// Every triangle with D > 0 on a tiny grid with every point on it and around
-/// it; as often each position was met.
-fn on_tiny_grid(wide: i64, high: i64, x: i64, y: i64, check: impl Fn(&Tri, Point)) -> [u32; 8] {
-    let at = |n: i64| Point { x: x + n % (wide + 1), y: y + n / (wide + 1) };
-    let all = (wide + 1) * (high + 1);
-    let mut met = [0; 8];
-    for n in 0..all * all * all {
-        let t = [at(n / all / all), at(n / all % all), at(n % all)];
-        if doubled_area(&t) <= 0 {
-            continue;
-        }
-        for px in x - 1..=x + wide + 1 {
-            for py in y - 1..=y + high + 1 {
-                let p = Point { x: px, y: py };
-                check(&t, p);
-                met[position(&t, p).number() as usize] += 1;
-            }
-        }
-    }
-    met
-}
-
 #[test]
 fn positions_on_tiny_grids() {
+    // Every triangle with D > 0 on 4 by 5 points, with every point on them and around them.
     for (x, y) in [(0, 0), (40_000, 65_531)] {
-        let met = on_tiny_grid(3, 4, x, y, |t, p| assert_eq!(position(t, p), position_by_walking(t, p), "{t:?} {p:?}"));
-        assert!(met.iter().all(|&n| n > 500), "{met:?}");
+        let grid: Vec<Point> = (0..20).map(|n| Point { x: x + n % 4, y: y + n / 4 }).collect();
+        let around: Vec<Point> = (0..42).map(|n| Point { x: x - 1 + n % 6, y: y - 1 + n / 6 }).collect();
+        let mut met = [0; 8];
+        for n in 0..8000 {
+            let t = [grid[n / 400], grid[n / 20 % 20], grid[n % 20]];
+            for &p in around.iter().filter(|_| doubled_area(&t) > 0) {
+                let place = position(&t, p);
+                assert_eq!(place, position_by_walking(&t, p), "{t:?} {p:?}");
+                met[place.number() as usize] += 1;
+            }
+        }
+        assert!(met.iter().all(|&times| times > 500), "{met:?}");
     }
 }
 
@@ -273,7 +262,7 @@ fn wrong_tables() {
         ("corners the other way round", [1, 2, 3], [6, 5, 4]),
         ("side ab told as 2", [2, 3, 4], [5, 6, 4]),
         ("sides from 0 on", [0, 1, 2], [5, 6, 4]),
-        ("sides by the corner beside them", [2, 3, 1], [5, 6, 4]),
+        ("each side told as the next", [2, 3, 1], [5, 6, 4]),
         ("outside where a D is 0", [7; 3], [7; 3]),
         ("outside at corners", [1, 2, 3], [7; 3]),
         ("inside at sides", [0; 3], [5, 6, 4]),
