@@ -431,7 +431,11 @@ impl Stream {
             self.steps(count);
             for c in 0..2 {
                 for _ in 0..6 {
-                    let p = point(ox + step * self.rng.range(-1, g + 1), oy + step * self.rng.range(-1, g + 1));
+                    let p = if self.rng.chance(60) {
+                        self.held_point(c)
+                    } else {
+                        point(ox + step * self.rng.range(-1, g + 1), oy + step * self.rng.range(-1, g + 1))
+                    };
                     self.locate(c, p);
                     if self.rng.chance(30) {
                         self.take_out(c, p);
