@@ -47,6 +47,10 @@ impl Rng {
     }
 }
 
+fn gcd(a: i64, b: i64) -> i64 {
+    if b == 0 { a } else { gcd(b, a % b) }
+}
+
 fn point(x: i64, y: i64) -> Point {
     Point { x: x.clamp(0, 65_535), y: y.clamp(0, 65_535) }
 }
@@ -148,14 +152,14 @@ impl Stream {
             sum += w;
         }
         let p = point((x + sum / 2) / sum, (y + sum / 2) / sum);
-        if strictly_inside(t, p) || self.rng.chance(30) {
+        if position(t, p) == Position::Inside || self.rng.chance(30) {
             return p;
         }
         // A small triangle: take any of its inner points near by.
         let near: Vec<Point> = (-3..=3)
             .flat_map(|dx| (-3..=3).map(move |dy| (dx, dy)))
             .map(|(dx, dy)| point(p.x + dx, p.y + dy))
-            .filter(|&q| strictly_inside(t, q))
+            .filter(|&q| position(t, q) == Position::Inside)
             .collect();
         if near.is_empty() { p } else { self.rng.pick(&near) }
     }
@@ -166,6 +170,40 @@ impl Stream {
         }
         let t = self.rng.pick(&self.tables[c]);
         self.rng.pick(&t)
+    }
+
+    /// A grid point on a side and at none of its ends, or a corner where no
+    /// side of the chart has one.
+    fn side_point(&mut self, c: usize) -> Point {
+        let mut sides = Vec::new();
+        for t in &self.tables[c] {
+            for k in 0..3 {
+                let (p, q) = (t[k], t[(k + 1) % 3]);
+                let (dx, dy) = (q.x - p.x, q.y - p.y);
+                let parts = gcd(dx.abs(), dy.abs());
+                if parts > 1 {
+                    sides.push((p, dx / parts, dy / parts, parts));
+                }
+            }
+        }
+        if sides.is_empty() {
+            return self.some_corner(c);
+        }
+        let (p, dx, dy, parts) = self.rng.pick(&sides);
+        let n = self.rng.range(1, parts - 1);
+        point(p.x + n * dx, p.y + n * dy)
+    }
+
+    /// A point of a triangle: on a side, at a corner, and less often inside.
+    fn held_point(&mut self, c: usize) -> Point {
+        match self.rng.below(7) {
+            0 if !self.tables[c].is_empty() => {
+                let t = self.rng.pick(&self.tables[c]);
+                self.point_of(&t)
+            }
+            1..=3 => self.side_point(c),
+            _ => self.some_corner(c),
+        }
     }
 
     /// Pairs that share a side in opposite directions.
@@ -198,14 +236,14 @@ impl Stream {
 
     fn some_point(&mut self, c: usize) -> Point {
         let n = self.tables[c].len();
-        match self.rng.below(5) {
+        match self.rng.below(6) {
             0 => point(self.rng.below(65_536), self.rng.below(65_536)),
             1 => {
                 let p = self.some_corner(c);
                 point(p.x + self.rng.range(-2, 2), p.y + self.rng.range(-2, 2))
             }
-            2 => self.some_corner(c),
-            3 => {
+            2 | 3 => self.held_point(c),
+            4 => {
                 // The middle of a side, or close to it.
                 let (p, q) = (self.some_corner(c), self.some_corner(c));
                 point((p.x + q.x) / 2, (p.y + q.y) / 2)
@@ -260,7 +298,7 @@ impl Stream {
             }
             97 => self.overlay(),
             _ => {
-                let p = self.some_corner(c);
+                let p = self.held_point(c);
                 self.locate(c, p);
             }
         }
@@ -393,7 +431,11 @@ impl Stream {
             self.steps(count);
             for c in 0..2 {
                 for _ in 0..6 {
-                    let p = point(ox + step * self.rng.range(-1, g + 1), oy + step * self.rng.range(-1, g + 1));
+                    let p = if self.rng.chance(60) {
+                        self.held_point(c)
+                    } else {
+                        point(ox + step * self.rng.range(-1, g + 1), oy + step * self.rng.range(-1, g + 1))
+                    };
                     self.locate(c, p);
                     if self.rng.chance(30) {
                         self.take_out(c, p);
@@ -519,7 +561,7 @@ impl Stream {
                     let t = self.rng.below(n);
                     let tri = self.tables[c][t as usize];
                     let p = self.point_of(&tri);
-                    if strictly_inside(&tri, p) && !self.split(c, t, p) {
+                    if position(&tri, p) == Position::Inside && !self.split(c, t, p) {
                         refused += 1;
                     }
                     if refused > 5 {

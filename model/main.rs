@@ -48,7 +48,8 @@
 //!   split C t x y        split NUMBER REF N M HASH
 //!   take_out C x y       take_out NUMBER REF N M HASH
 //!   flip C i j           flip NUMBER REF N M HASH
-//!   locate C x y         locate NUMBER TRIANGLE HASH     (or `nowhere`)
+//!   locate C x y         locate NUMBER TRIANGLE POSITION HASH   (TRIANGLE or
+//!                        `nowhere`; POSITION is its number, 7 with `nowhere`)
 //!   listing C x y        listing LENGTH t1 t2 ... HASH   (it has no number)
 //!   sound C              sound NUMBER yes|no HASH
 //!   area C               area NUMBER SUM HASH
@@ -433,9 +434,9 @@ impl Bench {
             }
             "locate" => {
                 exact(4)?;
-                let (number, found) = chart.locate(coord(2)?, coord(3)?);
+                let (number, found, place) = chart.locate(coord(2)?, coord(3)?);
                 let found = found.map_or("nowhere".to_string(), |t| t.to_string());
-                format!("locate {number} {found}")
+                format!("locate {number} {found} {}", place.number())
             }
             "listing" => {
                 exact(4)?;

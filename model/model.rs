@@ -1,7 +1,7 @@
-//! Reference model of document 01: chart overlay on a whole-number
-//! star-quadtree. Written for clarity; every edit rebuilds all entries from
-//! the table. Nothing here is clever on purpose, save that the search for
-//! cells hands only what met a square on to its quarters.
+//! Reference model of document 01, with wish 1 of document 02: chart overlay
+//! on a whole-number star-quadtree. Written for clarity; every edit rebuilds
+//! all entries from the table. Nothing here is clever on purpose, save that
+//! the search for cells hands only what met a square on to its quarters.
 
 // ---------------------------------------------------------------- limits
 
@@ -38,12 +38,42 @@ pub fn doubled_area(t: &Tri) -> i64 {
     d(t[0], t[1], t[2])
 }
 
-pub fn holds(t: &Tri, p: Point) -> bool {
-    (0..3).all(|k| d(t[k], t[(k + 1) % 3], p) >= 0)
+/// Where a point is, seen from a triangle; the value is the number told.
+#[derive(Clone, Copy, PartialEq, Eq, Debug)]
+pub enum Position {
+    Inside = 0,
+    OnAb = 1,
+    OnBc = 2,
+    OnCa = 3,
+    AtA = 4,
+    AtB = 5,
+    AtC = 6,
+    Outside = 7,
 }
 
-pub fn strictly_inside(t: &Tri, p: Point) -> bool {
-    (0..3).all(|k| d(t[k], t[(k + 1) % 3], p) > 0)
+impl Position {
+    pub fn number(self) -> u8 {
+        self as u8
+    }
+}
+
+/// By the signs and zeros of the D of ab, bc and ca: a D below 0 is outside,
+/// one zero is that side, two are the corner where both sides end.
+pub fn position(t: &Tri, p: Point) -> Position {
+    let ds = [0, 1, 2].map(|k| d(t[k], t[(k + 1) % 3], p));
+    if ds.iter().any(|&v| v < 0) {
+        return Position::Outside;
+    }
+    match ds.map(|v| v == 0) {
+        [false, false, false] => Position::Inside,
+        [true, false, false] => Position::OnAb,
+        [false, true, false] => Position::OnBc,
+        [false, false, true] => Position::OnCa,
+        [true, true, false] => Position::AtB,
+        [false, true, true] => Position::AtC,
+        // Three zeros are met by no triangle with D > 0, and told as a.
+        [true, _, true] => Position::AtA,
+    }
 }
 
 /// The triangle turned so that its first corner is corner k.
@@ -321,7 +351,7 @@ pub fn plain_split(table: &[Tri], t: u64, p: Point) -> Outcome {
     }
     let t = t as usize;
     let [a, b, c] = table[t];
-    if !strictly_inside(&table[t], p) {
+    if position(&table[t], p) != Position::Inside {
         return Err(no(7));
     }
     if table.len() + 2 > MAX_TRIANGLES {
@@ -559,14 +589,19 @@ impl Chart {
             .collect()
     }
 
-    pub fn locate(&self, x: u16, y: u16) -> (u8, Option<u16>) {
+    /// The number, the triangle found, and where the point is in it.
+    pub fn locate(&self, x: u16, y: u16) -> (u8, Option<u16>, Position) {
         let number = self.check_1_2();
         if number != 0 {
-            return (number, None);
+            return (number, None, Position::Outside);
         }
         let table = self.used_table();
-        let found = self.listing(x, y).into_iter().filter(|&t| holds(&table[t as usize], pt(x, y)));
-        (0, found.min())
+        self.listing(x, y)
+            .into_iter()
+            .map(|t| (t, position(&table[t as usize], pt(x, y))))
+            .filter(|found| found.1 != Position::Outside)
+            .min_by_key(|found| found.0)
+            .map_or((0, None, Position::Outside), |(t, place)| (0, Some(t), place))
     }
 
     pub fn sound(&self) -> (u8, bool) {
@@ -752,10 +787,10 @@ pub fn run_log(input: &[u8]) -> String {
                 };
             }
             6 => {
-                let (number, found) = chart.locate(w[0], w[1]);
-                out += &match number {
-                    0 => format!("6 0 {}\n", found.unwrap_or(65_535)),
-                    x => format!("6 {x}\n"),
+                out += &match chart.locate(w[0], w[1]) {
+                    (0, Some(t), place) => format!("6 0 {t} {}\n", place.number()),
+                    (0, None, _) => format!("6 0 {MARK}\n"),
+                    (x, ..) => format!("6 {x}\n"),
                 };
             }
             _ => {

@@ -1,7 +1,8 @@
-//! Marked cases of document 01, the readings on raw buffers, and the model's
-//! means checked against plainer ones.
+//! Marked cases of document 01, positions of points, the readings on raw
+//! buffers, and the model's means checked against plainer ones.
 
 use crate::gen::{numbered, stream, Rng};
+use crate::model::Position::*;
 use crate::model::*;
 use crate::run_calls;
 
@@ -69,12 +70,29 @@ fn case_5() {
     assert_eq!(ranges(&u), ranges(&both));
 }
 
+/// Points of U at each position, those of case 6 among them.
+const MARKED: [(u16, u16, Position); 8] = [
+    (1, 1, Inside),
+    (7, 0, OnAb),
+    (32768, 32767, OnBc),
+    (0, 7, OnCa),
+    (0, 0, AtA),
+    (65535, 0, AtB),
+    (0, 65535, AtC),
+    (32768, 32768, Outside),
+];
+
 #[test]
 fn case_6() {
     let u = loaded(&U);
-    assert_eq!(u.locate(32768, 32767), (0, Some(0)));
-    assert_eq!(u.locate(32768, 32768), (0, None));
-    assert_eq!(loaded(&uv()).locate(65535, 0), (0, Some(0)));
+    for (x, y, place) in MARKED {
+        let found = if place == Outside { None } else { Some(0) };
+        assert_eq!(u.locate(x, y), (0, found, place));
+    }
+    let both = loaded(&uv());
+    assert_eq!(both.locate(65535, 0), (0, Some(0), AtB));
+    assert_eq!(both.locate(32768, 32768), (0, Some(1), Inside));
+    assert_eq!(both.locate(65535, 65535), (0, Some(1), AtA));
 }
 
 #[test]
@@ -128,6 +146,131 @@ fn the_shown_log() {
     assert_eq!(run_log(&s), "overlay log\n2 0 7\n2 0 4\n7 0 0 7\n");
 }
 
+// -------------------------------------------------------------- positions
+
+const SIDES: [Position; 3] = [OnAb, OnBc, OnCa];
+const CORNERS: [Position; 3] = [AtA, AtB, AtC];
+
+#[test]
+fn numbers_of_positions() {
+    let all = [Inside, OnAb, OnBc, OnCa, AtA, AtB, AtC, Outside];
+    assert_eq!(all.map(|place| place.number()), [0, 1, 2, 3, 4, 5, 6, 7]);
+}
+
+/// Three corners not alike in x and y, a point on each side, in its order,
+/// a point inside, and points outside, three of them on the lines of sides.
+const LARGE: ([(u16, u16); 3], [(u16, u16); 3], (u16, u16), [(u16, u16); 7]) = (
+    [(40_000, 33_000), (64_000, 36_000), (46_000, 63_000)],
+    [(56_000, 35_000), (58_000, 45_000), (45_000, 58_000)],
+    (50_000, 44_000),
+    [(64_008, 36_001), (45_998, 63_003), (39_999, 32_995), (52_000, 34_499), (58_001, 45_000), (44_999, 58_000), (0, 0)],
+);
+
+#[test]
+fn positions_in_each_rotation() {
+    let (corners, on, inside, out) = LARGE;
+    let point = |p: (u16, u16)| pt(p.0, p.1);
+    let t = corners.map(point);
+    for k in 0..3 {
+        let t = turned(&t, k);
+        for side in 0..3 {
+            assert_eq!(position(&t, point(on[(side + k) % 3])), SIDES[side]);
+            assert_eq!(position(&t, t[side]), CORNERS[side]);
+        }
+        assert_eq!(position(&t, point(inside)), Inside);
+        assert_eq!(out.map(|p| position(&t, point(p))), [Outside; 7]);
+        // V has them all inside, and is told only where it comes first.
+        let (before, after) = (loaded(&[numbers_of_tri(&t), V].concat()), loaded(&[V, numbers_of_tri(&t)].concat()));
+        for (p, place) in [(on[k], OnAb), (corners[k], AtA), (corners[(k + 1) % 3], AtB)] {
+            assert_eq!(before.locate(p.0, p.1), (0, Some(0), place));
+            assert_eq!(after.locate(p.0, p.1), (0, Some(0), Inside));
+        }
+    }
+}
+
+/// Is the point inside, by the sides that a line from it to the right crosses?
+fn between_sides(t: &Tri, p: Point) -> bool {
+    let crossed = (0..3).filter(|&k| {
+        let (q, r) = if t[k].y < t[(k + 1) % 3].y { (t[k], t[(k + 1) % 3]) } else { (t[(k + 1) % 3], t[k]) };
+        q.y <= p.y && p.y < r.y && (p.x - q.x) * (r.y - q.y) < (p.y - q.y) * (r.x - q.x)
+    });
+    crossed.count() % 2 == 1
+}
+
+/// The position by walking each side from grid point to grid point.
+fn position_by_walking(t: &Tri, p: Point) -> Position {
+    for k in 0..3 {
+        let (q, r) = (t[k], t[(k + 1) % 3]);
+        let (dx, dy) = (r.x - q.x, r.y - q.y);
+        let parts = (1..=dx.abs().max(dy.abs())).filter(|n| dx % n == 0 && dy % n == 0).max().unwrap();
+        for n in 0..parts {
+            if p == (Point { x: q.x + dx / parts * n, y: q.y + dy / parts * n }) {
+                return if n == 0 { CORNERS[k] } else { SIDES[k] };
+            }
+        }
+    }
+    if between_sides(t, p) { Inside } else { Outside }
+}
+
+#[test]
+fn positions_on_tiny_grids() {
+    // Every triangle with D > 0 on 4 by 5 points, with every point on them and around them.
+    for (x, y) in [(0, 0), (40_000, 65_531)] {
+        let grid: Vec<Point> = (0..20).map(|n| Point { x: x + n % 4, y: y + n / 4 }).collect();
+        let around: Vec<Point> = (0..42).map(|n| Point { x: x - 1 + n % 6, y: y - 1 + n / 6 }).collect();
+        let mut met = [0; 8];
+        for n in 0..8000 {
+            let t = [grid[n / 400], grid[n / 20 % 20], grid[n % 20]];
+            for &p in around.iter().filter(|_| doubled_area(&t) > 0) {
+                let place = position(&t, p);
+                assert_eq!(place, position_by_walking(&t, p), "{t:?} {p:?}");
+                met[place.number() as usize] += 1;
+            }
+        }
+        assert!(met.iter().all(|&times| times > 500), "{met:?}");
+    }
+}
+
+#[test]
+fn three_zeros() {
+    // Corners on a line, or all at one point: no load takes such a triangle.
+    let line = [pt(3, 9), pt(4, 9), pt(9, 9)];
+    assert_eq!((position(&line, pt(5, 9)), position(&line, pt(5, 8))), (AtA, Outside));
+    assert_eq!(position(&[pt(3, 9); 3], pt(40_000, 50_000)), AtA);
+}
+
+/// A position's number by a table: one for the zero of each side, and one for
+/// the zeros of each side and the next.
+fn by_table(one: [u8; 3], two: [u8; 3], t: &Tri, p: Point) -> u8 {
+    let ds = [0, 1, 2].map(|k| d(t[k], t[(k + 1) % 3], p));
+    if ds.iter().any(|&v| v < 0) {
+        return 7;
+    }
+    match (0..3).find(|&k| ds[k] == 0 && ds[(k + 1) % 3] == 0) {
+        Some(k) => two[k],
+        None => ds.iter().position(|&v| v == 0).map_or(0, |k| one[k]),
+    }
+}
+
+#[test]
+fn wrong_tables() {
+    let u = tri_of_numbers(&U);
+    let fits = |one, two| MARKED.iter().all(|&(x, y, place)| by_table(one, two, &u, pt(x, y)) == place.number());
+    assert!(fits([1, 2, 3], [5, 6, 4]));
+    for (what, one, two) in [
+        ("corner k between zeros k and k + 1", [1, 2, 3], [4, 5, 6]),
+        ("corners the other way round", [1, 2, 3], [6, 5, 4]),
+        ("side ab told as 2", [2, 3, 4], [5, 6, 4]),
+        ("sides from 0 on", [0, 1, 2], [5, 6, 4]),
+        ("each side told as the next", [2, 3, 1], [5, 6, 4]),
+        ("outside where a D is 0", [7; 3], [7; 3]),
+        ("outside at corners", [1, 2, 3], [7; 3]),
+        ("inside at sides", [0; 3], [5, 6, 4]),
+    ] {
+        assert!(!fits(one, two), "{what}");
+    }
+}
+
 // -------------------------------------------------------------- readings
 
 fn said(script: &str) -> Vec<String> {
@@ -150,7 +293,7 @@ fn filed_or_not() {
         got,
         [
             "load 0 0 1 7",
-            "locate 0 nowhere",
+            "locate 0 nowhere 7",
             "overlay 0 0 1",
             "listing 0",
             "split 3 0 1 1",
@@ -186,7 +329,7 @@ fn behind_the_counts() {
             "dump table0 3080 0 8",
             "dump keys0 16390 3221225472 0",
             "dump keys0 16390 0 77",
-            "locate 0 0",
+            "locate 0 0 0",
             split.as_str(),
             "dump table0 3080 1 1 0 0",
             "take_out 0 0 1 7",
@@ -195,7 +338,7 @@ fn behind_the_counts() {
             "area 2 0",
             "area 2 0",
             "area 2 0",
-            "locate 2 nowhere",
+            "locate 2 nowhere 7",
             "sound 2 no",
             "listing 0",
             "overlay 2 0 0",
@@ -217,7 +360,7 @@ fn short_buffers() {
              listing 0 0 0\nsound 0\narea 0\noverlay 0 1\noverlay 1 0\noverlay 1 1"
         ));
         let want = [
-            "load 0 0 0 1", "load 1 0 4 5", "split 1 0 4 5", "take_out 1 0 4 5", "flip 1 0 4 5", "locate 1 nowhere",
+            "load 0 0 0 1", "load 1 0 4 5", "split 1 0 4 5", "take_out 1 0 4 5", "flip 1 0 4 5", "locate 1 nowhere 7",
             "listing 0", "sound 1 no", "area 1 0", "overlay 1 0 0", "overlay 1 0 0", "overlay 0 0 1",
         ];
         assert_eq!(got, want);
@@ -462,7 +605,7 @@ fn meeting_squares() {
         }
         // A triangle has a point in the square when a side has, or when it
         // holds the square's first corner (the square lies inside).
-        let want = some_side || holds(&t, sq.corners()[0]);
+        let want = some_side || position(&t, sq.corners()[0]) != Outside;
         assert_eq!(triangle_meets(&t, &sq), want, "{t:?} {sq:?}");
         met[usize::from(want)] += 1;
     }
@@ -507,8 +650,9 @@ fn entries_and_reading() {
         for _ in 0..40 {
             let (x, y) = (r.below(span) as u16, r.below(span) as u16);
             // 5.7: in an indexed chart, the lowest holder of the whole table.
-            let holder = table.iter().position(|t| holds(t, pt(x, y))).map(|i| i as u16);
-            assert_eq!(c.locate(x, y), (0, holder));
+            let held = table.iter().map(|t| position(t, pt(x, y))).enumerate().find(|held| held.1 != Outside);
+            let want = held.map_or((0, None, Outside), |(i, place)| (0, Some(i as u16), place));
+            assert_eq!(c.locate(x, y), want);
         }
         assert_eq!(
             c.sound().1,

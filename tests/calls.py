@@ -6,8 +6,8 @@ usage: calls.py SEED COUNT    compares; COUNT is at least 5
        calls.py store         writes the program's stored case, crates/test_calls/stdin and stdout, the latter by the model
 
 What is run stands in tests/call_cases, in parts that each say what they show: the boundaries of document 01's numbers, damaged
-charts, edits, overlays. Then COUNT charts that are loaded, read, damaged at random and read again, COUNT lists of edits, and COUNT
-pairs of charts that are laid over each other, edited and damaged.
+charts, positions of points, edits, overlays. Then COUNT charts that are loaded, read, damaged at random and read again, COUNT lists
+of edits, and COUNT pairs of charts that are laid over each other, edited and damaged.
 
 A take-out cannot be refused with 11: it takes sides away and adds none, so every cell of the new table is one or more of the old,
 and no cell lists more triangles than those did together.
@@ -22,7 +22,7 @@ import re
 import sys
 
 import engines
-from call_cases import boundaries, damage, edits, overlays, script
+from call_cases import boundaries, damage, edits, overlays, positions, script
 from call_cases.script import EDITS, Script, listed
 from tables import FLAT, V
 
@@ -44,8 +44,8 @@ def fixed(s):
 
 
 def on_charts(s):
-    """Entries that are stale, edits and overlays, but for the longest lists."""
-    for part in (damage.stale, edits.splits, edits.take_outs, edits.flips, edits.full):
+    """Positions, entries that are stale, edits and overlays, but for the longest lists."""
+    for part in (positions.positions, damage.stale, edits.splits, edits.take_outs, edits.flips, edits.full):
         part(s)
     for part in (overlays.known_overlays, overlays.touching, overlays.overlay_refusals, overlays.overlay_damaged):
         part(s)
@@ -78,11 +78,12 @@ def store():
 # each number that each call but edits and overlays can give, with its values
 WANTED = listed(
     """load 0; load 1; load 4; load 5 0; load 5 3; load 5 511; load 11; load of 512; load of 16384;
-    locate 0 found; locate 0 above 0; locate 0 nowhere; locate 1; locate 2; sound 0 yes; sound 0 no; sound 1; sound 2;
+    locate 0 above 0; locate 1 position 7; locate 2 position 7; sound 0 yes; sound 0 no; sound 1; sound 2;
     area 0 0; area 0 above 2^32; area 1; area 2; listing of none; listing of some; listing of 512; the mark listed as none"""
 )
+WANTED += [f"locate 0 position {place}" for place in range(8)]
 # each thing that a call is made for
-WANTED += boundaries.WANTED + damage.WANTED + edits.WANTED + overlays.WANTED
+WANTED += boundaries.WANTED + damage.WANTED + positions.WANTED + edits.WANTED + overlays.WANTED
 for part in (boundaries, damage, edits):
     WANTED += [f"{edit}: {shows}" for edit in EDITS for shows in part.WANTED_OF_EDITS]
 WANTED += [f"overlay: {shows}" for shows in damage.WANTED_OF_OVERLAYS]
@@ -118,12 +119,12 @@ def met(shows, words, before):
         yield f"listing of {number}"
         if number == "0" and before[:2] == ["locate", "0"]:
             yield "the mark listed as none"
-    elif number != "0":
-        yield f"{call} {number}"
     elif call == "locate":
-        yield "locate 0 nowhere" if words[2] == "nowhere" else "locate 0 found"
+        yield f"locate {number} position {words[3]}"
         if words[2] not in ("nowhere", "0"):
             yield "locate 0 above 0"
+    elif number != "0":
+        yield f"{call} {number}"
     elif call == "sound":
         yield f"sound 0 {words[2]}"
     else:
@@ -135,7 +136,18 @@ def given(case, line):
     (shows, number), words = case, line.split()
     if words[0] == "overlay" and re.fullmatch(r"\d+ pairs, \d+ meetings", shows):
         return words[1:4] == ["0"] + re.findall(r"\d+", shows)
+    if words[0] == "locate" and not placed(shows, words):
+        return False
     return number is None or (words[0] == "listing" and (number == 0 or words[1] == "0")) or words[1] == str(number)
+
+
+def placed(shows, words):
+    """Whether a locate gave the triangle and position that it may have to give, and 7 where it gave no triangle, and there alone."""
+    _, number, triangle, place = words[:4]
+    known = re.fullmatch(r"(\w+) position (\d)", shows)
+    if known and [triangle, place] != list(known.groups()):
+        return False
+    return (triangle == "nowhere") == (place == "7") and (number == "0" or triangle == "nowhere")
 
 
 def main():

@@ -5,11 +5,11 @@ what they compute to what the reference model (model/) answers.
 usage: definitions.py SEED COUNT
 
 COUNT of each kind of drawn case: the entries of a table; the log of a command stream; the public calls on raw buffers, most of
-them damaged; an event on a plain table; the overlay of two different tables. With them the fixed ones: take-outs with the
-point at each corner and flips in every rotation, both ways, and the worked streams of tests/cases.txt but those that load
-over 500 triangles, which are named. That accepted take-outs at each corner, accepted flips of the nine pairs of rotations both
-ways and pairs with i and j different are among them is asserted. The cases are facts of two crates that are written below
-target/ and checked there, side by side; nothing of them is kept."""
+them damaged; an event on a plain table; the overlay of two different tables. With them the fixed ones: locates at each position of
+a triangle and refused ones, take-outs with the point at each corner and flips in every rotation, both ways, and the worked streams
+of tests/cases.txt but those that load over 500 triangles, which are named. That each position, accepted take-outs at each corner,
+accepted flips of the nine pairs of rotations both ways and pairs with i and j different are among them is asserted. The cases are
+facts of two crates that are written below target/ and checked there, side by side; nothing of them is kept."""
 
 import collections
 import os
@@ -21,6 +21,7 @@ import sys
 import crates
 import engines
 import streams
+from call_cases import positions
 from engines import ROOT
 from tables import corners, drawn, entries_of, inside, orientation, sides_shared, turned
 
@@ -310,7 +311,9 @@ def answered(lines):
     """The numbers of the answers and dumps that the model prints."""
     for what, *rest in lines:
         if what == "locate":
-            yield from [int(rest[0])] + ([0] if rest[1] == "nowhere" else [1, int(rest[1])])
+            number, triangle, place = rest
+            met[f"locate {number} position {place}"] += 1
+            yield from [int(number), *([0] if triangle == "nowhere" else [1, int(triangle)]), int(place)]
         elif what == "listing":
             yield from map(int, rest[1 : 1 + int(rest[0])])
         elif what == "sound":
@@ -343,6 +346,23 @@ def calls_case(rng):
         f" (replicate {pairs} 9) (at {q[0]} {q[1]}) {t} (at {r[0]} {r[1]}) (at {p[0]} {p[1]}) {i} {j} {numbers(ts[0])}"
     )
     return given, numbers(answered(calls_of(script)))
+
+
+def located_fact(buffers, p):
+    given = f"located (locateCall {buffers.written()} (at {p[0]} {p[1]}))"
+    return given, numbers(answered(calls_of([*buffers.script(0), f"locate 0 {p[0]} {p[1]}"])))
+
+
+def fixed_locates():
+    """Locates at each position of a triangle, listed between one that does not hold the points and one that holds them elsewhere;
+    then refused ones, of a point inside: a list is short, a count is too high."""
+    for t, other in positions.TRIANGLES:
+        ts, points = [other, t, turned(t, 1)], positions.places(t)
+        good, short, uncounted = (Buffers(ts, [(0, 0, item) for item in range(len(ts))]) for _ in range(3))
+        short.length["keys"] -= 1
+        uncounted.entries += 1
+        yield from (located_fact(good, p) for p in points)
+        yield from (located_fact(buffers, points[0]) for buffers in (short, uncounted))
 
 
 # ---- the worked streams of tests/cases.txt
@@ -381,6 +401,7 @@ use mathlib.Core.List.{List, [], _∷_, _++_}
 use Prim.Native.Nat.{ℕ, _-_}
 use lib.ListN.{length, take, replicate}
 use Rattle.spec_plane.specs.declared.Point.{Point}
+use Rattle.spec_plane.specs.Position.{positionNumber}
 use Rattle.spec_charts.specs.Cells.{entriesOf}
 use Rattle.spec_charts.specs.Edits.{triangle, givenTable, load, split, takeOut, flip, eventOn}
 use Rattle.spec_calls.specs.Buffers.{Chart, padded}
@@ -398,7 +419,7 @@ chart pad m a b c t ks ls is n e =
     record { table = buffer pad m t; keys = buffer pad a ks; levels = buffer pad b ls; items = buffer pad c is; triangleCount = n; entryCount = e }
 
 abbrev located : Located → List ℕ
-located r = r .number ∷ foundNumbers (r .found)
+located r = (r .number ∷ foundNumbers (r .found)) ++ (positionNumber (r .position) ∷ [])
 
 abbrev yes-no : Bool → ℕ
 yes-no true = 1
@@ -434,6 +455,7 @@ FIXED_OVERLAY = (
 # what every run must meet
 EXPECTED = [f"take-out at corner {c}" for c in "abc"]
 EXPECTED += [f"flip of sides {k} {l}{way}" for k in range(3) for l in range(3) for way in ("", " back")]
+EXPECTED += [f"locate 0 position {place}" for place in range(8)] + ["locate 1 position 7", "locate 2 position 7"]
 EXPECTED += ["overlay pairs with i and j different", "worked streams"]
 
 
@@ -446,7 +468,7 @@ def main():
         "calls": [calls_case(rng) for _ in range(count)],
         "event": [event_case(rng) for _ in range(count)],
         "overlay": [overlay_case(rng) for _ in range(count)],
-        "fixed": list(fixed_events(rng)) + [overlay_fact(*FIXED_OVERLAY)],
+        "fixed": [*fixed_events(rng), *fixed_locates(), overlay_fact(*FIXED_OVERLAY)],
         "worked": list(worked_cases()),
     }
     print("met: " + ", ".join(f"{n} {k}" for k, n in sorted(met.items())))

@@ -215,10 +215,11 @@ def memory(words):
             talk.say(NOWHERE * 1000)
             told, size = told + 1000 * len(NOWHERE), size + 1000 * len(b"6 0 65535\n")
             fault = talk.heard(size, f"no answer to the commands before offset {told}")
-            if fault or len(talk.printed) < size:
+            # one that prints more is told at once: its pipe would be full in time, and both would wait
+            if fault or len(talk.printed) != size:
                 talk.hush()
                 program.ended(talk.child, "no answer")
-                return fault or "it ended before its input"
+                return fault or f"{len(talk.printed)} bytes printed for {told} of input, not {size}"
         peaks.append(peak(talk.child.pid))
     talk.hush()
     talk.rest()

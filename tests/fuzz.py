@@ -40,11 +40,14 @@ LONGEST_BY_BYTES = 1500
 
 ANSWERS = "1 4; 2 0; 2 5; 2 11; 3 0; 3 6; 3 7; 3 10; 3 11; 4 0; 4 8; 5 0; 5 6; 5 9; 5 11; 6 0; 7 0; 7 12".split("; ")
 LIMITS = ["4096 pairs", "4095 pairs", "16384 entries", "16383 entries", "an empty table", "512 wait, and a load"]
-OTHERS = ["nowhere", "found", "found above 0", "5 at triangle 0", "5 above triangle 0", "empty input", "no pair", "some pairs"]
+POSITIONS = [f"position {k}" for k in range(7)]  # of the point in the triangle found
+OTHERS = ["nowhere", "found above 0", "5 at triangle 0", "5 above triangle 0", "empty input", "no pair", "some pairs"]
 BAD = ["bad: unknown byte"] + [f"bad: {code} with c above 1" for code in range(2, 7)]
 BAD += [f"bad: {code} cut after {k} of {size} bytes" for code, size in streams.SIZES.items() for k in range(1, size)]
-WANTED = [f"command {code}" for code in range(1, 8)] + [f"answer {a}" for a in ANSWERS] + LIMITS + OTHERS + BAD
-WANTED += [f"fed {way}" for way in feeding.WAYS]
+ONCE = [f"command {code}" for code in range(1, 8)] + [f"answer {a}" for a in ANSWERS] + LIMITS + OTHERS + BAD
+ONCE += [f"fed {way}" for way in feeding.WAYS]
+# what is to be met, and how often
+WANTED = dict.fromkeys(ONCE, 1) | dict.fromkeys(POSITIONS, 100)
 
 
 # ---- what is met
@@ -74,7 +77,7 @@ def answered(words):
     if number == "5":
         yield "5 at triangle 0" if words[2] == "0" else "5 above triangle 0"
     elif code == "6":
-        yield "nowhere" if words[2] == "65535" else "found"
+        yield "nowhere" if words[2] == "65535" else f"position {words[3]}"
         if words[2] not in ("0", "65535"):
             yield "found above 0"
     elif code == "7" and number == "0":
@@ -90,13 +93,13 @@ def answered(words):
 
 def tally(seen):
     """How often each thing was met, in few lines."""
-    groups = [("commands", "command "), ("answers", "answer "), ("fed", "fed "), ("kinds", "kind ")]
+    groups = [("commands", "command "), ("answers", "answer "), ("positions", "position "), ("fed", "fed "), ("kinds", "kind ")]
     for name, start in groups:
         there = [k for k in seen if k.startswith(start)]
-        print(f"  {name:9}" + ", ".join(f"{k[len(start):]} × {seen[k]:,}" for k in sorted(there, key=order)))
-    print("  limits   " + ", ".join(f"{k} × {seen[k]:,}" for k in LIMITS))
-    print("  others   " + ", ".join(f"{k} × {seen[k]:,}" for k in OTHERS))
-    print(f"  bad      {sum(seen[k] for k in BAD):,} in {sum(seen[k] > 0 for k in BAD)} of {len(BAD)} places")
+        print(f"  {name:10}" + ", ".join(f"{k[len(start):]} × {seen[k]:,}" for k in sorted(there, key=order)))
+    print("  limits    " + ", ".join(f"{k} × {seen[k]:,}" for k in LIMITS))
+    print("  others    " + ", ".join(f"{k} × {seen[k]:,}" for k in OTHERS))
+    print(f"  bad       {sum(seen[k] for k in BAD):,} in {sum(seen[k] > 0 for k in BAD)} of {len(BAD)} places")
 
 
 def order(name):
@@ -396,7 +399,7 @@ def run(options, model, seen, progress):
     progress.begin()
     differs = drawn(program, log_of, options, seen, progress)
     tally(seen)
-    met_all = differs or engines.all_met(dict.fromkeys(WANTED, 1), seen)
+    met_all = differs or engines.all_met(WANTED, seen)
     return 1 if faults or differs or progress.count >= FEW and not met_all else 0
 
 

@@ -34,6 +34,12 @@ def turned(t, k):
     return tuple(t[2 * k :]) + tuple(t[: 2 * k])
 
 
+def middles(t):
+    """The middles of the sides ab, bc and ca, rounded down."""
+    a, b, c = corners(t)
+    return [tuple((u + v) // 2 for u, v in zip(p, q)) for p, q in ((a, b), (b, c), (c, a))]
+
+
 def inside(t, p):
     """Whether a point is strictly inside."""
     a, b, c = corners(t)

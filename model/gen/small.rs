@@ -84,20 +84,24 @@ impl Stream {
         for _ in 0..self.rng.range(1, most) {
             let (c, p) = (self.rng.below(2) as usize, make(&mut self.rng));
             let n = self.tables[c].len() as i64;
-            match self.rng.below(12) {
-                0 | 1 => self.locate(c, p),
-                2 => {
+            match self.rng.below(14) {
+                0 => self.locate(c, p),
+                1..=3 => {
+                    let p = self.held_point(c);
+                    self.locate(c, p);
+                }
+                4 => {
                     let t = self.rng.range(0, n);
                     self.split(c, t, p);
                 }
-                3 => {
+                5 => {
                     self.take_out(c, p);
                 }
-                4 => {
+                6 => {
                     let (i, j) = (self.rng.range(0, n), self.rng.range(0, n));
                     self.flip(c, i, j);
                 }
-                5 => self.overlay(),
+                7 => self.overlay(),
                 _ => self.step(c),
             }
         }

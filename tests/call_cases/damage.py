@@ -188,11 +188,11 @@ def joined(entries):
 
 
 def drawn(s):
-    """A chart that is read at its corners and elsewhere, then damaged at random."""
+    """A chart that is read at corners, at the middles of sides and elsewhere, then damaged at random."""
     s.on(s.rng.randrange(2))
     table = s.rng.choice(list(tables.KINDS.values()))(s.rng)
     s.table(table, "drawn")
-    points = [p for t in s.rng.sample(table, min(3, len(table))) for p in tables.corners(t)] if table else []
+    points = [p for t in s.rng.sample(table, min(3, len(table))) for p in tables.corners(t) + tables.middles(t)]
     points += [tables.anywhere(s.rng) for _ in range(4)]
     s.read(*points)
     s.measure()
