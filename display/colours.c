@@ -7,7 +7,7 @@ const palette by_day = {
     .chart = { RGB(0x004C8C), RGB(0xC74A00) },
     .paired = RGB(0xE4EEF7), .under = RGB(0xFDE68A),
     .shading = RGB(0x555C66), .mark = RGB(0x000000),
-    .ring = { RGB(0x000000), RGB(0x1B8046), RGB(0xC000C0), RGB(0x505050) },
+    .ring = { RGB(0x000000), RGB(0x1B8046), RGB(0xC000C0), RGB(0x4A4A4A) },
     .warning = RGB(0xA3001E),
 };
 

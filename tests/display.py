@@ -297,8 +297,7 @@ def check_labels(name, report):
 
 def drawn_head(rng, data, log):
     """A point of a triangle that the stream has, at a corner, on a side or inside where that can be; or any point."""
-    ends = [0] + [step.end for step in streams.steps(data, log)]
-    triangles = [words_of(data[a + 1 : b]) for a, b in zip(ends, ends[1:]) if data[a : a + 1] == b"\1" and b == a + 13]
+    triangles = [words_of(data[step.end - 12 : step.end]) for step in streams.steps(data, log) if step.what == "1"]
     if not triangles or rng.random() < 0.15:
         return [rng.randrange(65536), rng.randrange(65536)]
     t = rng.choice(triangles)
@@ -579,6 +578,13 @@ def check_forms(made):
 # ---- ink
 
 
+def looked_at(wanted):
+    """Whether enough places were."""
+    for what, least in wanted.items():
+        if counts.get(what, 0) < least:
+            fault(f"only {counts.get(what, 0)} {what} were looked at, not {least}")
+
+
 def test_ink(folder):
     """Ink is where it must be, and not where it must not."""
     place = os.path.join(folder, "ink.png")
@@ -591,9 +597,7 @@ def test_ink(folder):
         report, _ = report_of(source, *words, "-o", place, program=DISPLAY)
         for text in ink.faults_of(png.decoded(read(place)), report, "--night" in words, counts):
             fault(os.path.basename(source), *words, ":", text)
-    for what, least in ink.LEAST.items():
-        if counts[what] < least:
-            fault(f"only {counts[what]} {what} were looked at, not {least}")
+    looked_at(ink.LEAST)
 
 
 # a bed triangle and a design triangle apart from each other; heads over the turning basin, the last on a side of both charts
@@ -629,10 +633,13 @@ def test_head(folder):
         for words in ([], ["--night"], ["--sheet"]):
             words = ["--head", "{},{}".format(*head), "--window", "0,0,65535,65535", *words]
             report, _ = report_of("--bytes", "-o", place, *words, given=data, program=DISPLAY)
+            if report is None:
+                return
             positions = {chart: report["found"][chart]["position"] for chart in CHARTS}
             same(f"found at {head}", (report["found"], known or positions), (wanted_end(log)[1], positions))
             for text in ink.head_faults(png.decoded(read(place)), report, "--night" in words, counts):
                 fault(*words, ":", text)
+    looked_at(ink.LEAST_OF_HEADS)
     for text in ink.colour_faults():
         fault(text)
 

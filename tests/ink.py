@@ -20,8 +20,10 @@ PLACES = 3000  # that are looked at, of a picture
 REACH = 9  # pixels around a place that are looked at; shading lines are less than twice as far apart
 FROM_HEAD = 70
 FROM_LABEL = 40
-# how many of each kind of place a run must have looked at
+# how many of each kind of place a run must have looked at; and of those around heads
 LEAST = {"bed sides": 80, "design sides": 25, "shared design sides": 8, "blank places": 1500, "shaded places": 200, "unshaded places": 1000}
+LEAST_OF_HEADS = {"rings inside": 12, "rings side": 24, "rings corner": 24, "rings nowhere": 40, "panels": 30}
+LEAST_OF_HEADS.update({"places with a band": 4000, "places without a band": 20000})
 
 
 def inside(t, p, margin=-1e-6):
@@ -245,7 +247,7 @@ def band_faults(plan, seen):
             has = [sum(any(coloured(plan, p, c) for c in ("side", "corner") if all_of or c == form) for p in part)
                    for part, all_of in ((there, False), (nothing, True))]
             what = f"side {side} of {chart} {found['triangle']}, the head {form} at {plan.report['head']}"
-            if has[0] < 0.9 * len(there) or on + at and len(there) < 10:
+            if has[0] < 0.9 * len(there):
                 yield f"{what}: its band is at {has[0]} of {len(there)} places"
             if has[1]:
                 yield f"{what}: a band is at {has[1]} of {len(nothing)} places where none should be"
