@@ -4,12 +4,13 @@ use mathlib.Core.Path.{_≡_, refl}
 use mathlib.Core.Bool.{true, false}
 use mathlib.Core.List.{List, [], _∷_, map}
 use mathlib.Core.Option.{none, some}
+use Rattle.spec_plane.specs.declared.Position.the-variants.{Inside, OnCa, AtB, Outside}
 use Rattle.spec_charts.specs.declared.Refusal.the-variants.{ShortBuffer, BrokenChain, FaultyTriangle, TableFull, TooManyPairs}
 use Rattle.spec_charts.specs.Refusals.{refused, done}
 use Rattle.spec_charts.proofs.RefusalsExamples.{rows}
 use Rattle.spec_calls.specs.Buffers.{chartOf}
 use Rattle.spec_calls.specs.Calls as Calls
-use Rattle.base_answers.specs.Outcomes.{verdictOutcome, changedOf, locatedOutcome, locatedOf, foundNumber, soundnessOutcome, soundnessOf, areaOutcome, areaOf, overlaidOf}
+use Rattle.base_answers.specs.Outcomes.{verdictOutcome, changedOf, locatedOutcome, locatedPosition, locatedOf, foundNumber, isFound, soundnessOutcome, soundnessOf, areaOutcome, areaOf, overlaidOf}
 use Rattle.base_answers.specs.declared.Verdict.{Verdict}
 use Rattle.base_answers.specs.declared.Verdict.the-variants as verdicts
 use Rattle.base_answers.specs.declared.Changed.{Changed}
@@ -56,23 +57,37 @@ changed-example = refl
 
 abbrev allLocated : List Located
 allLocated =
-    locations.At 9 ∷ locations.At 0 ∷ locations.Nowhere ∷ locations.Refused ShortBuffer ∷ locations.Refused BrokenChain ∷ []
+    locations.At 9 OnCa
+    ∷ locations.At 0 Inside
+    ∷ locations.At 40031 AtB
+    ∷ locations.Nowhere
+    ∷ locations.Refused ShortBuffer
+    ∷ locations.Refused BrokenChain
+    ∷ []
 
 located-outcome-example : map (λ r. locatedOutcome r) allLocated
-    ≡ done (some 9) ∷ done (some 0) ∷ done none ∷ refused ShortBuffer ∷ refused BrokenChain ∷ []
+    ≡ done (some 9) ∷ done (some 0) ∷ done (some 40031) ∷ done none ∷ refused ShortBuffer ∷ refused BrokenChain ∷ []
 located-outcome-example = refl
 
+-- outside when nowhere, refusals included
+located-position-example : map (λ r. locatedPosition r) allLocated ≡ OnCa ∷ Inside ∷ AtB ∷ Outside ∷ Outside ∷ Outside ∷ []
+located-position-example = refl
+
 located-example : map (λ r. locatedOf r) allLocated
-    ≡ record { number = 0; found = some 9 }
-    ∷ record { number = 0; found = some 0 }
-    ∷ record { number = 0; found = none }
-    ∷ record { number = 1; found = none }
-    ∷ record { number = 2; found = none }
+    ≡ record { number = 0; found = some 9; position = OnCa }
+    ∷ record { number = 0; found = some 0; position = Inside }
+    ∷ record { number = 0; found = some 40031; position = AtB }
+    ∷ record { number = 0; found = none; position = Outside }
+    ∷ record { number = 1; found = none; position = Outside }
+    ∷ record { number = 2; found = none; position = Outside }
     ∷ []
 located-example = refl
 
-found-number-example : map (λ r. foundNumber (locatedOf r .found)) allLocated ≡ 9 ∷ 0 ∷ 65535 ∷ 65535 ∷ 65535 ∷ []
+found-number-example : map (λ r. foundNumber (locatedOf r .found)) allLocated ≡ 9 ∷ 0 ∷ 40031 ∷ 65535 ∷ 65535 ∷ 65535 ∷ []
 found-number-example = refl
+
+is-found-example : map (λ r. isFound (locatedOf r .found)) allLocated ≡ true ∷ true ∷ true ∷ false ∷ false ∷ false ∷ []
+is-found-example = refl
 
 -- Soundness
 

@@ -3,6 +3,7 @@
 use mathlib.Core.Path.{_≡_, refl}
 use mathlib.Core.List.{[]}
 use mathlib.Core.Option.{some}
+use Rattle.spec_plane.specs.declared.Position.the-variants.{OnBc}
 use Rattle.spec_charts.specs.declared.Refusal.the-variants.{FaultyTriangle}
 use Rattle.spec_charts.specs.Refusals.{done}
 use Rattle.spec_calls.specs.Buffers.{chartOf}
@@ -15,7 +16,7 @@ changed-large : changedOf (record { verdict = verdicts.Refused (FaultyTriangle 5
     ≡ record { number = 5; value = 5000000003; chart = chartOf [] [] [] [] 6000000005 7000000007 }
 changed-large = refl
 
-located-large : locatedOutcome (locations.At 5000000003) ≡ done (some 5000000003)
+located-large : locatedOutcome (locations.At 5000000003 OnBc) ≡ done (some 5000000003)
 located-large = refl
 
 found-large : foundNumber (some 5000000003) ≡ 5000000003

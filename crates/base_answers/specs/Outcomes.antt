@@ -4,6 +4,8 @@ use mathlib.Core.Bool.{Bool, true, false}
 use mathlib.Core.List.{List}
 use mathlib.Core.Option.{Option, none, some}
 use Prim.Native.Nat.{ℕ}
+use Rattle.spec_plane.specs.declared.Position.{Position}
+use Rattle.spec_plane.specs.declared.Position.the-variants.{Outside}
 use Rattle.spec_charts.specs.Refusals.{Outcome, refused, done, outcomeNumber, outcomeValue, doneOr}
 use Rattle.spec_calls.specs.Buffers.{Chart}
 use Rattle.spec_calls.specs.Lent.{Lent, leftChart}
@@ -38,18 +40,29 @@ left table keys levels items r = changedOf r (leftChart table keys levels items)
 
 -- locate: done with a triangle or nowhere, or refused
 abbrev pub locatedOutcome : Located → Outcome (Option ℕ)
-locatedOutcome (locations.At i) = done (some i)
+locatedOutcome (locations.At i q) = done (some i)
 locatedOutcome locations.Nowhere = done none
 locatedOutcome (locations.Refused r) = refused r
 
--- its number and triangle; "locate's answer is nowhere" at a refusal
+-- the position of the point by the triangle found, "as outside when the answer is nowhere, refusals included"
+abbrev pub locatedPosition : Located → Position
+locatedPosition (locations.At i q) = q
+locatedPosition locations.Nowhere = Outside
+locatedPosition (locations.Refused r) = Outside
+
+-- its number, triangle and position; "locate's answer is nowhere" at a refusal
 abbrev pub locatedOf : Located → Calls.Located
-locatedOf r = record { number = outcomeNumber (locatedOutcome r); found = doneOr none (locatedOutcome r) }
+locatedOf r = record { number = outcomeNumber (locatedOutcome r); found = doneOr none (locatedOutcome r); position = locatedPosition r }
 
 -- the triangle found as one number: "the triangle or 65535"
 abbrev pub foundNumber : Option ℕ → ℕ
 foundNumber none = 65535
 foundNumber (some i) = i
+
+-- whether a triangle was found
+abbrev pub isFound : Option ℕ → Bool
+isFound none = false
+isFound (some i) = true
 
 -- soundness: done with yes or no, or refused
 abbrev pub soundnessOutcome : Soundness → Outcome Bool

@@ -1,11 +1,12 @@
 // What the public calls answer. Document 01's number and value for each case are definitions in specs/, and functions here.
 
 use spec_charts::Refusal;
+use spec_plane::Position;
 ghost use mathlib.Core.Path.{_≡_};
 ghost use mathlib.Core.Bool.{false};
 ghost use mathlib.Core.Option.{none};
 ghost use Rattle.spec_charts.specs.Refusals.{rowOf, outcomeNumber, outcomeValue, doneOr};
-ghost use Rattle.base_answers.specs.Outcomes.{verdictOutcome, locatedOutcome, foundNumber, soundnessOutcome, areaOutcome};
+ghost use Rattle.base_answers.specs.Outcomes.{verdictOutcome, locatedOutcome, locatedPosition, foundNumber, isFound, soundnessOutcome, areaOutcome};
 
 // How judging a chart, a load, an edit or an overlay went.
 pub enum Verdict {
@@ -20,9 +21,9 @@ pub struct Changed {
     pub entries: usize,
 }
 
-// The triangle under a point.
+// The triangle under a point, and where the point lies by it.
 pub enum Located {
-    At(u16),
+    At(u16, Position),
     Nowhere,
     Refused(Refusal),
 }
@@ -112,7 +113,7 @@ pub fn located_number(l: Located) -> u32
     ensures { λ n. ⌜ n ≡ outcomeNumber (locatedOutcome l) ⌝ }
 {
     match l {
-        Located::At(_) => 0,
+        Located::At(_, _) => 0,
         Located::Nowhere => 0,
         Located::Refused(r) => refusal_number(r),
     }
@@ -126,9 +127,31 @@ pub fn located_triangle(l: Located) -> u16
     ensures { λ n. ⌜ n ≡ foundNumber (doneOr none (locatedOutcome l)) ⌝ }
 {
     match l {
-        Located::At(i) => i,
+        Located::At(i, _) => i,
         Located::Nowhere => NOWHERE,
         Located::Refused(_) => NOWHERE,
+    }
+}
+
+// Whether it found a triangle.
+pub fn is_found(l: Located) -> bool
+    ensures { λ b. ⌜ b ≡ isFound (doneOr none (locatedOutcome l)) ⌝ }
+{
+    match l {
+        Located::At(_, _) => true,
+        Located::Nowhere => false,
+        Located::Refused(_) => false,
+    }
+}
+
+// Its position; outside when nowhere and at a refusal.
+pub fn located_position(l: Located) -> Position
+    ensures { λ q. ⌜ q ≡ locatedPosition l ⌝ }
+{
+    match l {
+        Located::At(_, q) => q,
+        Located::Nowhere => Position::Outside,
+        Located::Refused(_) => Position::Outside,
     }
 }
 

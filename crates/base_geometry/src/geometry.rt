@@ -4,7 +4,7 @@ use crate::orientation;
 use spec_plane::Point;
 ghost use mathlib.Core.Path.{_≡_};
 ghost use Prim.Native.Nat.{_+_};
-ghost use Rattle.spec_plane.specs.Triangle.{cornerAt, triangleOf, rotated as Triangle·rotated, proper, holds as Triangle·holds, strictlyInside};
+ghost use Rattle.spec_plane.specs.Triangle.{cornerAt, triangleOf, rotated as Triangle·rotated, proper};
 
 // Corner i, counted from 0 and modulo 3.
 pub fn corner(t: [Point; 3], i: usize) -> Point
@@ -26,22 +26,4 @@ pub fn is_proper(t: [Point; 3]) -> bool
     ensures { λ o. ⌜ o ≡ proper (triangleOf t) ⌝ }
 {
     orientation::is_inner(t[0], t[1], t[2])
-}
-
-// The closed triangle has the point.
-pub fn holds(t: [Point; 3], p: Point) -> bool
-    ensures { λ o. ⌜ o ≡ Triangle·holds (triangleOf t) p ⌝ }
-{
-    orientation::is_not_outer(t[0], t[1], p)
-        & orientation::is_not_outer(t[1], t[2], p)
-        & orientation::is_not_outer(t[2], t[0], p)
-}
-
-// The point is strictly inside the triangle.
-pub fn is_strictly_inside(t: [Point; 3], p: Point) -> bool
-    ensures { λ o. ⌜ o ≡ strictlyInside (triangleOf t) p ⌝ }
-{
-    orientation::is_inner(t[0], t[1], p)
-        & orientation::is_inner(t[1], t[2], p)
-        & orientation::is_inner(t[2], t[0], p)
 }

@@ -5,7 +5,7 @@ use spec_plane::Point;
 ghost use mathlib.Core.Path.{_≡_};
 ghost use Prim.Native.Nat.{_+_, _*_, _<_};
 ghost use lib.IntN.{pos, _-ℤ_};
-ghost use lib.Signed.{ltZ, leZ};
+ghost use lib.Signed.{ltZ};
 ghost use Rattle.spec_plane.specs.Point.{orient};
 
 fn product(a: u16, b: u16) -> u64
@@ -36,12 +36,4 @@ pub fn is_inner(p: Point, q: Point, r: Point) -> bool
 {
     let d = orientation(p, q, r);
     d.low < d.high
-}
-
-// D(p,q,r) ≥ 0.
-pub fn is_not_outer(p: Point, q: Point, r: Point) -> bool
-    ensures { λ o. ⌜ o ≡ leZ (pos 0) (orient p q r) ⌝ }
-{
-    let d = orientation(p, q, r);
-    d.low <= d.high
 }

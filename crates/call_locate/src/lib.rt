@@ -4,7 +4,6 @@ pub mod places;
 
 use base_answers::Located;
 use base_answers::Verdict;
-use base_geometry::geometry;
 use base_geometry::numbers;
 use spec_plane::Point;
 ghost use mathlib.Core.Path.{_≡_};
@@ -12,6 +11,7 @@ ghost use Prim.Native.Nat.{ℕ, _+_, _*_, _≤_, _<_};
 ghost use lib.ListN.{length, getD};
 ghost use Rattle.theory_lists.specs.Lists.{first};
 ghost use Rattle.spec_plane.specs.Triangle.{holds};
+ghost use Rattle.spec_plane.specs.Position.{position};
 ghost use Rattle.spec_charts.specs.Table.{numbersPerTriangle, triangleAt};
 ghost use Rattle.spec_calls.specs.Calls.{locateCall, listingCall};
 ghost use Rattle.spec_calls.specs.Lent.{given};
@@ -20,16 +20,18 @@ ghost use Rattle.base_answers.specs.Outcomes.{locatedOf};
 ghost use Rattle.call_locate.specs.Holding.{foundOf};
 ghost use Rattle.call_locate.specs.Places.{placesCall};
 
-// The first of the listed triangles that holds p.
+// The first of the listed triangles that holds p, and where p lies by it.
 fn first_holding(table: &[u16], list: &[u16], p: Point) -> Located
     requires { ⌜ ((k : ℕ) → k < length (now list) → numbersPerTriangle * (getD (now list) k 0 + 1) ≤ length (now table)) ⌝ }
-    ensures { λ r. ⌜ r ≡ foundOf (first (λ i. holds (triangleAt (now (table .entry)) i) p) (now (list .entry))) ⌝ }
+    ensures { λ r. ⌜ r ≡ foundOf (λ i. position (triangleAt (now (table .entry)) i) p) (first (λ i. holds (triangleAt (now (table .entry)) i) p) (now (list .entry))) ⌝ }
 {
     let mut k = 0;
     while k < list.len() {
         let i = list[k];
-        if geometry::holds(base_tables::triangle_at(table, numbers::index(i)), p) {
-            return Located::At(i);
+        let t = base_tables::triangle_at(table, numbers::index(i));
+        let q = base_positions::position_in(t, p);
+        if base_positions::is_held(q) {
+            return Located::At(i, q);
         }
         k += 1;
     }
@@ -56,7 +58,8 @@ pub fn cell_listing<'a, 'b, 'c, 'd>(
     &items[from..to]
 }
 
-// Locate p: the lowest numbered triangle, among those listed in the cell whose key range has Z(p), that holds p.
+// Locate p: the lowest numbered triangle, among those listed in the cell whose key range has Z(p), that holds p;
+// and where p lies by it.
 pub fn locate(
     table: &[u16],
     keys: &[u32],

@@ -2,7 +2,6 @@
 
 mod triangle_split;
 
-use base_geometry::geometry;
 use edit_rows::Edited;
 use spec_charts::Refusal;
 use spec_plane::Point;
@@ -23,7 +22,7 @@ pub fn split_table(table: &[u16], n: usize, i: usize, p: Point, scratch: &mut [u
         return Edited::Refused(Refusal::NoSuchTriangle);
     }
     let s = base_tables::triangle_at(table, i);
-    if !geometry::is_strictly_inside(s, p) {
+    if !base_positions::is_inside(base_positions::position_in(s, p)) {
         return Edited::Refused(Refusal::NotInside);
     }
     if n + 2 > base_tables::MOST_TRIANGLES {

@@ -6,11 +6,12 @@ ghost use Rattle.spec_calls.specs.Calls.{locateCall, overlayCall};
 ghost use Rattle.spec_calls.specs.Lent.{given};
 ghost use Rattle.export_helm.specs.Helm.{locatedNumbers, overlaidLeft};
 
-// What locate answers: document 01's number, and the triangle or 65535.
+// What locate answers: document 01's number, the triangle or 65535, and the number of the position, 7 for outside.
 #[repr(C)]
 pub struct JirdLocated {
     pub number: u32,
     pub triangle: u32,
+    pub position: u32,
 }
 
 // What overlay answers: document 01's number, the pair count and the meetings.
@@ -39,7 +40,8 @@ pub extern "C" fn jird_locate(
     let located = call_locate::locate(table, keys, levels, items, triangles, entries, p);
     let number = base_answers::located_number(located);
     let triangle = base_answers::located_triangle(located) as u32;
-    JirdLocated { number, triangle }
+    let position = base_positions::position_number(base_answers::located_position(located)) as u32;
+    JirdLocated { number, triangle, position }
 }
 
 // Overlay of the first chart and the second.

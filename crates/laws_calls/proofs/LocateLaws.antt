@@ -2,7 +2,7 @@
 -- checks 1 and 2; on an indexed chart that is the lowest numbered of the whole table.
 -- The laws before the last of each kind speak of any test, not only of whether a triangle holds the point.
 -- Assumes nothing.
-use mathlib.Core.Path.{_≡_, sym, _∙_, ap}
+use mathlib.Core.Path.{_≡_, refl, sym, _∙_, ap}
 use mathlib.Core.Bool.{Bool, true, false}
 use Prim.Native.Nat.{ℕ}
 use lib.Dec.{T}
@@ -14,7 +14,7 @@ use Rattle.spec_plane.specs.Triangle.{holds}
 use Rattle.spec_plane.proofs.ExtremeLaws.{OnGrid}
 use Rattle.spec_charts.specs.Table.{numbered}
 use Rattle.spec_charts.specs.Cells.{entriesOf}
-use Rattle.spec_charts.specs.Reading.{listing, located}
+use Rattle.spec_charts.specs.Reading.{listing, located, foundPosition}
 use Rattle.laws_charts.proofs.LocateOfChain.{first-listed}
 use Rattle.laws_charts.proofs.LocateOfTable.{first-of-table}
 use Rattle.laws_charts.proofs.TableLaws.{tableOf-length}
@@ -33,6 +33,11 @@ chart-table-length c = tableOf-length (c .table) (c .triangleCount)
 pub entries-indexed : (c : Chart) → indexed c ≡ true → chartEntries c ≡ entriesOf (chartTable c)
 unfolding indexed
 entries-indexed c f = sameEntries-reflects (chartEntries c) (entriesOf (chartTable c)) .to (rw f tt)
+
+-- the position is that of the point by the triangle found, "as outside when the answer is nowhere, refusals included"
+pub locate-position : (c : Chart) (p : Point) → locateCall c p .position ≡ foundPosition (chartTable c) p (locateCall c p .found)
+unfolding locateCall
+locate-position c p = refl
 
 module _ (c : Chart) (p : Point) (r : chainRule c ≡ true) where
   -- of the triangles listed in the point's cell, the first that passes a test is the lowest numbered that passes it

@@ -6,6 +6,7 @@ use mathlib.Core.List.{List, [], _∷_, _++_, map}
 use mathlib.Core.Option.{none, some}
 use Prim.Native.Nat.{ℕ}
 use lib.ListN.{set, take, replicate}
+use Rattle.spec_plane.specs.declared.Position.the-variants.{Inside, Outside}
 use Rattle.spec_charts.specs.Refusals.{Outcome}
 use Rattle.spec_charts.specs.Overlay.{OverlayAnswer, withinPairs}
 use Rattle.spec_charts.proofs.Written.{at}
@@ -108,7 +109,10 @@ edits-example = refl
 -- readers on a chart, on one that is short, and on one whose chain is broken
 readers-example :
     map (λ c. locateCall c (at 50000 50000)) (indexedA ∷ withTable [] ∷ cut ∷ [])
-    ≡ record { number = 0; found = some 1 } ∷ record { number = 1; found = none } ∷ record { number = 2; found = none } ∷ []
+    ≡ record { number = 0; found = some 1; position = Inside }
+    ∷ record { number = 1; found = none; position = Outside }
+    ∷ record { number = 2; found = none; position = Outside }
+    ∷ []
 unfolding evaluate
 readers-example = refl
 

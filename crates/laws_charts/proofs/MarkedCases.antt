@@ -35,7 +35,7 @@ UV = U ∷ Vt ∷ []
 abbrev q : ℕ
 q = 268435456
 
--- cases 1 to 10, in order
+-- cases 1 to 10, in order; case 6 with the positions of wish 1
 abbrev markedCases : List Row
 markedCases =
     record { given = zOrder (at 3 1) ∷ zOrder (at 2 3) ∷ zOrder (at 0 32768) ∷ []; stated = 7 ∷ 14 ∷ 2147483648 ∷ [] }
@@ -50,9 +50,9 @@ markedCases =
     }
     ∷ record { given = cellNumbers (cells UV); stated = cellNumbers (cells (U ∷ [])) }
     ∷ record { given = map (λ s. length (cellEntries UV s)) (cells UV); stated = 1 ∷ 1 ∷ 1 ∷ 2 ∷ 2 ∷ 2 ∷ 1 ∷ [] }
-    ∷ record { given = locatedIn (U ∷ []) (at 32768 32767); stated = 1 ∷ 0 ∷ [] }
-    ∷ record { given = locatedIn (U ∷ []) (at 32768 32768); stated = 0 ∷ [] }
-    ∷ record { given = locatedIn UV (at 65535 0); stated = 1 ∷ 0 ∷ [] }
+    ∷ record { given = locatedIn (U ∷ []) (at 32768 32767); stated = 1 ∷ 0 ∷ 2 ∷ [] }
+    ∷ record { given = locatedIn (U ∷ []) (at 32768 32768); stated = 0 ∷ 7 ∷ [] }
+    ∷ record { given = locatedIn UV (at 65535 0); stated = 1 ∷ 0 ∷ 5 ∷ [] }
     ∷ record { given = overlaid (U ∷ []) (Vt ∷ []); stated = 0 ∷ 0 ∷ 7 ∷ [] }
     ∷ record { given = overlaid (U ∷ []) (U ∷ []); stated = 0 ∷ 1 ∷ 7 ∷ 0 ∷ 0 ∷ [] }
     ∷ record {

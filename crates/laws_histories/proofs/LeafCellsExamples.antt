@@ -10,6 +10,7 @@ use native.Mathlib.Omega.{arith}
 use lib.ListN.{length, getD}
 use Rattle.theory_lists.proofs.ListsLaws.{getD-member}
 use Rattle.spec_plane.specs.declared.Point.{Point}
+use Rattle.spec_plane.specs.declared.Position.the-variants.{AtC, Outside}
 use Rattle.spec_squares.specs.declared.Square.{Square}
 use Rattle.spec_squares.specs.Square.{wholeSquare, topLeft, bottomLeft, bottomRight}
 use Rattle.spec_charts.specs.Table.{Table}
@@ -108,7 +109,12 @@ second-not-lowest-example h = h .lowest 0 (le-refl 1) tt
 
 -- nowhere where no triangle holds the point
 found-nowhere-example : (d : Chart) (p : Point) → FoundUnder d p → chartTable d ≡ []
-    → _≡_ {A = Located} (locateCall d p) (record { number = 0; found = none })
+    → _≡_ {A = Located} (locateCall d p) (record { number = 0; found = none; position = Outside })
 found-nowhere-example d p h e =
     let n = h .nowhere .1 (λ i l t. let z : i < 0 = subst (λ table. i < length table) e l in omega arith) in
-    λ i. record { number = h .number i; found = n i }
+    λ i. record { number = h .number i; found = n i; position = h .outside n i }
+
+-- at the corner c of the triangle found, and nowhere else
+position-found-example : FoundUnder indexedA (at 60000 45000) → locateCall indexedA (at 60000 45000) .position ≡ AtC
+unfolding evaluate
+position-found-example h = h .position 0 refl AtC .1 refl

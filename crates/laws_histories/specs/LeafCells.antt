@@ -9,7 +9,10 @@ use Prim.Native.Nat.{ℕ, suc, _+_, _^_, _≤_, _<_}
 use lib.Dec.{T}
 use lib.ListN.{length, getD}
 use Rattle.spec_plane.specs.declared.Point.{Point}
+use Rattle.spec_plane.specs.declared.Position.{Position}
+use Rattle.spec_plane.specs.declared.Position.the-variants.{Outside}
 use Rattle.spec_plane.specs.Triangle.{holds}
+use Rattle.spec_plane.specs.Position.{Means}
 use Rattle.spec_plane.specs.Box.{triangleMeets}
 use Rattle.spec_squares.specs.declared.Square.{Square}
 use Rattle.spec_squares.specs.Square.{wholeSquare, squareKey, squareBox}
@@ -49,11 +52,14 @@ pub record LowestHolding (table : Table) (p : Point) (i : ℕ) : Type 0 where
   pub lowest : (j : ℕ) → j < i → T (holds (numbered table j) p) → ⊥
 
 -- "The triangle found under a point is the one document 01 names": locate answers 0, and finds the lowest numbered triangle of the
--- whole table that holds p; "else nowhere"
+-- whole table that holds p; "else nowhere". By wish 1 it says where p lies by that triangle, and outside when nowhere
 pub record FoundUnder (d : Chart) (p : Point) : Type 0 where
   pub number : locateCall d p .number ≡ 0
   pub found : (i : ℕ) → (locateCall d p .found ≡ some i) ↔ LowestHolding (chartTable d) p i
   pub nowhere : (locateCall d p .found ≡ none) ↔ ((i : ℕ) → i < length (chartTable d) → T (holds (numbered (chartTable d) i) p) → ⊥)
+  pub position : (i : ℕ) → locateCall d p .found ≡ some i
+      → (q : Position) → (locateCall d p .position ≡ q) ↔ Means (numbered (chartTable d) i) p q
+  pub outside : locateCall d p .found ≡ none → locateCall d p .position ≡ Outside
 
 -- what the event e, accepted, left of the chart c: the chart d. Its table is what the event makes of the table before it, its lists and
 -- counts are all as document 01 says (`is`), it passes refusals 1, 2 and 3 of the next call, its entries are the leaf cells, and the

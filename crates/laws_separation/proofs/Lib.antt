@@ -18,3 +18,4 @@ pub mod Segment
 pub mod SideTouch
 pub mod SideMeets
 pub mod BoxLaws
+pub mod PositionMeaning

@@ -29,14 +29,14 @@ ends-in d = omega arith
 -- ---- its points are averages
 
 -- k times a point is m times one end and n times the other: of the ends and the point one coordinate, then the other
-record Weighed (a b z a′ b′ z′ w : ℕ) : Type 0 where
-  k : ℕ
-  m : ℕ
-  n : ℕ
-  first : k * z ≡ m * a + n * b
-  second : k * z′ ≡ m * a′ + n * b′
-  whole : k * w ≡ m + n
-  some : 0 < k
+pub record Weighed (a b z a′ b′ z′ w : ℕ) : Type 0 where
+  pub k : ℕ
+  pub m : ℕ
+  pub n : ℕ
+  pub first : k * z ≡ m * a + n * b
+  pub second : k * z′ ≡ m * a′ + n * b′
+  pub whole : k * w ≡ m + n
+  pub some : 0 < k
 
 -- the same with the ends exchanged, or the coordinates
 back : {a b z a′ b′ z′ w : ℕ} → Weighed a b z a′ b′ z′ w → Weighed b a z b′ a′ z′ w
@@ -91,10 +91,10 @@ either-way a b z a′ b′ z′ w l r e = elim (decLe b a) [
 ]
 
 -- z is such an average of the ends of d
-abbrev Average : Side → Triple → Type 0
-Average d z = Weighed (d .start .x) (d .end .x) (z .x) (d .start .y) (d .end .y) (z .y) (z .w)
+abbrev pub Between : Side → Triple → Type 0
+Between d z = Weighed (d .start .x) (d .end .x) (z .x) (d .start .y) (d .end .y) (z .y) (z .w)
 
-average : (d : Side) (z : Triple) → 0 < z .w → segment d .Has z → Average d z
+average : (d : Side) (z : Triple) → 0 < z .w → segment d .Has z → Between d z
 unfolding sideBox side _•_
 average d z above h =
     let p = d .start in
@@ -109,20 +109,23 @@ average d z above h =
 
 -- ---- forms at its points
 
-mixture : (u : Triple) (d : Side) (z : Triple) (e : Average d z)
+mixture : (u : Triple) (d : Side) (z : Triple) (e : Between d z)
     → e .k * (u • z) ≡ e .m * (u • at (d .start)) + e .n * (u • at (d .end))
 unfolding _•_
 mixture u d z e =
     omega (arith, ap (λ t. u .x * t) (e .first), ap (λ t. u .y * t) (e .second), ap (λ t. u .w * t) (e .whole))
 
--- A form that is at least zero at both ends of a side is so at each of its points.
-pub at-point : (d : Side) (z : Triple) → 0 < z .w → segment d .Has z
+-- A form that is at least zero at both ends of a side is so at each average of them, and so at each point of the side.
+pub at-between : (d : Side) (z : Triple) → Between d z
     → (f : Form) → halfClosed f .Has (at (d .start)) → halfClosed f .Has (at (d .end)) → halfClosed f .Has z
-at-point d z above h f p q =
-    let e = average d z above h in
+at-between d z e f p q =
     let l = mixture (f .low) d z e in
     let r = mixture (f .high) d z e in
     le-of-mul-le-mul-left {k = e .k} (omega (arith, mul-le-mul-left (e .m) p, mul-le-mul-left (e .n) q)) (e .some)
+
+pub at-point : (d : Side) (z : Triple) → 0 < z .w → segment d .Has z
+    → (f : Form) → halfClosed f .Has (at (d .start)) → halfClosed f .Has (at (d .end)) → halfClosed f .Has z
+at-point d z above h = at-between d z (average d z above h)
 
 -- A form that is at least zero at a point of a side is so at one of its ends.
 pub some-end : (d : Side) (z : Triple) → 0 < z .w → segment d .Has z

@@ -64,6 +64,9 @@ corner-difference p q r = rw (← orientAt-whole p q r) (side-difference p q (at
 pub corner-reflects : (p q r : Point) → Reflects (ltZ (pos 0) (orient p q r)) (half (side p q) .Has (at r))
 corner-reflects p q r = rw add-one (reflects-le (diff-above (corner-difference p q r)))
 
+pub corner-nonneg-reflects : (p q r : Point) → Reflects (leZ (pos 0) (orient p q r)) (halfClosed (side p q) .Has (at r))
+corner-nonneg-reflects p q r = rw add-zero (reflects-le (diff-nonneg (corner-difference p q r)))
+
 -- the inside of a triangle, and the triangle with its border
 abbrev pub inside : Triangle → Cone
 inside t = half (side (t .a) (t .b)) ∩ half (side (t .b) (t .c)) ∩ half (side (t .c) (t .a))

@@ -91,3 +91,7 @@ room-two n m h k = omega (arith, line-short n (m ∷ []) h (every-cons (k, every
 pub room-three : (n m l : ℕ) → n < 2 ^ 64 → m < 2 ^ 64 → l < 2 ^ 64 → length (line n (m ∷ l ∷ [])) ≤ lineRoom
 room-three n m l h k j =
     omega (arith, line-short n (m ∷ l ∷ []) h (every-cons (k, every-cons (j, every-nil (λ i. i < 2 ^ 64)))))
+
+pub room-four : (n m l k : ℕ) → n < 2 ^ 64 → m < 2 ^ 64 → l < 2 ^ 64 → k < 2 ^ 64 → length (line n (m ∷ l ∷ k ∷ [])) ≤ lineRoom
+room-four n m l k h i j g =
+    omega (arith, line-short n (m ∷ l ∷ k ∷ []) h (every-cons (i, every-cons (j, every-cons (g, every-nil (λ i. i < 2 ^ 64))))))

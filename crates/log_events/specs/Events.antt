@@ -24,9 +24,9 @@ pub record CalledOn (c : ℕ) (e : Event) (d₀ d₁ : Chart) (r : Changed) (d�
   pub first : d₀′ ≡ chartIn c (eventCall e d₀ .chart) d₀
   pub second : d₁′ ≡ chartIn c d₁ (eventCall e d₁ .chart)
 
--- room enough for a line of three 64-bit numbers: twenty digits each, and a byte after each
+-- room enough for a line of four 64-bit numbers: twenty digits each, and a byte after each
 abbrev pub lineRoom : ℕ
-lineRoom = 63
+lineRoom = 84
 
 -- the same of both charts, the call by its numbers
 abbrev pub Called : ℕ → List ℕ → Both → Changed → Both → Type 0

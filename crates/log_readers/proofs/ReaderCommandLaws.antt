@@ -1,7 +1,7 @@
 -- Commands 6 and 7 on charts that hold the tables of a state: what they print.
 -- Assumes nothing.
 use mathlib.Core.Path.{_≡_, refl, sym, _∙_, ap, ap₂}
-use mathlib.Core.Bool.{Bool, true, false}
+use mathlib.Core.Bool.{Bool, true, false, true≢false}
 use mathlib.Core.List.{List, [], _∷_, _++_}
 use mathlib.Core.Option.{Option, none, some}
 use Prim.Native.Nat.{ℕ, zero, suc, _^_, _≤_, _<_}
@@ -12,6 +12,7 @@ use lib.ListN.{length}
 use Rattle.theory_lists.proofs.ListsLaws.{every-cons}
 use Rattle.theory_lists.proofs.EveryLaws.{every-nil}
 use Rattle.spec_plane.specs.declared.Point.{Point}
+use Rattle.spec_plane.specs.Position.{positionNumber}
 use Rattle.spec_charts.specs.declared.Refusal.{Refusal}
 use Rattle.spec_charts.specs.declared.Refusal.the-variants.{TooManyPairs}
 use Rattle.spec_charts.specs.Refusals.{Outcome, done, refuseIf, outcomeNumber}
@@ -21,10 +22,11 @@ use Rattle.spec_calls.specs.Calls.{locateCall, overlayCall, overlaidBy}
 use Rattle.spec_calls.specs.Calls as Calls
 use Rattle.spec_log.specs.Log.{State, line, tableIn, locatedNumbers, locateStep, overlayStep}
 use Rattle.base_answers.specs.declared.Located.{Located}
-use Rattle.base_answers.specs.Outcomes.{locatedOutcome, locatedOf, foundNumber}
+use Rattle.base_answers.specs.declared.Located.the-variants as locations
+use Rattle.base_answers.specs.Outcomes.{locatedOf, foundNumber, isFound}
 use Rattle.log_lines.specs.Bytes.{pairLines}
 use Rattle.log_lines.proofs.LineLaws.{line-short}
-use Rattle.log_state.specs.State.{Charts, chartIn, overlaidLines}
+use Rattle.log_state.specs.State.{Charts, chartIn, locatedLine, overlaidLines}
 use Rattle.log_state.proofs.HoldingLaws.{locate-told, overlay-told}
 
 -- ---- command 6
@@ -39,21 +41,27 @@ unfolding chartIn
 in-second zero d e p z = absurd (z refl)
 in-second (suc c) d e p z = refl
 
-found-number : (o : Option ℕ) → foundNumber o ∷ [] ≡ locatedNumbers o
-unfolding locatedNumbers
-found-number none = refl
-found-number (some i) = refl
+-- the line where a triangle was found, and where none was
+pub found-line : (l : Located) {n i k : ℕ} → isFound (locatedOf l .found) ≡ true
+    → n ≡ locatedOf l .number → i ≡ foundNumber (locatedOf l .found) → k ≡ positionNumber (locatedOf l .position)
+    → line 6 (n ∷ i ∷ k ∷ []) ≡ locatedLine (locatedOf l)
+unfolding locatedLine locatedNumbers
+found-line (locations.At i q) f g h e = rw (g, h, e)
+found-line locations.Nowhere f g h e = absurd (true≢false (sym f))
+found-line (locations.Refused r) f g h e = absurd (true≢false (sym f))
 
-pub locate-printed : (c : ℕ) (p : Point) (l : Located) {n f : ℕ} {d e : Chart} → locatedOf l ≡ locateCall (chartIn c d e) p
-    → n ≡ outcomeNumber (locatedOutcome l) → f ≡ foundNumber (locatedOf l .found)
-    → (s : State) → Charts s d e → line 6 (n ∷ f ∷ []) ≡ locateStep c p s .printed
-unfolding chartIn locateStep tableIn
-locate-printed zero p l q i j s h =
-    let g = q ∙ locate-told (h .first) p in
-    ap₂ (λ n ns. line 6 (n ∷ ns)) (i ∙ ap (λ x. x .number) g) (ap (λ m. m ∷ []) j ∙ found-number (locatedOf l .found) ∙ ap (λ x. locatedNumbers (x .found)) g)
-locate-printed (suc c) p l q i j s h =
-    let g = q ∙ locate-told (h .second) p in
-    ap₂ (λ n ns. line 6 (n ∷ ns)) (i ∙ ap (λ x. x .number) g) (ap (λ m. m ∷ []) j ∙ found-number (locatedOf l .found) ∙ ap (λ x. locatedNumbers (x .found)) g)
+pub nowhere-line : (l : Located) {n i : ℕ} → isFound (locatedOf l .found) ≡ false
+    → n ≡ locatedOf l .number → i ≡ foundNumber (locatedOf l .found) → line 6 (n ∷ i ∷ []) ≡ locatedLine (locatedOf l)
+unfolding locatedLine locatedNumbers
+nowhere-line (locations.At i q) f g h = absurd (true≢false f)
+nowhere-line locations.Nowhere f g h = rw (g, h)
+nowhere-line (locations.Refused r) f g h = rw (g, h)
+
+pub locate-printed : (c : ℕ) (p : Point) {l : Calls.Located} {d e : Chart} → l ≡ locateCall (chartIn c d e) p
+    → (s : State) → Charts s d e → locatedLine l ≡ locateStep c p s .printed
+unfolding chartIn locateStep tableIn locatedLine
+locate-printed zero p q s h = ap locatedLine (q ∙ locate-told (h .first) p)
+locate-printed (suc c) p q s h = ap locatedLine (q ∙ locate-told (h .second) p)
 
 -- ---- command 7
 
@@ -91,8 +99,3 @@ lines-done o h z f g = rw (eq-eqb (o .number) 0 (sym h ∙ z), z, f, g)
 pub lines-refused : (o : Calls.Overlaid) {n : ℕ} → n ≡ o .number → (n ≡ 0 → ⊥) → line 7 (n ∷ []) ≡ overlaidLines o
 unfolding overlaidLines
 lines-refused o h z = rw (ne-eqb (o .number) 0 (λ q. z (h ∙ q)), h)
-
--- the first line of an overlay has at most 84 bytes
-pub head-short : (n i j : ℕ) → n < 2 ^ 64 → i < 2 ^ 64 → j < 2 ^ 64 → length (line 7 (n ∷ i ∷ j ∷ [])) ≤ 84
-head-short n i j h k l =
-    omega (arith, line-short 7 (n ∷ i ∷ j ∷ []) (omega arith) (every-cons (h, every-cons (k, every-cons (l, every-nil (λ m. m < 2 ^ 64))))))

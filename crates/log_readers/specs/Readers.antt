@@ -7,10 +7,11 @@ use Rattle.spec_log.specs.Log.{State, Step}
 use Rattle.log_lines.specs.Bytes.{Wrote, pairBytes}
 use Rattle.log_state.specs.State.{Charts}
 use Rattle.log_events.specs.Both.{Both}
+use Rattle.log_events.specs.Events.{lineRoom}
 
--- room enough for the lines of any overlay: a line of four 64-bit numbers, and those of 4,096 pairs
+-- room enough for the lines of any overlay: its first, and those of 4,096 pairs
 abbrev pub overlayRoom : ℕ
-overlayRoom = 84 + pairBytes * maxPairs
+overlayRoom = lineRoom + pairBytes * maxPairs
 
 -- what a step prints is written, whatever tables the charts hold
 abbrev pub Prints : (State → Step) → Both → ℕ → ℕ → List ℕ → List ℕ → Type 0

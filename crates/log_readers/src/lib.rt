@@ -18,7 +18,7 @@ ghost use Rattle.base_answers.specs.Outcomes.{locatedOf, overlaidOf};
 ghost use Rattle.log_events.specs.Both.{bothGiven};
 ghost use Rattle.log_events.specs.Events.{lineRoom};
 ghost use Rattle.log_lines.specs.Bytes.{Wrote};
-ghost use Rattle.log_state.specs.State.{chartIn, overlaidLines};
+ghost use Rattle.log_state.specs.State.{chartIn, locatedLine, overlaidLines};
 ghost use Rattle.log_readers.specs.Readers.{overlayRoom, Prints};
 
 // Locates p in chart c.
@@ -61,6 +61,22 @@ fn locate_in(
     )
 }
 
+// The line of a locate's answer: the position after the triangle, and 65535 alone when nowhere.
+fn put_located(located: Located, out: &mut [u8], at: usize) -> usize
+    requires { ⌜ at + lineRoom ≤ length (now out) ⌝ }
+    ensures { λ r. ⌜ Wrote (locatedLine (locatedOf located)) at r (now (out .entry)) (now (out .exit)) ⌝ }
+{
+    let number = base_answers::located_number(located) as u64;
+    let triangle = numbers::wide(base_answers::located_triangle(located));
+    if base_answers::is_found(located) {
+        let q = base_answers::located_position(located);
+        let others = [number, triangle, numbers::wide(base_positions::position_number(q))];
+        return put_line(6, &others, out, at);
+    }
+    let others = [number, triangle];
+    put_line(6, &others, out, at)
+}
+
 // Command 6: locates p in chart c and prints its line.
 pub fn locate_command(
     c: u8,
@@ -94,11 +110,7 @@ pub fn locate_command(
         items1,
         counts,
     );
-    let others = [
-        base_answers::located_number(located) as u64,
-        numbers::wide(base_answers::located_triangle(located)),
-    ];
-    put_line(6, &others, out, at)
+    put_located(located, out, at)
 }
 
 // The lines of an overlay's answer.

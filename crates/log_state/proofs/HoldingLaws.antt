@@ -15,7 +15,6 @@ use Rattle.spec_charts.specs.Cells.{entriesOf}
 use Rattle.spec_charts.specs.Refusals.{rowOf, Outcome, refused, done, outcomeNumber, outcomeValue, doneOr}
 use Rattle.spec_charts.specs.Edits.{Event, load, eventOn, afterEvent}
 use Rattle.spec_charts.specs.Overlay.{OverlayAnswer, pairNumbers, overlayOf}
-use Rattle.spec_charts.specs.Reading.{located}
 use Rattle.laws_charts.proofs.OutcomeLaws.{row-positive}
 use Rattle.spec_calls.specs.Buffers.{Chart, tooShort, chartTable, chartEntries, indexedChart, chartWith, padded, pairsLength}
 use Rattle.spec_calls.specs.Calls.{locateCall, overlaidBy, overlayCall}
@@ -23,7 +22,7 @@ use Rattle.spec_calls.specs.History.{eventCall}
 use Rattle.laws_calls.proofs.IndexedLaws.{Editable, indexed-table, indexed-entries, indexed-editable}
 use Rattle.laws_calls.proofs.AcceptedLaws.{after-fits}
 use Rattle.laws_calls.proofs.EditCalls.{event-chart, event-number, event-value}
-use Rattle.laws_calls.proofs.ReaderLaws.{located-done}
+use Rattle.laws_calls.proofs.ReaderLaws.{foundIn, located-done}
 use Rattle.laws_histories.proofs.ChartHistory.{load-empty, empty-fits}
 use Rattle.laws_histories.proofs.IndexedOverlay.{overlay-passes}
 use Rattle.spec_log.specs.Log.{eventNumbers, refusalNumbers, overlayLines, line}
@@ -74,7 +73,7 @@ holding-editable {d} {t} h =
     rw (h .is) (indexed-editable (h .buffers) t (h .fits .few) (h .fits .small) (h .long) (h .fits .oriented))
 
 pub locate-told : {d : Chart} {t : Table} → Holding d t → (p : Point)
-    → locateCall d p ≡ record { number = 0; found = located t (entriesOf t) p }
+    → locateCall d p ≡ foundIn t (entriesOf t) p
 locate-told {d} {t} h p =
     let e = holding-editable h in
     let table = ap chartTable (h .is) ∙ indexed-table (h .buffers) t in

@@ -7,9 +7,9 @@ use Prim.Native.Nat.{ℕ, zero, suc}
 use lib.Dec.{eqb}
 use Rattle.spec_charts.specs.Table.{Table}
 use Rattle.spec_calls.specs.Buffers.{Chart, tooShort, indexedChart}
-use Rattle.spec_calls.specs.Calls.{Overlaid}
+use Rattle.spec_calls.specs.Calls.{Located, Overlaid}
 use Rattle.laws_calls.proofs.OverwriteLaws.{Indexable}
-use Rattle.spec_log.specs.Log.{State, Step, line}
+use Rattle.spec_log.specs.Log.{State, Step, line, locatedNumbers}
 use Rattle.log_lines.specs.Bytes.{Wrote, pairLines}
 
 -- the chart d holds the table t: it is the chart of t in buffers that are long enough
@@ -37,6 +37,10 @@ pub record Ran (st : Step) (at next : ℕ) (before after : List ℕ) (d e : Char
 -- the numbers that commands 2 to 5 print after their own, from the number, the value and the entry count of their call
 unfoldable pub toldNumbers : ℕ → ℕ → ℕ → List ℕ
 toldNumbers number value entries = cond (eqb number 0) (0 ∷ entries ∷ []) (number ∷ cond (eqb number 5) (value ∷ []) [])
+
+-- the line of command 6, from the answer of locate
+unfoldable pub locatedLine : Located → List ℕ
+locatedLine l = line 6 (l .number ∷ locatedNumbers (l .found) (l .position))
 
 -- the lines of command 7, from the answer of the overlay
 unfoldable pub overlaidLines : Overlaid → List ℕ

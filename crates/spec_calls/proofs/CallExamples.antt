@@ -8,6 +8,7 @@ use mathlib.Core.Option.{none, some}
 use Prim.Native.Nat.{ℕ}
 use lib.ListN.{take, replicate}
 use Rattle.spec_plane.specs.declared.Point.{Point}
+use Rattle.spec_plane.specs.declared.Position.the-variants.{OnAb, Outside}
 use Rattle.spec_plane.specs.Triangle.{Triangle}
 use Rattle.spec_charts.specs.Table.{Table, tableLength}
 use Rattle.spec_charts.specs.Cells.{maxEntries}
@@ -143,9 +144,12 @@ soundCall-example : map (λ c. soundCall c) (chartUV ∷ filled (numbersU ++ num
 unfolding evaluate
 soundCall-example = refl
 
--- at a refusal locate is nowhere, soundness is no and the sum is 0
-locateCall-example : map (λ c. locateCall c (at 9 7)) (short ∷ broken ∷ chartU ∷ [])
-    ≡ record { number = 1; found = none } ∷ record { number = 2; found = none } ∷ record { number = 0; found = some 0 } ∷ []
+-- at a refusal locate is nowhere and outside, soundness is no and the sum is 0; on side ab of U
+locateCall-example : map (λ c. locateCall c (at 9 0)) (short ∷ broken ∷ chartU ∷ [])
+    ≡ record { number = 1; found = none; position = Outside }
+    ∷ record { number = 2; found = none; position = Outside }
+    ∷ record { number = 0; found = some 0; position = OnAb }
+    ∷ []
 unfolding evaluate
 locateCall-example = refl
 

@@ -9,6 +9,7 @@ use Prim.Native.Nat.{ℕ}
 use lib.Dec.{ltb, eqb}
 use lib.ListN.{length}
 use Rattle.spec_plane.specs.declared.Point.{Point}
+use Rattle.spec_plane.specs.declared.Position.{Position}
 use Rattle.spec_charts.specs.Table.{Table}
 use Rattle.spec_charts.specs.declared.Refusal.{Refusal}
 use Rattle.spec_charts.specs.declared.Refusal.the-variants.{ShortBuffer, BrokenChain, StaleEntries, TooManyPairs}
@@ -16,7 +17,7 @@ use Rattle.spec_charts.specs.Refusals.{rowOf, Outcome, refused, done, refuseIf,
 use Rattle.spec_charts.specs.Edits.{Event, load, split, takeOut, flip, eventOn}
 use Rattle.spec_charts.specs.Overlay.{OverlayAnswer, pairNumbers, overlayOf}
 use Rattle.spec_calls.specs.Buffers.{Chart, tooShort, chainRule, indexed, indexedChart, chartTable, chartEntries, padded, pairsLength}
-use Rattle.spec_charts.specs.Reading.{located, listing, sound, totalArea}
+use Rattle.spec_charts.specs.Reading.{located, foundPosition, listing, sound, totalArea}
 
 -- Refusals 1, 2 and 3 of a chart, in their order, each before what comes next
 
@@ -68,16 +69,17 @@ flipCall i j = editCall (flip i j)
 unfoldable pub reading : {A : Type 0} → Chart → A → Outcome A
 reading c a = ifChained c (done a)
 
--- the number, and the triangle found; none is nowhere
+-- the number, the triangle found, where none is nowhere, and the position of the point by it
 pub record Located : Type 0 where
   pub number : ℕ
   pub found : Option ℕ
+  pub position : Position
 
--- "locate's answer is nowhere" at a refusal
+-- "locate's answer is nowhere" at a refusal, and the position "outside when the answer is nowhere, refusals included"
 unfoldable pub locateCall : Chart → Point → Located
 locateCall c p =
     let o : Outcome (Option ℕ) = reading c (located (chartTable c) (chartEntries c) p) in
-    record { number = outcomeNumber o; found = doneOr none o }
+    record { number = outcomeNumber o; found = doneOr none o; position = foundPosition (chartTable c) p (doneOr none o) }
 
 -- "an empty part for .. refusals 1 and 2. It returns that part alone, without a number"
 unfoldable pub listingCall : Chart → Point → List ℕ

@@ -164,14 +164,14 @@ limit-of-pairs-example = refl
 
 -- Reading
 
--- the common corner, on a side, strictly inside the second, on its side, outside
+-- the common corner, strictly inside the first and the second, on a side, outside
 located-example :
     locatedIn tableA (at 60000 45000)
     ++ locatedIn tableA (at 52000 25000)
     ++ locatedIn tableA (at 50000 50000)
     ++ locatedIn tableA (at 30000 42500)
     ++ locatedIn tableA (at 30000 5)
-    ≡ 1 ∷ 0 ∷ 1 ∷ 0 ∷ 1 ∷ 1 ∷ 1 ∷ 1 ∷ 0 ∷ []
+    ≡ 1 ∷ 0 ∷ 6 ∷ 1 ∷ 0 ∷ 0 ∷ 1 ∷ 1 ∷ 0 ∷ 1 ∷ 1 ∷ 2 ∷ 0 ∷ 7 ∷ []
 unfolding evaluate
 located-example = refl
 

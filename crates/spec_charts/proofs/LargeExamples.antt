@@ -13,13 +13,14 @@ use lib.ListN.{length, drop, replicate}
 use Rattle.theory_orthtree.specs.Entries.{Entry, entry}
 use Rattle.spec_plane.specs.Triangle.{Triangle}
 use Rattle.spec_squares.specs.declared.Square.{Square}
+use Rattle.spec_plane.specs.declared.Position.the-variants.{Inside, AtA}
 use Rattle.spec_charts.specs.Table.{Table, Drawn, sixteenBit, pointAt, triangleAt, tableOf, triangleNumbers, tableNumbers, noTriangle, numbered}
 use Rattle.spec_charts.specs.Cells.{cellsIn, stopped, orMark, entryOf}
 use Rattle.spec_charts.specs.declared.Refusal.the-variants.{FaultyTriangle, NoFlip, TooManyPairs}
 use Rattle.spec_charts.specs.Refusals.{alone, rowOf, refused, done, outcomeValue, doneOr}
 use Rattle.spec_charts.specs.Edits.{refuseFaulty, givenTable, loadTable, splitAt, splitTable, mergeAround, mergeThree, takeOutThree, flipAs, flipWith, flipAmong, flipTable, split, flip, proposed, limited}
 use Rattle.spec_charts.specs.Overlay.{pair, Earlier, pairNumbers, pairListed, pairsListed, withinPairs, SharesGround, keysOf, rangesOverlap}
-use Rattle.spec_charts.specs.Reading.{listing, located, totalArea}
+use Rattle.spec_charts.specs.Reading.{listing, located, foundPosition, totalArea}
 use Rattle.spec_charts.proofs.Evaluate.{evaluate}
 use Rattle.spec_charts.proofs.Written.{at, outcomeNumbers}
 use Rattle.spec_charts.proofs.EditExamples.{pa, pb, pc, pd, pp, tri}
@@ -278,6 +279,10 @@ listing-large = refl
 located-large : located deep listed pp ∷ located (far ∷ []) (entry 0 0 4294967296 ∷ []) pp ∷ [] ≡ some 512 ∷ some 4294967296 ∷ []
 unfolding evaluate
 located-large = refl
+
+found-position-large : foundPosition deep pp (some 512) ∷ foundPosition (far ∷ []) pp (some 4294967296) ∷ [] ≡ Inside ∷ AtA ∷ []
+unfolding evaluate
+found-position-large = refl
 
 totalArea-large : totalArea (tri (at 0 0) (at 100000 0) (at 0 100000) ∷ tri (at 0 0) (at 200000 0) (at 0 300000) ∷ []) ≡ 70000000000
 unfolding evaluate

@@ -2,11 +2,12 @@
 -- Assumes nothing.
 use mathlib.Core.Path.{_≡_, refl}
 use mathlib.Core.Bool.{true, false}
-use mathlib.Core.List.{List, [], _∷_, map}
+use mathlib.Core.List.{List, [], _∷_, _++_, map}
 use mathlib.Core.Option.{none, some}
 use Rattle.theory_orthtree.specs.Entries.{Entry, entry}
+use Rattle.spec_plane.specs.declared.Position.the-variants.{Inside, OnBc, AtA, Outside}
 use Rattle.spec_charts.specs.Table.{Table}
-use Rattle.spec_charts.specs.Reading.{cellOf, listing, located, sound, totalArea}
+use Rattle.spec_charts.specs.Reading.{cellOf, listing, located, foundPosition, sound, totalArea}
 use Rattle.spec_charts.proofs.Evaluate.{evaluate}
 use Rattle.spec_charts.proofs.Written.{at}
 use Rattle.spec_charts.proofs.EditExamples.{pa, pb, pc, pd, pp, tri}
@@ -39,7 +40,7 @@ listing-cells-example : map (λ p. listing es p) (at 32767 32767 ∷ at 32768 0 
 unfolding evaluate
 listing-cells-example = refl
 
--- the point is strictly inside 0, on a side of 1, strictly inside 2, outside 3
+-- the point is strictly inside 0, at a corner of 1, strictly inside 2, outside 3
 abbrev table : Table
 table = tri pa pb pc ∷ tri pp pc pa ∷ tri pa pb pc ∷ tri pb pa pd ∷ []
 
@@ -55,6 +56,14 @@ located-listed-example :
     ≡ some 1 ∷ some 2 ∷ none ∷ none ∷ none ∷ some 0 ∷ []
 unfolding evaluate
 located-listed-example = refl
+
+-- by the triangle found, not by another that holds the point: outside when nowhere, inside 0, at corner a of 1, outside 3, on side bc
+-- of 4
+found-position-example :
+    map (λ o. foundPosition (table ++ (tri (at 10 40) (at 20 23) (at 40 43) ∷ [])) pp o) (none ∷ some 0 ∷ some 1 ∷ some 3 ∷ some 4 ∷ [])
+    ≡ Outside ∷ Inside ∷ AtA ∷ Outside ∷ OnBc ∷ []
+unfolding evaluate
+found-position-example = refl
 
 -- no triangle, one, two that share a side, the same twice, and two of three that have a common interior point, first and last
 sound-pairs-example :

@@ -1,18 +1,19 @@
 -- Ways to write results as numbers, for examples.
 -- Assumes nothing.
-use mathlib.Core.List.{List, [], _∷_, flatMap}
+use mathlib.Core.List.{List, [], _∷_, _++_, flatMap}
 use mathlib.Core.Option.{Option, none, some}
 use Prim.Native.Nat.{ℕ}
 use lib.ListN.{length}
 use Rattle.theory_orthtree.specs.Entries.{Entry}
 use Rattle.spec_plane.specs.declared.Point.{Point}
+use Rattle.spec_plane.specs.Position.{positionNumber}
 use Rattle.spec_squares.specs.declared.Square.{Square}
 use Rattle.spec_squares.specs.Square.{squareKey}
 use Rattle.spec_charts.specs.Table.{Table, tableNumbers}
 use Rattle.spec_charts.specs.Cells.{entriesOf}
 use Rattle.spec_charts.specs.Refusals.{rowOf, Outcome, refused, done}
 use Rattle.spec_charts.specs.Overlay.{OverlayAnswer, pairNumbers, overlayOf}
-use Rattle.spec_charts.specs.Reading.{located}
+use Rattle.spec_charts.specs.Reading.{located, foundPosition}
 
 -- the point x, y
 abbrev pub at : ℕ → ℕ → Point
@@ -41,9 +42,11 @@ abbrev pub overlayNumbers : Outcome OverlayAnswer → List ℕ
 overlayNumbers (refused r) = rowOf r .number ∷ []
 overlayNumbers (done h) = 0 ∷ length (h .pairs) ∷ h .meets ∷ pairNumbers (h .pairs)
 
--- locate in a table, indexed
+-- locate in a table, indexed, and the position's number
 abbrev pub locatedIn : Table → Point → List ℕ
-locatedIn t p = foundNumbers (located t (entriesOf t) p)
+locatedIn t p =
+    let found : Option ℕ = located t (entriesOf t) p in
+    foundNumbers found ++ (positionNumber (foundPosition t p found) ∷ [])
 
 -- overlay of two tables, indexed
 abbrev pub overlaid : Table → Table → List ℕ

@@ -1,15 +1,18 @@
--- Document 01, "Reading": locate, cell listing, soundness and doubled area.
+-- Document 01, "Reading": locate, cell listing, soundness and doubled area; document 02, wish 1: the position that locate reports.
 -- Assumes nothing.
 use mathlib.Core.Bool.{Bool, not, _||_}
 use mathlib.Core.List.{List, map}
-use mathlib.Core.Option.{Option}
+use mathlib.Core.Option.{Option, none, some}
 use Prim.Native.Nat.{ℕ}
 use lib.Dec.{eqb}
 use lib.ListN.{length}
 use Rattle.theory_lists.specs.Lists.{all, filter, first, sumOf, upTo}
 use Rattle.theory_orthtree.specs.Entries.{Entry, isMark, covers}
 use Rattle.spec_plane.specs.declared.Point.{Point}
+use Rattle.spec_plane.specs.declared.Position.{Position}
+use Rattle.spec_plane.specs.declared.Position.the-variants.{Outside}
 use Rattle.spec_plane.specs.Triangle.{holds, doubledArea}
+use Rattle.spec_plane.specs.Position.{position}
 use Rattle.spec_plane.specs.Interior.{interiorsMeet}
 use Rattle.spec_squares.specs.Square.{arity, depth, zOrder}
 use Rattle.spec_charts.specs.Table.{Table, numbered}
@@ -26,6 +29,12 @@ listing es p = map (λ e. e .item) (filter (λ e. not (isMark e)) (cellOf es p))
 -- nowhere": the first, as listings ascend
 unfoldable pub located : Table → List Entry → Point → Option ℕ
 located table es p = first (λ i. holds (numbered table i) p) (listing es p)
+
+-- wish 1: what "locate reports .. beside the triangle number", the position of p by the triangle found, "as outside when the answer
+-- is nowhere"
+unfoldable pub foundPosition : Table → Point → Option ℕ → Position
+foundPosition table p none = Outside
+foundPosition table p (some i) = position (numbered table i) p
 
 -- "Soundness: yes exactly when no two different triangle numbers of the table have a point strictly inside both"
 unfoldable pub sound : Table → Bool

@@ -7,6 +7,7 @@ use Prim.Native.Nat.{ℕ, suc, _+_}
 use lib.ListN.{length, replicate}
 use Rattle.spec_plane.specs.declared.Point.{Point}
 use Rattle.spec_plane.specs.Triangle.{Triangle}
+use Rattle.spec_plane.specs.declared.Position.the-variants.{Inside, OnAb, OnBc, OnCa, AtA, AtB, AtC, Outside}
 use Rattle.spec_charts.specs.Table.{Table}
 use Rattle.spec_charts.specs.Cells.{entriesOf}
 use Rattle.spec_charts.specs.declared.Refusal.the-variants.{BrokenChain, FaultyTriangle, NotThreeAround}
@@ -105,13 +106,27 @@ load-any-example : (c : ℕ) (s : State) → loadStep c s ≡ eventStep 2 c (eve
 unfolding loadStep
 load-any-example c s = refl
 
--- a triangle alone, or 65535 alone
-located-numbers-example : map (λ o. locatedNumbers o) (none ∷ some 0 ∷ some 40031 ∷ some 5000000031 ∷ [])
-    ≡ (65535 ∷ []) ∷ (0 ∷ []) ∷ (40031 ∷ []) ∷ (5000000031 ∷ []) ∷ []
+-- a triangle and the position's number after it, or 65535 alone
+located-numbers-example :
+    map (λ q. locatedNumbers (some 40031) q) (Inside ∷ OnAb ∷ OnBc ∷ OnCa ∷ AtA ∷ AtB ∷ AtC ∷ [])
+    ++ (locatedNumbers none Outside ∷ locatedNumbers none Inside ∷ locatedNumbers (some 0) AtC ∷ locatedNumbers (some 5000000031) OnAb ∷ [])
+    ≡ (40031 ∷ 0 ∷ [])
+    ∷ (40031 ∷ 1 ∷ [])
+    ∷ (40031 ∷ 2 ∷ [])
+    ∷ (40031 ∷ 3 ∷ [])
+    ∷ (40031 ∷ 4 ∷ [])
+    ∷ (40031 ∷ 5 ∷ [])
+    ∷ (40031 ∷ 6 ∷ [])
+    ∷ (65535 ∷ [])
+    ∷ (65535 ∷ [])
+    ∷ (0 ∷ 6 ∷ [])
+    ∷ (5000000031 ∷ 1 ∷ [])
+    ∷ []
 unfolding evaluate
 located-numbers-example = refl
 
--- (60000,1000) is in triangle 1 of chart 0 and nowhere in chart 1; (1000,60000) is in triangle 0 of both
+-- (60000,0) is on side ab of triangle 1 of chart 0 and nowhere in chart 1; (5000,15000) is on side ab of triangle 0 of both, and
+-- (0,65535) its corner c
 abbrev low : Triangle
 low = tri (at 0 0) (at 65535 0) (at 30000 10000)
 
@@ -119,10 +134,16 @@ abbrev wide : Triangle
 wide = tri (at 0 0) (at 10000 30000) (at 0 65535)
 
 locate-step-example : (ns : List ℕ)
-    → map (λ p. locateStep 0 p (state (wide ∷ low ∷ []) (wide ∷ []) ns) .printed) (at 60000 1000 ∷ at 1000 60000 ∷ [])
-    ++ map (λ p. locateStep 1 p (state (wide ∷ low ∷ []) (wide ∷ []) ns) .printed) (at 60000 1000 ∷ at 1000 60000 ∷ [])
-    ++ map (λ p. locateStep 4294967296 p (state (wide ∷ low ∷ []) (wide ∷ []) ns) .printed) (at 60000 1000 ∷ [])
-    ≡ line 6 (0 ∷ 1 ∷ []) ∷ line 6 (0 ∷ 0 ∷ []) ∷ line 6 (0 ∷ 65535 ∷ []) ∷ line 6 (0 ∷ 0 ∷ []) ∷ line 6 (0 ∷ 65535 ∷ []) ∷ []
+    → map (λ p. locateStep 0 p (state (wide ∷ low ∷ []) (wide ∷ []) ns) .printed) (at 60000 0 ∷ at 5000 15000 ∷ [])
+    ++ map (λ p. locateStep 1 p (state (wide ∷ low ∷ []) (wide ∷ []) ns) .printed) (at 60000 0 ∷ at 0 65535 ∷ [])
+    ++ map (λ p. locateStep 4294967296 p (state (wide ∷ low ∷ []) (wide ∷ []) ns) .printed) (at 60000 0 ∷ at 1000 60000 ∷ [])
+    ≡ line 6 (0 ∷ 1 ∷ 1 ∷ [])
+    ∷ line 6 (0 ∷ 0 ∷ 1 ∷ [])
+    ∷ line 6 (0 ∷ 65535 ∷ [])
+    ∷ line 6 (0 ∷ 0 ∷ 6 ∷ [])
+    ∷ line 6 (0 ∷ 65535 ∷ [])
+    ∷ line 6 (0 ∷ 0 ∷ 0 ∷ [])
+    ∷ []
 unfolding evaluate
 locate-step-example ns = refl
 

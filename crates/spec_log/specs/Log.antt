@@ -8,6 +8,8 @@ use Prim.Native.Nat.{ℕ, zero, suc, _+_, _*_, _/_, _%_}
 use lib.Dec.{leb, ltb, eqb}
 use lib.ListN.{length, drop, getD}
 use Rattle.spec_plane.specs.declared.Point.{Point}
+use Rattle.spec_plane.specs.declared.Position.{Position}
+use Rattle.spec_plane.specs.Position.{positionNumber}
 use Rattle.spec_charts.specs.Table.{Table, numbersPerTriangle, tableLength}
 use Rattle.spec_charts.specs.Cells.{entriesOf}
 use Rattle.spec_charts.specs.declared.Refusal.{Refusal}
@@ -15,7 +17,7 @@ use Rattle.spec_charts.specs.declared.Refusal.the-variants.{BadLength, FaultyTr
 use Rattle.spec_charts.specs.Refusals.{rowOf, Outcome, refused, done, doneOr}
 use Rattle.spec_charts.specs.Edits.{load, split, takeOut, flip, eventOn}
 use Rattle.spec_charts.specs.Overlay.{OverlayAnswer, overlayOf}
-use Rattle.spec_charts.specs.Reading.{located}
+use Rattle.spec_charts.specs.Reading.{located, foundPosition}
 
 -- Lines
 
@@ -100,15 +102,17 @@ waitStep ns s =
 unfoldable pub loadStep : ℕ → State → Step
 loadStep c s = eventStep 2 c (eventOn (load (s .waiting)) (tableIn c s)) (withWaiting [] s)
 
--- the numbers that command 6 prints after its number and the number returned: "the triangle or 65535"
-unfoldable pub locatedNumbers : Option ℕ → List ℕ
-locatedNumbers none = 65535 ∷ []
-locatedNumbers (some i) = i ∷ []
+-- the numbers that command 6 prints after its number and the number returned: "the triangle or 65535"; by wish 1 the position's
+-- number "after the triangle, and 65535 alone when nowhere"
+unfoldable pub locatedNumbers : Option ℕ → Position → List ℕ
+locatedNumbers none q = 65535 ∷ []
+locatedNumbers (some i) q = i ∷ positionNumber q ∷ []
 
 unfoldable pub locateStep : ℕ → Point → State → Step
 locateStep c p s =
     let t : Table = tableIn c s in
-    record { printed = line 6 (0 ∷ locatedNumbers (located t (entriesOf t) p)); after = s }
+    let found : Option ℕ = located t (entriesOf t) p in
+    record { printed = line 6 (0 ∷ locatedNumbers found (foundPosition t p found)); after = s }
 
 -- command 7: "pairs and meetings, then a line `i j` for each pair"
 unfoldable pub overlayLines : Outcome OverlayAnswer → List ℕ

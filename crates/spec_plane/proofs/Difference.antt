@@ -2,16 +2,16 @@
 -- and sums of naturals are not, so an integer formula is followed by such a pair: the relation goes through negation,
 -- sum, difference and product, and in the end the order of two integers is the order of two sums of naturals.
 -- Assumes nothing.
-use mathlib.Core.Path.{_≡_, refl, _∙_, ap}
+use mathlib.Core.Path.{_≡_, refl, sym, _∙_, ap}
 use mathlib.Core.Bool.{Bool, true, false, cond}
 use mathlib.Core.Logic.{_↔_}
 use Prim.Native.Nat.{ℕ, zero, suc, _+_, _*_, _-_, _≤_}
 use native.Mathlib.Omega.{arith}
 use native.Mathlib.Nat.{zero-add, add-zero}
-use lib.Dec.{T, ltb, leb, ltb→lt, lt→ltb, leb→le, le→leb}
+use lib.Dec.{T, eqb, ltb, leb, ltb→lt, lt→ltb, leb→le, le→leb}
 use lib.IntN.{ℤ, pos, negsuc, negℤ, natAbs, subℕ, _+ℤ_, _-ℤ_, _*ℤ_}
 use lib.Signed.{ltZ, leZ}
-use borrow.Author.Tests.{ltb-true, ltb-false}
+use borrow.Author.Tests.{ltb-true, ltb-false, eq-eqb, ne-eqb}
 
 -- z is h − l, by the sign of z
 abbrev pub Is : ℤ → ℕ → ℕ → Type 0
@@ -103,6 +103,11 @@ diff-nonneg d = diff-le (diff-pos 0) d ∙ simp (zero-add, add-zero)
 
 pub diff-below : {z : ℤ} {h l : ℕ} → Diff z h l → ltZ z (pos 0) ≡ ltb h l
 diff-below d = diff-lt d (diff-pos 0) ∙ simp (zero-add, add-zero)
+
+pub diff-zero : {z : ℤ} {h l : ℕ} → Diff z h l → eqb (natAbs z) 0 ≡ eqb l h
+diff-zero {z = pos zero} {h} {l} d = sym (eq-eqb l h (omega arith))
+diff-zero {z = pos (suc n)} {h} {l} d = rw (ne-eqb (suc n) 0 (omega arith), ne-eqb l h (omega arith))
+diff-zero {z = negsuc n} {h} {l} d = rw (ne-eqb (suc n) 0 (omega arith), ne-eqb l h (omega arith))
 
 pub diff-gap : {z : ℤ} {h l : ℕ} → Diff z h l → T (leZ (pos 0) z) → h ≡ l + natAbs z
 diff-gap {z = pos n} d t = d .at

@@ -4,5 +4,7 @@ pub mod OrientLaws
 pub mod SideLaws
 pub mod ExtremeLaws
 pub mod InteriorLaws
+pub mod PositionLaws
 pub mod Examples
 pub mod LargeExamples
+pub mod PositionExamples

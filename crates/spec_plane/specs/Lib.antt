@@ -1,4 +1,5 @@
 pub mod Point
 pub mod Triangle
+pub mod Position
 pub mod Interior
 pub mod Box

@@ -45,9 +45,10 @@ pub fn print_changed(what: u8, r: Changed) {
 pub fn print_located(r: Located) {
     print(base_answers::located_number(r) as u64);
     match r {
-        Located::At(i) => print(i as u64),
+        Located::At(i, _) => print(i as u64),
         _ => say(b" nowhere"),
     }
+    print(base_positions::position_number(base_answers::located_position(r)) as u64);
 }
 
 pub fn print_soundness(r: Soundness) {

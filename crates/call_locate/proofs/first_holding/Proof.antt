@@ -5,7 +5,10 @@ use native.Mathlib.Omega.{arith}
 use lib.ListN.{length, getD, drop}
 use Rattle.theory_lists.specs.Lists.{first}
 use Rattle.spec_plane.specs.Triangle.{holds, triangleOf, cornerAt}
+use Rattle.spec_plane.specs.Position.{position, isHeld}
+use Rattle.spec_plane.proofs.PositionLaws.{position-held}
 use Rattle.spec_charts.specs.Table.{triangleAt}
+use Rattle.base_answers.specs.declared.Located.the-variants as locations
 use Rattle.call_locate.specs.Holding.{foundOf}
 use Rattle.theory_lists.proofs.FirstLaws.{first-over, first-here, first-later}
 use borrow.Author.Needs.{needs}
@@ -33,40 +36,52 @@ triangle-at-requires c κs =
 abbrev index-to-top : tie.After-index Inv-loop μ-loop → tie.Start Inv-loop μ-loop
 index-to-top c = search needs
 
--- the test is that of the listed triangle
-tested : (c : tie.After-holds Inv-loop μ-loop) →
+-- the position is that by the listed triangle
+placed : (c : tie.After-position-in Inv-loop μ-loop) →
     let loop : tie.At-loop Inv-loop μ-loop = search needs in
     let top : tie.Start Inv-loop μ-loop = search needs in
     let a = top .args in
-    c .holds .result ≡ holds (triangleAt (a .table .now) (getD (a .list .now) (loop .loop .k) 0)) (a .p)
+    c .position-in .result ≡ position (triangleAt (a .table .now) (getD (a .list .now) (loop .loop .k) 0)) (a .p)
 unfolding triangleOf cornerAt
-tested c =
+placed c =
     let triangle-at : tie.After-triangle-at Inv-loop μ-loop = search needs in
     let index : tie.After-index Inv-loop μ-loop = search needs in
     let top = index-to-top index in
     let a = top .args in
-    c .holds .ensures
-    ∙ ap (λ t. holds (triangleOf t) (a .p)) (triangle-at .triangle-at .ensures)
-    ∙ ap (λ i. holds (triangleAt (a .table .now) i) (a .p)) (index .index .ensures .0)
+    c .position-in .ensures
+    ∙ ap (λ t. position (triangleOf t) (a .p)) (triangle-at .triangle-at .ensures)
+    ∙ ap (λ i. position (triangleAt (a .table .now) i) (a .p)) (index .index .ensures .0)
 
-returns : tie.Need-returns Inv-loop μ-loop
-returns c =
-    let holds-2 : tie.After-holds Inv-loop μ-loop = search needs in
+-- so the test is whether that triangle holds the point
+tested : (c : tie.After-is-held Inv-loop μ-loop) →
     let loop : tie.At-loop Inv-loop μ-loop = search needs in
     let top : tie.Start Inv-loop μ-loop = search needs in
     let a = top .args in
+    c .is-held .result ≡ holds (triangleAt (a .table .now) (getD (a .list .now) (loop .loop .k) 0)) (a .p)
+tested c =
+    let q : tie.After-position-in Inv-loop μ-loop = search needs in
+    c .is-held .ensures ∙ ap isHeld (placed q) ∙ position-held _ _
+
+returns : tie.Need-returns Inv-loop μ-loop
+returns c =
+    let held : tie.After-is-held Inv-loop μ-loop = search needs in
+    let loop : tie.At-loop Inv-loop μ-loop = search needs in
+    let top : tie.Start Inv-loop μ-loop = search needs in
+    let q : tie.After-position-in Inv-loop μ-loop = search needs in
+    let a = top .args in
     let l = loop .loop in
-    sym (ap (λ o. foundOf o) (l .inv .1 ∙ first-here (λ i. holds (triangleAt (a .table .now) i) (a .p)) (a .list .now) (l .k) (omega arith) (sym (tested holds-2) ∙ c .if1 .taken)))
+    ap (locations.At (getD (a .list .now) (l .k) 0)) (placed q)
+    ∙ sym (ap (foundOf _) (l .inv .1 ∙ first-here (λ i. holds (triangleAt (a .table .now) i) (a .p)) (a .list .now) (l .k) (omega arith) (sym (tested held) ∙ c .if1 .taken)))
 
 loop-again : tie.Need-loop-again Inv-loop μ-loop
 loop-again c =
-    let holds-2 : tie.After-holds Inv-loop μ-loop = search needs in
+    let held : tie.After-is-held Inv-loop μ-loop = search needs in
     let loop : tie.At-loop Inv-loop μ-loop = search needs in
     let top : tie.Start Inv-loop μ-loop = search needs in
     let a = top .args in
     let l = loop .loop in (
       omega arith,
-      l .inv .1 ∙ first-later (λ i. holds (triangleAt (a .table .now) i) (a .p)) (a .list .now) (l .k) (omega arith) (sym (tested holds-2) ∙ c .if1 .left),
+      l .inv .1 ∙ first-later (λ i. holds (triangleAt (a .table .now) i) (a .p)) (a .list .now) (l .k) (omega arith) (sym (tested held) ∙ c .if1 .left),
     )
 
 returns-2 : tie.Need-returns-2 Inv-loop μ-loop
@@ -75,9 +90,9 @@ returns-2 c =
     let top : tie.Start Inv-loop μ-loop = search needs in
     let a = top .args in
     let l = loop .loop in
-    sym (ap (λ o. foundOf o) (l .inv .1 ∙ first-over (λ i. holds (triangleAt (a .table .now) i) (a .p)) (a .list .now) (l .k) (omega arith)))
+    sym (ap (foundOf _) (l .inv .1 ∙ first-over (λ i. holds (triangleAt (a .table .now) i) (a .p)) (a .list .now) (l .k) (omega arith)))
 
 pub first-holding-spec : {M : Type 1} → statement M
 first-holding-spec =
     tie.close (tie.spec Inv-loop μ-loop loop-holds (λ c. search needs) (λ c. search needs) (λ c κs. search needs) triangle-at-requires
-    (λ c κs. search needs) returns (λ c. search needs) (λ c. search needs) loop-again returns-2)
+    (λ c κs. search needs) (λ c κs. search needs) returns (λ c. search needs) (λ c. search needs) loop-again returns-2)

@@ -3,6 +3,8 @@ use mathlib.Core.Path.{_≡_, sym, _∙_, ap}
 use native.Mathlib.Omega.{arith}
 use borrow.Author.Tests.{not-true, not-false}
 use Rattle.spec_plane.specs.Triangle.{strictlyInside}
+use Rattle.spec_plane.specs.Position.{isInside}
+use Rattle.spec_plane.proofs.PositionLaws.{position-inside}
 use Rattle.spec_charts.specs.Table.{triangleAt, tableOf}
 use Rattle.spec_charts.specs.Refusals.{done}
 use Rattle.spec_charts.specs.Edits.{splitAt}
@@ -13,15 +15,18 @@ use Rattle.edit_split.proofs.split_table.Statement.{statement}
 use Rattle.edit_split.proofs.split_table.Tie as tie
 
 -- the test is of the table's triangle i
-tested : (c : tie.After-is-strictly-inside) →
+tested : (c : tie.After-is-inside) →
     let top : tie.Start = search needs in
     let a = top .args in
-    c .is-strictly-inside .result ≡ strictlyInside (triangleAt (a .table .now) (a .i)) (a .p)
+    c .is-inside .result ≡ strictlyInside (triangleAt (a .table .now) (a .i)) (a .p)
 tested c =
+    let position-in : tie.After-position-in = search needs in
     let triangle-at : tie.After-triangle-at = search needs in
     let top : tie.Start = search needs in
     let a = top .args in
-    c .is-strictly-inside .ensures
+    c .is-inside .ensures
+    ∙ ap isInside (position-in .position-in .ensures)
+    ∙ position-inside _ (a .p)
     ∙ ap (λ u. strictlyInside u (a .p)) (triangle-read (triangleAt (a .table .now) (a .i)) (triangle-at .triangle-at .ensures))
 
 -- an earlier place, found from a later one
@@ -36,7 +41,7 @@ returns c =
 
 returns-2 : tie.Need-returns-2
 returns-2 c =
-    let inside : tie.After-is-strictly-inside = search needs in
+    let inside : tie.After-is-inside = search needs in
     let else1 : tie.Else1 = search needs in
     let top : tie.Start = search needs in
     let a = top .args in (
@@ -47,7 +52,7 @@ returns-2 c =
 returns-3 : tie.Need-returns-3
 returns-3 c =
     let else2 : tie.Else2 = search needs in
-    let inside : tie.After-is-strictly-inside = search needs in
+    let inside : tie.After-is-inside = search needs in
     let else1 : tie.Else1 = search needs in
     let top = else1-to-top else1 in
     let a = top .args in (
@@ -61,7 +66,7 @@ returns-4 c =
     let put-split : tie.After-put-split = search needs in
     let else3 : tie.Else3 = search needs in
     let else2 : tie.Else2 = search needs in
-    let inside : tie.After-is-strictly-inside = search needs in
+    let inside : tie.After-is-inside = search needs in
     let triangle-at : tie.After-triangle-at = search needs in
     let else1 : tie.Else1 = search needs in
     let top = else1-to-top else1 in
@@ -76,5 +81,5 @@ returns-4 c =
 
 pub split-table-spec : {M : Type 1} → statement M
 split-table-spec =
-    tie.close (tie.spec returns (λ c κs. search needs) (λ c κs. search needs) returns-2 (λ c. search needs) returns-3 (λ c κs. search needs)
+    tie.close (tie.spec returns (λ c κs. search needs) (λ c κs. search needs) (λ c κs. search needs) returns-2 (λ c. search needs) returns-3 (λ c κs. search needs)
     (λ c. search needs) (λ c. search needs) returns-4)

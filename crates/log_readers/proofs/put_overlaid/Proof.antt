@@ -5,8 +5,8 @@ use borrow.Author.Needs.{needs}
 use Rattle.spec_calls.specs.Calls.{Overlaid}
 use Rattle.base_answers.specs.Outcomes.{overlaidOf}
 use Rattle.log_lines.proofs.LineLaws.{wrote-as, wrote-join, wrote-length}
-use Rattle.log_events.proofs.EventLaws.{room-two}
-use Rattle.log_readers.proofs.ReaderCommandLaws.{head-short, lines-done, lines-refused}
+use Rattle.log_events.proofs.EventLaws.{room-two, room-four}
+use Rattle.log_readers.proofs.ReaderCommandLaws.{lines-done, lines-refused}
 use Rattle.log_readers.proofs.put_overlaid.Statement.{statement}
 use Rattle.log_readers.proofs.put_overlaid.Tie as tie
 
@@ -19,7 +19,7 @@ put-line-requires c κs =
     let top : tie.Start = search needs in
     let n : tie.After-verdict-number = search needs in
     let o = top .args .overlaid in
-    omega (arith, head-short (n .verdict-number .result) (o .pairs) (o .meetings) (omega arith) (omega arith) (omega arith))
+    omega (arith, room-four 7 (n .verdict-number .result) (o .pairs) (o .meetings) (omega arith) (omega arith) (omega arith) (omega arith))
 
 put-pairs-requires : tie.Need-put-pairs-requires
 put-pairs-requires c κs =
@@ -28,7 +28,7 @@ put-pairs-requires c κs =
     let l : tie.After-put-line = search needs in
     let w = l .put-line .ensures in
     let o = top .args .overlaid in
-    let short = head-short (n .verdict-number .result) (o .pairs) (o .meetings) (omega arith) (omega arith) (omega arith) in
+    let short = room-four 7 (n .verdict-number .result) (o .pairs) (o .meetings) (omega arith) (omega arith) (omega arith) (omega arith) in
     (omega arith, omega (arith, short, w .end, wrote-length w))
 
 returns : tie.Need-returns
