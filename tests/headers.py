@@ -6,8 +6,8 @@ usage: headers.py            compares, compiles the headers by themselves, and t
 
 Read of both and compared: the names of the exports and in which header they stand, the order, names and widths of parameters, const
 against `&` and `&mut`, what is returned, the structs field by field. Of the definitions: the numbers by `rowOf`, the positions by
-`positionNumber`, the lengths and limits. The enums and the words come from these two and from frontend/numbers.py; the headers must
-have them as they would be written now.
+`positionNumber`, the lengths and limits. The enums come from these two, and the words from frontend/numbers.py and frontend/commands.py;
+the headers must have them as they would be written now.
 It fails on any difference, on text in a header that it does not understand, on a warning of the C or C++ compiler, and when a wrong
 header is not noticed."""
 
@@ -21,7 +21,7 @@ from collections import namedtuple
 
 ROOT = os.path.dirname(os.path.dirname(os.path.abspath(__file__)))
 sys.path.insert(0, ROOT)
-from frontend import VERSION, numbers
+from frontend import VERSION, commands, numbers
 
 HELM, CHARTS = "jirdtungsten.h", "jirdtungsten_charts.h"
 CRATES = {HELM: "export_helm", CHARTS: "export_charts"}
@@ -49,12 +49,12 @@ def number_rows():
 
 
 def position_rows():
-    """The same of each position, from the definition of its number; the cases' names have the words."""
+    """The same of each position, from the definition of its number; the words are those of chartkey's keys. No key has outside."""
     found = re.findall(r"^positionNumber (\w+) = (\d+)$", read(POSITIONS), re.M)
     if not found:
         sys.exit(f"{POSITIONS} has no `positionNumber NAME = NUMBER`: tell POSITIONS where it is now")
-    called = {"On": "on side ", "At": "at corner "}
-    return [(constant(name), int(n), re.sub("^(On|At)", lambda m: called[m[1]], name).lower()) for name, n in found]
+    words = {k: commands.in_key(commands.POSITION, k) for k in range(len(commands.POSITIONS))}
+    return [(constant(name), int(n), words.get(int(n), name.lower())) for name, n in found]
 
 
 def enum_text(rows, name):
