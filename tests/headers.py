@@ -53,7 +53,7 @@ def position_rows():
     found = re.findall(r"^positionNumber (\w+) = (\d+)$", read(POSITIONS), re.M)
     if not found:
         sys.exit(f"{POSITIONS} has no `positionNumber NAME = NUMBER`: tell POSITIONS where it is now")
-    words = {k: commands.in_key(commands.POSITION, k) for k in range(len(commands.POSITIONS))}
+    words = {k: commands.for_people(commands.POSITION, k) for k in range(len(commands.POSITIONS))}
     return [(constant(name), int(n), words.get(int(n), name.lower())) for name, n in found]
 
 
