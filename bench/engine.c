@@ -4,7 +4,8 @@
                    it, at the four corners of the square
    culled_load     works as the proved engine does: what depends on a triangle alone is prepared once, one corner decides for each
                    side, and the stopping test is one pass
-   plain_locate    checks the chain rule as document 01 words it, finds the cell by halving, and tries its triangles
+   plain_locate    checks the chain rule as document 01 words it, finds the cell by halving, and tries its triangles: the three D
+                   values tell whether one holds the point, and their zeros where
    plain_overlay   checks both charts, walks both lists of cells side by side and marks the pairs that are listed together, then tries
                    each marked pair once: bounding boxes, then the six sides */
 #include "engine.h"
@@ -284,25 +285,31 @@ static uint32_t spread(uint32_t n) {
     return (n | n << 1) & 0x55555555;
 }
 
-static int has_point(const uint16_t *table, size_t i, Point p) {
+/* Where a point is that a triangle holds, by which of the D values for ab, bc and ca are 0: bits 0, 1 and 2. */
+static const uint8_t by_zeros[8] = {JIRD_INSIDE, JIRD_ON_AB, JIRD_ON_BC, JIRD_AT_B, JIRD_ON_CA, JIRD_AT_A, JIRD_AT_C, JIRD_AT_A};
+
+static uint32_t position(const uint16_t *table, size_t i, Point p) {
     Point a = corner(table, i, 0), b = corner(table, i, 1), c = corner(table, i, 2);
-    return orient(a, b, p) >= 0 && orient(b, c, p) >= 0 && orient(c, a, p) >= 0;
+    int64_t ab = orient(a, b, p), bc = orient(b, c, p), ca = orient(c, a, p);
+    if (ab < 0 || bc < 0 || ca < 0) return JIRD_OUTSIDE;
+    return by_zeros[(ab == 0) | (bc == 0) << 1 | (ca == 0) << 2];
 }
 
 jird_located plain_locate(const jird_chart *c, uint16_t x, uint16_t y) {
-    jird_located r = {JIRD_DONE, JIRD_NOWHERE};
     uint32_t z = spread(x) | spread(y) << 1;
     size_t low = 0, high = c->entries;
-    if (!chained(c)) return (jird_located){JIRD_BROKEN_CHAIN, JIRD_NOWHERE};
+    if (!chained(c)) return (jird_located){JIRD_BROKEN_CHAIN, JIRD_NOWHERE, JIRD_OUTSIDE};
     while (high - low > 1) { /* the last entry whose key is at most z */
         size_t middle = low + (high - low) / 2;
         if (c->keys[middle] <= z) low = middle;
         else high = middle;
     }
     while (low > 0 && c->keys[low - 1] == c->keys[low]) low--;
-    for (; low < high && c->items[low] != MARK; low++)
-        if (has_point(c->table, c->items[low], (Point){x, y})) return (jird_located){JIRD_DONE, c->items[low]};
-    return r;
+    for (; low < high && c->items[low] != MARK; low++) {
+        uint32_t at = position(c->table, c->items[low], (Point){x, y});
+        if (at != JIRD_OUTSIDE) return (jird_located){JIRD_DONE, c->items[low], at};
+    }
+    return (jird_located){JIRD_DONE, JIRD_NOWHERE, JIRD_OUTSIDE};
 }
 
 /* ---- overlay */

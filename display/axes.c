@@ -1,4 +1,4 @@
-/* Axes, the scale bar, and the crosshair of the cutter head. */
+/* Axes and the scale bar. */
 #include "page.h"
 #include <math.h>
 #include <stdio.h>
@@ -72,29 +72,4 @@ void paint_below(const page *p, double y) {
     double width = text_width(p, text, l), right = fmax(p->frame.right, p->frame.left + width);
     bool beside = right - width > end + p->style.text;
     text_at(p, beside ? right : p->frame.left, y + (beside ? 0.45 : 1.9) * p->style.text, beside ? 1 : 0, text, l);
-}
-
-static void trace_head(const page *p, point at, double r) {
-    static const double arms[4][2] = { { 1, 0 }, { 0, 1 }, { -1, 0 }, { 0, -1 } };
-    cairo_new_sub_path(p->to);
-    cairo_arc(p->to, at.x, at.y, r, 0, 2 * acos(-1));
-    for (int k = 0; k < 4; k++) {
-        cairo_move_to(p->to, at.x + 0.6 * r * arms[k][0], at.y + 0.6 * r * arms[k][1]);
-        cairo_line_to(p->to, at.x + 1.85 * r * arms[k][0], at.y + 1.85 * r * arms[k][1]);
-    }
-}
-
-/* A ring with four arms, and a halo so that it stands out on anything. */
-void paint_head(const page *p, point at, double r) {
-    if (!(fabs(at.x) < 1e5 && fabs(at.y) < 1e5)) return;
-    cairo_set_line_cap(p->to, CAIRO_LINE_CAP_ROUND);
-    for (int over = 0; over < 2; over++) {
-        ink(p, over ? p->ink->mark : p->ink->ground);
-        trace_head(p, at, r);
-        cairo_set_line_width(p->to, (over ? 0.16 : 0.42) * r);
-        cairo_stroke(p->to);
-        cairo_arc(p->to, at.x, at.y, (over ? 0.13 : 0.26) * r, 0, 2 * acos(-1));
-        cairo_fill(p->to);
-    }
-    cairo_set_line_cap(p->to, CAIRO_LINE_CAP_BUTT);
 }

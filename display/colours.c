@@ -7,6 +7,7 @@ const palette by_day = {
     .chart = { RGB(0x004C8C), RGB(0xC74A00) },
     .paired = RGB(0xE4EEF7), .under = RGB(0xFDE68A),
     .shading = RGB(0x555C66), .mark = RGB(0x000000),
+    .ring = { RGB(0x000000), RGB(0x1B8046), RGB(0xC000C0), RGB(0x4A4A4A) },
     .warning = RGB(0xA3001E),
 };
 
@@ -15,5 +16,6 @@ const palette by_night = {
     .chart = { RGB(0x5C9EDB), RGB(0xE68533) },
     .paired = RGB(0x101B28), .under = RGB(0x4D400D),
     .shading = RGB(0x6F7C8C), .mark = RGB(0xFFF6D6),
+    .ring = { RGB(0xFFF6D6), RGB(0x20D080), RGB(0xFFB4F0), RGB(0x9C9C9C) },
     .warning = RGB(0xFF7A70),
 };

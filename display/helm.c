@@ -14,7 +14,7 @@ static void set_sizes(page *p) {
     p->style = (style){
         .line = { 2.6 * u, 2.2 * u }, .underline = 2 * u, .dash = { 9 * u, 4.5 * u }, .under = { 5 * u, 4.4 * u },
         .dot = 3.2 * u, .square = 2.8 * u,
-        .gap = 7.5 * u, .shade = 0.9 * u, .strength = 0.6, .cell = 0.8 * u, .head = 16 * u,
+        .gap = 7.5 * u, .shade = 0.9 * u, .strength = 0.6, .cell = 0.8 * u, .head = 16 * u, .band = 14 * u,
         .text = 13 * u, .tick = 6 * u, .apart = 90 * u, .border = 1.6 * u, .pad = 1.5 * u, .unit = u,
     };
 }
@@ -100,9 +100,13 @@ static double paint_found(const page *p, box at, double y, int chart) {
     }
     if (f->number) return paint_words(p, at, y + 16 * u, "refused", f->number);
     bool none = f->triangle == JIRD_NOWHERE;
+    ring form = ring_of(p, chart);
     letter number = { (none ? 40 : 58) * u, true, chart == DESIGN, p->ink->chart[chart] };
+    letter where = { 24 * u, true, false, p->ink->ring[form] };
     snprintf(text, sizeof text, "%u", (unsigned)f->triangle);
-    text_at(p, at.left, y + (none ? 52 : 66) * u, 0, none ? "nowhere" : text, number);
+    double base = y + (none ? 52 : 66) * u, x = text_at(p, at.left, base, 0, none ? "nowhere" : text, number);
+    x = paint_ring_sample(p, x + where.size, base, where.size, form);
+    if (!none) text_at(p, x, base, 0, jird_position_words(f->position), where);
     return y + 78 * u;
 }
 
@@ -188,11 +192,15 @@ static void paint_sample(page *p, int k, double x, double y) {
     cairo_set_dash(p->to, NULL, 0, 0);
 }
 
-/* Samples of what is in the plan, in one line. */
+/* Samples of what is in the plan, in one line, and of the cutter head's rings in another. */
 static void paint_samples(page *p, double x, double y) {
     static const char *const words[] = { "bed as sounded", "bed as designed", "shared ground", "cells" };
     double u = p->style.unit;
     letter l = { 12 * u, false, false, p->ink->grey };
+    if (p->s->has_head) {
+        double start = text_at(p, x, y + 20 * u, 0, "cutter head: inner ring bed, outer ring design", l) + l.size;
+        paint_rings(p, (box){ start, y + 20 * u, p->width, y + 20 * u }, 0, l);
+    }
     for (int k = 0; k < 4; k++) {
         if ((k == 2 && !p->pairs) || (k == 3 && !p->v->cells)) continue;
         paint_sample(p, k, x, y);
@@ -202,13 +210,13 @@ static void paint_samples(page *p, double x, double y) {
 
 static box plan_area(const page *p) {
     double u = p->style.unit;
-    if (upright(p)) return (box){ 74 * u, 46 * u, p->width - 24 * u, fmin(p->height - 420 * u, p->width) };
-    return (box){ 74 * u, 46 * u, p->width - 504 * u, p->height - 52 * u };
+    if (upright(p)) return (box){ 74 * u, 46 * u, p->width - 24 * u, fmin(p->height - 440 * u, p->width) };
+    return (box){ 74 * u, 46 * u, p->width - 504 * u, p->height - 72 * u };
 }
 
 static box panel_area(const page *p) {
     double u = p->style.unit;
-    if (upright(p)) return (box){ 24 * u, p->frame.bottom + 60 * u, p->width - 24 * u, p->height - 40 * u };
+    if (upright(p)) return (box){ 24 * u, p->frame.bottom + 80 * u, p->width - 24 * u, p->height - 40 * u };
     return (box){ p->width - 470 * u, 24 * u, p->width - 20 * u, p->height - 40 * u };
 }
 

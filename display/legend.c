@@ -89,6 +89,13 @@ static double ground_part(page *p, double x, double y, double width) {
     return row_text(p, x, y, width, "shared ground under 1 mm\xC2\xB2 on this sheet");
 }
 
+static double head_part(const page *p, double x, double y, double width) {
+    letter l = { LETTERS, false, false, p->ink->text };
+    paint_head(p, (point){ x + SAMPLE / 2.0, y }, 0.9);
+    y = row_text(p, x, y, width, "cutter head: inner ring bed, outer ring design");
+    return paint_rings(p, (box){ x + SAMPLE + 3, y + 0.36 * LETTERS, x + width, p->height }, 3.4, l) - 0.36 * LETTERS + PITCH;
+}
+
 /* Gives where it ends. */
 double paint_legend(page *p, double x, double y, double width) {
     letter head = { 3.2, true, false, p->ink->text };
@@ -99,9 +106,6 @@ double paint_legend(page *p, double x, double y, double width) {
         cell_sample(p, x, y);
         y = row_text(p, x, y, width, "cells (leaf squares) of each chart");
     }
-    if (p->s->has_head) {
-        paint_head(p, (point){ x + SAMPLE / 2.0, y }, 1.15);
-        y = row_text(p, x, y, width, "cutter head");
-    }
+    if (p->s->has_head) y = head_part(p, x, y, width);
     return y - 1;
 }

@@ -22,7 +22,7 @@ typedef struct {
     double under[CHARTS];                   /* sides of the triangle under the cutter head; 0 if they are as the others */
     double dot, square;                     /* corners: radius, half a side */
     double gap, shade, strength;            /* shading lines: distance, width, how dark */
-    double cell, head;                      /* width of a cell's side, radius of the crosshair's ring */
+    double cell, head, band;                /* width of a cell's side, size of the cutter head, width of the side on which it sits */
     double text, tick, apart;               /* letters of the axes, length of a tick, least distance of two */
     double border, pad;                     /* width of the frame, what is kept free around labels */
     double unit;                            /* 1 on a sheet; at the helm what stands for a pixel of 1280 by 800 */
@@ -138,7 +138,13 @@ double tick_step(double scale, double apart);
 void paint_axes(const page *p);
 double paint_scale_bar(const page *p, double y);
 void paint_below(const page *p, double y);
-void paint_head(const page *p, point at, double radius);
+
+/* head.c */
+ring ring_of(const page *p, int chart);
+void paint_head(const page *p, point at, double size);
+void paint_boundary(const page *p, int chart);
+double paint_ring_sample(const page *p, double x, double y, double size, ring form);
+double paint_rings(const page *p, box where, double pitch, letter l);
 
 /* text.c */
 void text_clean(char *out, size_t room, const char *in);

@@ -10,3 +10,5 @@ paper=examples/turning-basin.txt
 mkdir -p "$folder"
 target/bin/helm-display "$paper" --sheet --cells -o "$folder/turning-basin.png"
 target/bin/helm-display "$paper" -o "$folder/turning-basin-helm.png"
+target/bin/helm-display "$paper" --size 800x500 --head 30000,10000 -o "$folder/head-on-side.png"
+target/bin/helm-display "$paper" --size 800x500 --head 30000,28000 --night -o "$folder/head-at-corner.png"

@@ -146,6 +146,7 @@ static void paint_inside(page *p) {
     for (int chart = 0; chart < CHARTS && p->v->cells; chart++) paint_cells(p, chart);
     paint_shading(p);
     paint_labels(p, true);
+    for (int chart = 0; chart < CHARTS; chart++) paint_boundary(p, chart);
     paint_bed_sides(p);
     paint_design_sides(p);
     if (p->v->layout == LAYOUT_HELM)

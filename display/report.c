@@ -10,7 +10,8 @@
  *              cells (key, level, item for each entry; the item 65535 is a cell that no triangle meets)
  *   overlay    number, pairs (how many), meetings, key (bed and design triangle of each pair)
  *   head       x and y, or null
- *   found      for bed and design: number, triangle (null for nowhere); null without a head
+ *   found      for bed and design: number, triangle (null for nowhere), position (0 inside, 1 to 3 on side ab, bc, ca, 4 to 6 at corner
+ *              a, b, c, 7 outside); null without a head
  *   picture    form, layout, size (width, height), window (left, top, right, bottom in grid units), plan (the same of its frame), pages,
  *              labels; size and plan are in pixels of the helm's picture or millimetres of a sheet. labels has for bed and
  *              design: set (triangle and place in grid units of each number that stands in the plan), left_out (triangles in the
@@ -124,8 +125,9 @@ static void put_head(const scene *s) {
     for (int c = 0; c < CHARTS; c++) {
         put_comma((size_t)c);
         printf("\"%s\": {\"number\": %u, \"triangle\": ", chart_names[c], (unsigned)s->found[c].number);
-        if (s->found[c].triangle == JIRD_NOWHERE) fputs("null}", stdout);
-        else printf("%u}", (unsigned)s->found[c].triangle);
+        if (s->found[c].triangle == JIRD_NOWHERE) fputs("null", stdout);
+        else printf("%u", (unsigned)s->found[c].triangle);
+        printf(", \"position\": %u}", (unsigned)s->found[c].position);
     }
     fputs("},\n", stdout);
 }

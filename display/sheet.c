@@ -20,7 +20,7 @@ static void set_paper(page *p) {
     p->height = p->v->portrait ? wide : low;
     p->style = (style){
         .line = { 0.50, 0.42 }, .underline = 0.35, .dash = { 2.2, 0.9 }, .dot = 0.55, .square = 0.5,
-        .gap = 1.25, .shade = 0.13, .strength = 0.75, .cell = 0.10, .head = 3.0,
+        .gap = 1.25, .shade = 0.13, .strength = 0.75, .cell = 0.10, .head = 2.4, .band = 1.7,
         .text = 2.4, .tick = 1.2, .apart = 18, .border = 0.3, .pad = 0.2, .unit = 1, .least_ground = 1,
     };
 }
@@ -78,7 +78,7 @@ static void found_words(const page *p, int chart, char *out, size_t room) {
     const jird_located *f = &p->s->found[chart];
     if (f->number) snprintf(out, room, "%s: refused, number %u: %s.", names[chart], (unsigned)f->number, jird_words(f->number));
     else if (f->triangle == JIRD_NOWHERE) snprintf(out, room, "%s: in no triangle", names[chart]);
-    else snprintf(out, room, "%s: in triangle %u", names[chart], (unsigned)f->triangle);
+    else snprintf(out, room, "%s: triangle %u, %s", names[chart], (unsigned)f->triangle, jird_position_words(f->position));
 }
 
 /* The cutter head and the triangles under it. Gives where it ends. */
@@ -94,7 +94,8 @@ static double paint_found(const sheet *t, double x, double y) {
         letter l = plain;
         if (p->s->found[chart].number) l.ink = p->ink->warning;
         found_words(p, chart, text, sizeof text);
-        y = text_block(p, (box){ x, y, x + t->column, p->height }, 4.2, text, l);
+        double left = paint_ring_sample(p, x, y, l.size, ring_of(p, chart));
+        y = text_block(p, (box){ left, y, x + t->column, p->height }, 4.2, text, l);
     }
     return y - 3;
 }

@@ -1,4 +1,4 @@
-/* Two charts, the triangle under a point, and every pair of triangles that share ground.
+/* Two charts, the triangle under a point and where in it the point is, and every pair of triangles that share ground.
    cc overlay.c $(pkg-config --cflags --libs jirdtungsten) -o overlay */
 #include <jirdtungsten_charts.h>
 #include <stdio.h>
@@ -14,8 +14,8 @@ int main(void) {
         fprintf(stderr, "load: %s; %s\n", jird_words(a.number), jird_words(b.number));
         return 1;
     }
-    jird_located found = jird_chart_locate(&bed, 40000, 50000);
-    printf("the bed's triangle at (40000, 50000): %u\n", (unsigned)found.triangle);
+    jird_located found = jird_chart_locate(&bed, 32768, 32767);
+    printf("the bed at (32768, 32767): triangle %u, %s\n", (unsigned)found.triangle, jird_position_words(found.position));
     jird_overlaid o = jird_chart_overlay(&bed, &design, pairs);
     printf("%zu pairs, %zu meetings\n", o.pairs, o.meetings);
     for (size_t k = 0; k < o.pairs; k++) printf("bed %u, design %u\n", (unsigned)pairs[2 * k], (unsigned)pairs[2 * k + 1]);

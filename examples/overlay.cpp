@@ -1,4 +1,4 @@
-// Two charts, the triangle under a point, and every pair of triangles that share ground.
+// Two charts, the triangle under a point and where in it the point is, and every pair of triangles that share ground.
 // c++ -std=c++17 overlay.cpp $(pkg-config --cflags --libs jirdtungsten) -o overlay
 #include <jirdtungsten_charts.h>
 #include <iostream>
@@ -15,8 +15,8 @@ static std::unique_ptr<jird_chart> loaded(const std::vector<uint16_t> &numbers) 
 int main() {
     auto bed = loaded({0, 0, 65535, 0, 0, 65535, 65535, 65535, 0, 65535, 65535, 0});
     auto design = loaded({10000, 10000, 60000, 10000, 10000, 60000});
-    jird_located found = jird_chart_locate(bed.get(), 40000, 50000);
-    std::cout << "the bed's triangle at (40000, 50000): " << found.triangle << "\n";
+    jird_located found = jird_chart_locate(bed.get(), 32768, 32767);
+    std::cout << "the bed at (32768, 32767): triangle " << found.triangle << ", " << jird_position_words(found.position) << "\n";
     std::vector<uint16_t> pairs(JIRD_PAIRS_LENGTH);
     jird_overlaid o = jird_chart_overlay(bed.get(), design.get(), pairs.data());
     if (o.number != JIRD_DONE) std::cerr << "overlay: " << jird_words(o.number) << "\n";

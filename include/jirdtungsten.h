@@ -26,8 +26,8 @@
 extern "C" {
 #endif
 
-#define JIRD_VERSION "1.0.0" /* base.request.fix: 1.4.0 has requests 1 to 4 */
-#define JIRD_ABI 1           /* rises with every change of a type, a prototype or a constant but the stack */
+#define JIRD_VERSION "1.1.0" /* base.request.fix: 1.4.0 has requests 1 to 4 */
+#define JIRD_ABI 2           /* rises with every change of a type, a prototype or a constant but the stack */
 
 enum {
     JIRD_TABLE_LENGTH = 3072,
@@ -61,10 +61,26 @@ typedef enum {
 } jird_number;
 /* numbers: end */
 
+/* Where a point is by a triangle with the corners a, b, c: document 02, "inside, on side 0, 1 or 2 (ab, bc, ca), at corner 0, 1 or 2,
+ * or outside, by the signs and zeros of the three D values". At an end of a side it is at a corner.
+ * positions: written by tests/headers.py --write */
+typedef enum {
+    JIRD_INSIDE = 0, /* inside */
+    JIRD_ON_AB = 1,  /* on side ab */
+    JIRD_ON_BC = 2,  /* on side bc */
+    JIRD_ON_CA = 3,  /* on side ca */
+    JIRD_AT_A = 4,   /* at corner a */
+    JIRD_AT_B = 5,   /* at corner b */
+    JIRD_AT_C = 6,   /* at corner c */
+    JIRD_OUTSIDE = 7 /* outside */
+} jird_position;
+/* positions: end */
+
 /* What a locate answers. */
 typedef struct {
     uint32_t number;
     uint32_t triangle; /* JIRD_NOWHERE if none, and at a refusal */
+    uint32_t position; /* of the point by that triangle, a jird_position; JIRD_OUTSIDE if none, and at a refusal */
 } jird_located;
 
 /* What an overlay answers. */
@@ -74,7 +90,7 @@ typedef struct {
     size_t meetings; /* how many pairs of cells, one of each chart, have a key in common */
 } jird_overlaid;
 
-/* The lowest numbered triangle, among those listed in the cell of the point (x, y), that holds it.
+/* The lowest numbered triangle, among those listed in the cell of the point (x, y), that holds it, and where in it the point is.
  * Gives 0, 1 or 2. Writes nothing. Stack: at most 4 KB. */
 jird_located jird_locate(
     const uint16_t *table, size_t table_length, const uint32_t *keys, size_t keys_length,

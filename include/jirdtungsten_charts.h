@@ -210,4 +210,30 @@ static inline const char *jird_words(uint32_t number) {
     }
 }
 /* words: end */
+
+/* A position in words, as jird_words has a number.
+ * words of positions: written by tests/headers.py --write */
+static inline const char *jird_position_words(uint32_t position) {
+    switch (position) {
+    case JIRD_INSIDE:
+        return "inside";
+    case JIRD_ON_AB:
+        return "on side ab";
+    case JIRD_ON_BC:
+        return "on side bc";
+    case JIRD_ON_CA:
+        return "on side ca";
+    case JIRD_AT_A:
+        return "at corner a";
+    case JIRD_AT_B:
+        return "at corner b";
+    case JIRD_AT_C:
+        return "at corner c";
+    case JIRD_OUTSIDE:
+        return "outside";
+    default:
+        return "no position that a call gives";
+    }
+}
+/* words of positions: end */
 #endif

@@ -6,9 +6,10 @@ usage: display.py PROGRAM [ARGUMENT ..]      the command program, which chartkey
 It builds the display twice, the second time with address and undefined-behaviour sanitizers, and draws with it the stored command
 streams, streams that the reference model draws from a fixed seed, the example papers, damaged streams and random bytes. It fails when
   - a build warns, or a sanitizer or valgrind complains of any run;
-  - a report has other tables, entries, counts, refusals, pairs, meetings or triangles found than the model's calls and log, or
-    chartkey's answers on the same paper, or a number's place is not inside its triangle;
-  - ink is missing where it must be, or is where it must not be (tests/ink.py);
+  - a report has other tables, entries, counts, refusals, pairs, meetings, triangles found or positions than the model's calls and log,
+    or chartkey's answers on the same paper, or a number's place is not inside its triangle, or a position is met by no head;
+  - ink is missing where it must be, or is where it must not be; the rings of the head have another form or colour than its position,
+    or the side or corner on which it sits is not the one that stands out; colours are too close to each other (tests/ink.py);
   - the same input gives other bytes of PDF or SVG, or the picture of the README is not what the display draws: blocks of 8 by 8
     pixels are compared by their mean colour, so that another version of the font or of cairo does not matter, and a line elsewhere does;
   - --watch draws another picture than --head of the same position, or not the newest, or leaves half a picture or a part of one;
@@ -16,6 +17,7 @@ streams, streams that the reference model draws from a fixed seed, the example p
   - the installed display does not find what it needs, or is left after make uninstall."""
 
 import json
+import math
 import os
 import random
 import re
@@ -41,6 +43,7 @@ BASIN = os.path.join(EXAMPLES, "turning-basin.txt")
 STREAM = os.path.join(EXAMPLES, "turning-basin.bin")
 PICTURES = os.path.join(ROOT, "docs", "pictures")
 CHARTS = ("bed", "design")
+POSITIONS = list(range(8))
 SEED = 7
 DRAWN = 60
 SMALL = ["--size", "320x200"]
@@ -247,8 +250,13 @@ def wanted_end(log):
     at = max(k for k, line in enumerate(lines) if len(line) != 2 or line[0] == 7 and line[1] == 12 and k == len(lines) - 1)
     number, *rest = lines[at][1:]
     pairs, meetings = rest or (0, 0)
-    found = [{"number": n, "triangle": None if t == 65535 else t} for _, n, t in lines[at - 2 : at]]
+    found = [{"number": n, "triangle": None if t == 65535 else t, "position": k[0] if k else 7} for _, n, t, *k in lines[at - 2 : at]]
     return {"number": number, "pairs": pairs, "meetings": meetings, "key": lines[at + 1 :]}, dict(zip(CHARTS, found))
+
+
+def with_tail(data, head):
+    """A stream, and then what a report shows at its end: both locates and the overlay."""
+    return data + b"".join(bytes([6, c]) + streams.words(head) for c in (0, 1)) + b"\7"
 
 
 def check_report(name, report, data, log, tail_log, charts, head):
@@ -287,12 +295,25 @@ def check_labels(name, report):
         same(f"{name}: numbers set and left out of {chart}", numbers, sorted(every))
 
 
+def drawn_head(rng, data, log):
+    """A point of a triangle that the stream has, at a corner, on a side or inside where that can be; or any point."""
+    triangles = [words_of(data[step.end - 12 : step.end]) for step in streams.steps(data, log) if step.what == "1"]
+    if not triangles or rng.random() < 0.15:
+        return [rng.randrange(65536), rng.randrange(65536)]
+    t = rng.choice(triangles)
+    (ax, ay), (bx, by), (cx, cy) = rng.sample([t[0:2], t[2:4], t[4:6]], 3)
+    steps = math.gcd(bx - ax, by - ay) or 1
+    k = rng.randrange(steps)
+    on_side = [ax + (bx - ax) // steps * k, ay + (by - ay) // steps * k]
+    return rng.choice([[ax, ay], on_side, [(ax + bx + cx) // 3, (ay + by + cy) // 3]])
+
+
 def test_reports():
     """Every stream by the display and by the model."""
     rng, given = random.Random(SEED), list(all_streams())
     logs, seen = model_logs([data for _, data in given]), []
     for k, (name, data) in enumerate(given):
-        head = [rng.randrange(65536), rng.randrange(65536)] if k % 2 else None
+        head = drawn_head(rng, data, logs[k]) if k % 2 else None
         view = VIEWS[k % len(VIEWS)]
         report, status = report_of("--bytes", *view, *(["--head", "{},{}".format(*head)] if head else []), given=data)
         if report is None:
@@ -303,8 +324,7 @@ def test_reports():
     whole = [data if report["bad"] is None else data[: report["bad"]] for _, data, report, _ in seen]
     tails = []
     for (_, _, report, _), data in zip(seen, whole):
-        x, y = report["head"] or (0, 0)
-        tails.append(data + b"".join(bytes([6, c]) + streams.words((x, y)) for c in (0, 1)) + b"\7")
+        tails.append(with_tail(data, report["head"] or (0, 0)))
     sizes = [[(r["charts"][c]["triangles"], r["charts"][c]["entries"]) for c in CHARTS] for _, _, r, _ in seen]
     charts = model_charts(list(zip(whole, sizes)))
     kinds = [check_report(name, report, data, log, tail, chart, head)
@@ -313,6 +333,9 @@ def test_reports():
     for what in (("accepted", False), ("refused", False), ("accepted", True), ("refused", True)):
         if what not in kinds:
             fault("no stream was", what)
+    for chart in CHARTS:
+        met = {report["found"][chart]["position"] for _, _, report, _ in seen if report["found"]}
+        same(f"positions met by heads over the {chart} of streams", sorted(met), POSITIONS)
 
 
 # ---- papers
@@ -555,6 +578,13 @@ def check_forms(made):
 # ---- ink
 
 
+def looked_at(wanted):
+    """Whether enough places were."""
+    for what, least in wanted.items():
+        if counts.get(what, 0) < least:
+            fault(f"only {counts.get(what, 0)} {what} were looked at, not {least}")
+
+
 def test_ink(folder):
     """Ink is where it must be, and not where it must not."""
     place = os.path.join(folder, "ink.png")
@@ -567,16 +597,58 @@ def test_ink(folder):
         report, _ = report_of(source, *words, "-o", place, program=DISPLAY)
         for text in ink.faults_of(png.decoded(read(place)), report, "--night" in words, counts):
             fault(os.path.basename(source), *words, ":", text)
-    for what, least in ink.LEAST.items():
-        if counts[what] < least:
-            fault(f"only {counts[what]} {what} were looked at, not {least}")
+    looked_at(ink.LEAST)
+
+
+# a bed triangle and a design triangle apart from each other; heads over the turning basin, the last on a side of both charts
+APART = {"bed": ((10000, 10000), (50000, 14000), (18000, 50000)), "design": ((40000, 40000), (62000, 44000), (46000, 62000))}
+BASIN_HEADS = [(30000, 10000), (30000, 28000), (30000, 34000), (22000, 10000)]
+
+
+def heads_by(corners):
+    """A point inside a triangle, amid each of its sides, and at each of its corners: the positions 0 to 6."""
+    after = corners[1:] + corners[:1]
+    yield tuple(sum(c) // 3 for c in zip(*corners))
+    yield from (((ax + bx) // 2, (ay + by) // 2) for (ax, ay), (bx, by) in zip(corners, after))
+    yield from corners
+
+
+def head_cases():
+    """A stream, a head, and the positions that it has if they are known by its making."""
+    lines = []
+    for c, corners in enumerate(APART.values()):
+        lines += ["1 " + " ".join(f"{x},{y}" for x, y in corners), f"2 {c}"]
+    apart = b"".join(map(streams.command, lines))
+    for chart, corners in APART.items():
+        for position, head in enumerate(heads_by(corners)):
+            yield apart, head, {**dict.fromkeys(CHARTS, 7), chart: position}
+    yield apart, (3000, 60000), dict.fromkeys(CHARTS, 7)
+    yield from ((read(STREAM), head, None) for head in BASIN_HEADS)
+
+
+def test_head(folder):
+    """The cutter head in every position: the report as the model's log, the rings and what stands out as the report."""
+    place, cases = os.path.join(folder, "head.png"), list(head_cases())
+    for (data, head, known), log in zip(cases, model_logs([with_tail(data, head) for data, head, _ in cases])):
+        for words in ([], ["--night"], ["--sheet"]):
+            words = ["--head", "{},{}".format(*head), "--window", "0,0,65535,65535", *words]
+            report, _ = report_of("--bytes", "-o", place, *words, given=data, program=DISPLAY)
+            if report is None:
+                return
+            positions = {chart: report["found"][chart]["position"] for chart in CHARTS}
+            same(f"found at {head}", (report["found"], known or positions), (wanted_end(log)[1], positions))
+            for text in ink.head_faults(png.decoded(read(place)), report, "--night" in words, counts):
+                fault(*words, ":", text)
+    looked_at(ink.LEAST_OF_HEADS)
+    for text in ink.colour_faults():
+        fault(text)
 
 
 def test_stored_picture(folder):
     """The pictures of the pages are what the display draws."""
     subprocess.run(["bash", "display/pictures.sh", folder], cwd=ROOT, env=environment(), check=True)
     same("pictures of the pages", sorted(os.listdir(PICTURES)), sorted(n for n in os.listdir(folder)))
-    for name in os.listdir(folder):
+    for name in sorted(set(os.listdir(folder)) & set(os.listdir(PICTURES))):
         stored, now = (png.decoded(read(os.path.join(f, name))) for f in (PICTURES, folder))
         same(f"size of {name}", stored[:2], now[:2])
         far = sum(max(abs(a - b) for a, b in zip(p, q)) > 24 for p, q in zip(png.blocks(stored, 8), png.blocks(now, 8)))
@@ -722,7 +794,7 @@ def main():
             os.mkdir(place)
         first, begun = draw_forms(places[0]), time.time()
         parts = [(test_reports,), (test_papers, folder), (test_damaged,), (test_options, folder), (test_outputs, folder)]
-        parts += [(test_ink, folder), (test_stored_picture, places[3]), (test_watch, folder), (test_valgrind, folder)]
+        parts += [(test_ink, folder), (test_head, folder), (test_stored_picture, places[3]), (test_watch, folder), (test_valgrind, folder)]
         parts += [(test_no_cairo, places[2]), (test_installed, places[4])]
         for part, *given in parts:
             start = time.monotonic()

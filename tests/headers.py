@@ -2,11 +2,12 @@
 """Compares the headers of include/ with the exports of crates/export_helm and crates/export_charts, and with the definitions.
 
 usage: headers.py            compares, compiles the headers by themselves, and then tries the wrong headers below
-       headers.py --write    writes the enum of numbers and the words of the numbers into the headers
+       headers.py --write    writes the enums of numbers and of positions, and the words of both, into the headers
 
 Read of both and compared: the names of the exports and in which header they stand, the order, names and widths of parameters, const
-against `&` and `&mut`, what is returned, the structs field by field. Of the definitions: the numbers by `rowOf`, the lengths and limits.
-The enum and the words come from `rowOf` and from frontend/numbers.py; the headers must have them as they would be written now.
+against `&` and `&mut`, what is returned, the structs field by field. Of the definitions: the numbers by `rowOf`, the positions by
+`positionNumber`, the lengths and limits. The enums come from these two, and the words from frontend/numbers.py and frontend/commands.py;
+the headers must have them as they would be written now.
 It fails on any difference, on text in a header that it does not understand, on a warning of the C or C++ compiler, and when a wrong
 header is not noticed."""
 
@@ -20,11 +21,12 @@ from collections import namedtuple
 
 ROOT = os.path.dirname(os.path.dirname(os.path.abspath(__file__)))
 sys.path.insert(0, ROOT)
-from frontend import VERSION, numbers
+from frontend import VERSION, commands, numbers
 
 HELM, CHARTS = "jirdtungsten.h", "jirdtungsten_charts.h"
 CRATES = {HELM: "export_helm", CHARTS: "export_charts"}
-DEFINITIONS = "crates/spec_charts/specs/Refusals.antt"
+NUMBERS = "crates/spec_charts/specs/Refusals.antt"
+POSITIONS = "crates/spec_plane/specs/Position.antt"
 
 
 def read(*names):
@@ -35,35 +37,60 @@ def read(*names):
 # ---- the parts that are written
 
 
-def rows():
-    """The numbers by name, from the definition of the table of numbers."""
-    found = re.findall(r"^rowOf \(?(\w+)(?: \w+\))? = (?:alone|record \{ number =) (\d+)", read(DEFINITIONS), re.M)
-    return [("DONE", 0)] + [(re.sub(r"(?<=[a-z])(?=[A-Z])", "_", name).upper(), int(number)) for name, number in found]
+def constant(name):
+    """The constant that a definition's case has in C: ON_AB of OnAb."""
+    return re.sub(r"(?<=[a-z])(?=[A-Z])", "_", name).upper()
 
 
-def enum_text():
-    lines = [f"    JIRD_{name} = {number}{',' if k + 1 < len(rows()) else ''}" for k, (name, number) in enumerate(rows())]
+def number_rows():
+    """Constant, number and words of each number, from the definition of the table of numbers."""
+    found = re.findall(r"^rowOf \(?(\w+)(?: \w+\))? = (?:alone|record \{ number =) (\d+)", read(NUMBERS), re.M)
+    return [(constant(name), int(n), numbers.called(int(n))) for name, n in [("Done", 0), *found]]
+
+
+def position_rows():
+    """The same of each position, from the definition of its number; the words are those of chartkey's keys. No key has outside."""
+    found = re.findall(r"^positionNumber (\w+) = (\d+)$", read(POSITIONS), re.M)
+    if not found:
+        sys.exit(f"{POSITIONS} has no `positionNumber NAME = NUMBER`: tell POSITIONS where it is now")
+    words = {k: commands.for_people(commands.POSITION, k) for k in range(len(commands.POSITIONS))}
+    return [(constant(name), int(n), words.get(int(n), name.lower())) for name, n in found]
+
+
+def enum_text(rows, name):
+    lines = [f"    JIRD_{called} = {number}{',' if k + 1 < len(rows) else ''}" for k, (called, number, _) in enumerate(rows)]
     wide = max(map(len, lines))
-    lines = [f"{line:{wide}} /* {numbers.called(number)} */" for line, (_, number) in zip(lines, rows())]
-    return "typedef enum {\n" + "\n".join(lines) + "\n} jird_number;\n"
+    lines = [f"{line:{wide}} /* {words} */" for line, (_, _, words) in zip(lines, rows)]
+    return "typedef enum {\n" + "\n".join(lines) + f"\n}} {name};\n"
 
 
-def words_text():
-    lines = [f'    case JIRD_{name}:\n        return "{numbers.called(number)}";' for name, number in rows()]
-    body = "\n".join(lines) + '\n    default:\n        return "no number that a call gives";'
-    return f"static inline const char *jird_words(uint32_t number) {{\n    switch (number) {{\n{body}\n    }}\n}}\n"
+def words_text(rows, name, parameter, other):
+    lines = [f'    case JIRD_{called}:\n        return "{words}";' for called, _, words in rows]
+    body = "\n".join(lines) + f'\n    default:\n        return "{other}";'
+    return f"static inline const char *{name}(uint32_t {parameter}) {{\n    switch ({parameter}) {{\n{body}\n    }}\n}}\n"
 
 
-PARTS = {HELM: ("numbers", enum_text), CHARTS: ("words", words_text)}
+# the parts of each header that are written, by the word that marks them
+PARTS = {
+    HELM: {
+        "numbers": lambda: enum_text(number_rows(), "jird_number"),
+        "positions": lambda: enum_text(position_rows(), "jird_position"),
+    },
+    CHARTS: {
+        "words": lambda: words_text(number_rows(), "jird_words", "number", "no number that a call gives"),
+        "words of positions": lambda: words_text(position_rows(), "jird_position_words", "position", "no position that a call gives"),
+    },
+}
 
 
 def written(name, text):
-    """The header with its part as it would be written now."""
-    mark, part = PARTS[name]
-    found = re.fullmatch(rf"(.*\* {mark}: written by tests/headers.py --write \*/\n)(.*)(/\* {mark}: end \*/\n.*)", text, re.S)
-    if not found:
-        sys.exit(f"include/{name}: the marks around `{mark}` are missing")
-    return found[1] + part() + found[3]
+    """The header with its parts as they would be written now."""
+    for mark, part in PARTS[name].items():
+        found = re.fullmatch(rf"(.*\* {mark}: written by tests/headers.py --write \*/\n)(.*)(/\* {mark}: end \*/\n.*)", text, re.S)
+        if not found:
+            sys.exit(f"include/{name}: the marks around `{mark}` are missing")
+        text = found[1] + part() + found[3]
+    return text
 
 
 def write():
@@ -226,7 +253,7 @@ def same_inlines(said):
 
     wanted = {plain(inline_text(name, *f)): name for one in said.values() for name, f in one.functions.items()}
     for text in said[CHARTS].inlines + said[HELM].inlines:
-        if plain(text) not in wanted and "jird_words(" not in text:
+        if plain(text) not in wanted and not re.match(r"static inline const char \*jird_(position_)?words\(", text):
             yield f"{CHARTS}: not the call on a chart's own buffers: {' '.join(text.split())[:80]} .."
         wanted.pop(plain(text), None)
     yield from (f"{CHARTS}: no inline function over a chart for {name}" for name in wanted.values())
@@ -242,7 +269,7 @@ LIMITS = {
     "JIRD_PAIRS_LENGTH": ("crates/spec_calls/specs/Buffers.antt", "pairsLength"),
     "JIRD_MOST_PAIRS": ("crates/spec_charts/specs/Overlay.antt", "maxPairs"),
     "JIRD_EMPTY_CELL": ("crates/theory_orthtree/specs/Entries.antt", "emptyMark"),
-    "JIRD_NOWHERE": ("crates/spec_log/specs/Log.antt", "locatedNumbers none"),
+    "JIRD_NOWHERE": ("crates/base_answers/specs/Outcomes.antt", "foundNumber none"),
 }
 
 
@@ -263,7 +290,7 @@ def stacks(text):
 def same_constants(texts, said):
     """Where enums and limits differ from the definitions."""
     wanted = {name: defined(*place) for name, place in LIMITS.items()}
-    wanted.update((f"JIRD_{name}", number) for name, number in rows())
+    wanted.update((f"JIRD_{name}", number) for name, number, _ in number_rows() + position_rows())
     wanted["JIRD_MOST_STACK"] = 1024 * max(kb for text in texts.values() for kb in stacks(text).values())
     ours = {name: value for one in said.values() for name, value in one.constants.items()}
     for name in sorted(set(ours) | set(wanted)):
@@ -274,7 +301,7 @@ def same_constants(texts, said):
 
 
 # what the types and prototypes of each JIRD_ABI are
-ABIS = {"1": "ee9e360e70d40723"}
+ABIS = {"1": "ee9e360e70d40723", "2": "8ecd9dce6a9202d8"}
 
 
 def same_abi(said):
@@ -303,7 +330,7 @@ def faults(texts, sources):
         yield from same_exports(name, said[name], functions, structs)
         yield from (f"{name}: the stack of {f} is not said" for f in sorted(set(said[name].functions) - set(stacks(text))))
         if written(name, text) != text:
-            yield f"{name}: the {PARTS[name][0]} are not current; `python3 tests/headers.py --write` writes them"
+            yield f"{name}: the {' or the '.join(PARTS[name])} are not current; `python3 tests/headers.py --write` writes them"
     if sorted(said[HELM].functions) != ["jird_locate", "jird_overlay"]:
         yield f"{HELM}: it has locate and overlay, and nothing else"
     yield from same_constants(texts, said)
@@ -326,6 +353,7 @@ def other_exports(named):
 
 LENGTHS = "size_t triangles, size_t entries, "
 CLOSED = "\n#ifdef __cplusplus\n}"
+TRIANGLE = "    uint32_t triangle; /* JIRD_NOWHERE if none, and at a refusal */"
 # the kind of fault, the header, a text that is in it (its first place is meant), and what stands there instead
 WRONG = [
     ("a name", HELM, "jird_located jird_locate(", "jird_located jird_find("),
@@ -353,12 +381,24 @@ WRONG = [
     ("a field of another width in an answer of counts", HELM, "size_t meetings;", "uint32_t meetings;"),
     ("a field missing", CHARTS, "    size_t entries;\n", ""),
     ("a field too many", HELM, "    uint32_t triangle;", "    uint32_t place;\n    uint32_t triangle;"),
+    ("triangle and position in another order", HELM, f"{TRIANGLE}\n    uint32_t position;", f"    uint32_t position;\n{TRIANGLE}"),
+    ("a position of another width", HELM, "uint32_t position;", "uint8_t position;"),
+    ("a wider position", HELM, "uint32_t position;", "size_t position;"),
+    ("the position missing", HELM, "    uint32_t position;", "    //"),
     ("an enum value", HELM, "JIRD_NO_FLIP = 9", "JIRD_NO_FLIP = 8"),
     ("a row of the enum missing", HELM, "    JIRD_TABLE_FULL = 10, ", "    //"),
+    ("another number of a position", HELM, "JIRD_OUTSIDE = 7", "JIRD_OUTSIDE = 8"),
+    ("two corners exchanged", HELM, "JIRD_AT_A = 4,   /* at corner a */\n    JIRD_AT_B = 5",
+     "JIRD_AT_B = 4,   /* at corner a */\n    JIRD_AT_A = 5"),
+    ("sides from 0", HELM, "JIRD_INSIDE = 0, /* inside */\n    JIRD_ON_AB = 1", "JIRD_ON_AB = 0, /* inside */\n    JIRD_INSIDE = 1"),
+    ("a position missing", HELM, "    JIRD_ON_CA = 3, ", "    //"),
+    ("a position too many", HELM, "    JIRD_OUTSIDE = 7 ", "    JIRD_NEAR = 8,\n    JIRD_OUTSIDE = 7 "),
+    ("the positions by another name", HELM, "} jird_position;", "} jird_places;"),
     ("a constant", HELM, "JIRD_PAIRS_LENGTH = 8192", "JIRD_PAIRS_LENGTH = 4096"),
     ("the mark", HELM, "JIRD_NOWHERE = 65535", "JIRD_NOWHERE = 65536"),
     ("another version", HELM, "#define JIRD_VERSION \"1", "#define JIRD_VERSION \"2"),
-    ("another ABI number", HELM, "#define JIRD_ABI 1", "#define JIRD_ABI 2"),
+    ("another ABI number", HELM, "#define JIRD_ABI 2", "#define JIRD_ABI 3"),
+    ("the ABI number of before", HELM, "#define JIRD_ABI 2", "#define JIRD_ABI 1"),
     ("a constant too many", HELM, "    JIRD_MOST_PAIRS = 4096,", "    JIRD_MOST_PAIRS = 4096,\n    JIRD_MOST_CELLS = 16384,"),
     ("less stack said over all than of a call", HELM, "JIRD_MOST_STACK = 262144", "JIRD_MOST_STACK = 65536"),
     ("no stack said", CHARTS, " Stack: at most 16 KB.", ""),
@@ -376,6 +416,7 @@ WRONG = [
     ("an inline function by another name", CHARTS, "jird_chart_cell(", "jird_cell_of("),
     ("something left out by the preprocessor", CHARTS, "static inline jird_part", "#if 0\nstatic inline jird_part"),
     ("other words", CHARTS, "over 4,096 pairs", "over 4,000 pairs"),
+    ("other words of a position", CHARTS, '"on side bc"', '"on side cb"'),
     ("a declaration that is no prototype", HELM, CLOSED, "\nextern int jird_errors;\n" + CLOSED),
 ]
 # the same of a source: what is exported and the header does not have

@@ -1,20 +1,29 @@
-"""Looks for ink in a picture of helm-display, by its report: where sides, dashes and shading must be, and where none may be.
+"""Looks for ink in a picture of helm-display, by its report: where sides, dashes and shading must be, and where none may be; the rings
+of the cutter head, and the side or corner on which it sits.
 
 Places are drawn from a fixed seed. Where it looks is computed here, from the tables of the report; the display has no part in it."""
 
+import itertools
+import math
 import random
 
 import png
 
 DAY = {"ground": (255, 255, 255), "bed": (0, 76, 140), "design": (199, 74, 0), "paired": (228, 238, 247), "under": (253, 230, 138)}
+DAY.update({"inside": (0, 0, 0), "side": (27, 128, 70), "corner": (192, 0, 192), "nowhere": (74, 74, 74)})
 NIGHT = {"ground": (9, 11, 15), "bed": (92, 158, 219), "design": (230, 133, 51), "paired": (16, 27, 40), "under": (77, 64, 13)}
+NIGHT.update({"inside": (255, 246, 214), "side": (32, 208, 128), "corner": (255, 180, 240), "nowhere": (156, 156, 156)})
+# form and colour of a ring of the head, for each position
+RINGS = ("inside", "side", "side", "side", "corner", "corner", "corner", "nowhere")
 CHARTS = ("bed", "design")
 PLACES = 3000  # that are looked at, of a picture
 REACH = 9  # pixels around a place that are looked at; shading lines are less than twice as far apart
 FROM_HEAD = 70
 FROM_LABEL = 40
-# how many of each kind of place a run must have looked at
+# how many of each kind of place a run must have looked at; and of those around heads
 LEAST = {"bed sides": 80, "design sides": 25, "shared design sides": 8, "blank places": 1500, "shaded places": 200, "unshaded places": 1000}
+LEAST_OF_HEADS = {"rings inside": 12, "rings side": 24, "rings corner": 24, "rings nowhere": 40, "panels": 30}
+LEAST_OF_HEADS.update({"places with a band": 4000, "places without a band": 20000})
 
 
 def inside(t, p, margin=-1e-6):
@@ -155,6 +164,166 @@ def place_faults(plan, seen):
             wrong = place_fault(plan, place, seen)
             if wrong:
                 yield wrong
+
+
+# ---- the cutter head
+
+# of a head of size 1: the rings' radius; of both layouts: the head's size and the band's width, at 1280 by 800 pixels or in millimetres
+RADIUS = {"bed": 0.85, "design": 1.6}
+SIZES = {"helm": (16, 14), "sheet": (2.4, 1.7)}
+# of a corner, from the head: where the band surely is, and where no more of it is, in sizes of the head
+BAND_FROM, BAND_TO, BAND_END = 3, 4.7, 5.3
+
+
+def sizes(plan):
+    """The head's size and the band's width, in pixels."""
+    shown = plan.report["picture"]
+    unit = min(shown["size"][0] / 1280, shown["size"][1] / 800) if shown["layout"] == "helm" else plan.dots
+    return [n * unit for n in SIZES[shown["layout"]]]
+
+
+def outline(form, radius, count=96):
+    """Places around a ring of a form, from its middle: circle, square, square on its corner; all of one area."""
+    for k in range(count):
+        x, y = math.cos(2 * math.pi * k / count), math.sin(2 * math.pi * k / count)
+        edge = math.sqrt(math.pi) / 2
+        far = radius * {"side": edge / max(abs(x), abs(y)), "corner": math.sqrt(2) * edge / (abs(x) + abs(y))}.get(form, 1)
+        yield x * far, y * far
+
+
+def coloured(plan, place, colour):
+    """Whether the pixel at a place has the whole of a colour."""
+    got = png.pixel(plan.picture, int(place[0]), int(place[1]))
+    return max(abs(a - b) for a, b in zip(got, plan.colours[colour])) < 25
+
+
+def ring_faults(plan, seen):
+    """Each ring has the form and the colour of its chart's position, and neither the tips of another form nor another colour."""
+    x, y = plan.pixels(plan.report["head"])
+    for chart in CHARTS:
+        form = RINGS[plan.report["found"][chart]["position"]]
+        around = {g: [(x + u, y + v) for u, v in outline(g, RADIUS[chart] * sizes(plan)[0])] for g in dict.fromkeys(RINGS)}
+        shares = {c: sum(coloured(plan, p, c) for p in around[form]) / len(around[form]) for c in dict.fromkeys(RINGS)}
+        own = shares.pop(form)
+        seen[f"rings {form}"] = seen.get(f"rings {form}", 0) + 1
+        what = f"the head at {plan.report['head']}: the ring of {chart} should be {form}"
+        if not (0.3 < own < 0.7 if form == "nowhere" else own > 0.95) or max(shares.values()) > 0.1:
+            yield f"{what}: {own:.2f} of it is, and of other colours {shares}"
+        for other, first in (("side", 1), ("corner", 0)):
+            # the arms of the cross have the colour of a ring inside, and lie on the outer ring's tips
+            arms = (chart, form, other) == ("design", "inside", "corner")
+            tips = around[other][first * len(around[other]) // 8 :: len(around[other]) // 4]
+            # the band of a side may lie on two of them
+            if other != form and not arms and sum(coloured(plan, p, form) for p in tips) > 2:
+                yield f"{what}, and has the tips of {other}"
+
+
+def band_places(plan, a, b, band):
+    """Places on both edges of the band along a side, where no other side, no number and not the head is; with how far the head is."""
+    head, length = plan.pixels(plan.report["head"]), distance(a, b, b)
+    across = ((b[1] - a[1]) / length, (a[0] - b[0]) / length)
+    others = [side for c in CHARTS for side in plan.sides[c] if set(side) != {a, b}]
+    labels = [plan.pixels(at) for c in CHARTS for _, *at in plan.report["picture"]["labels"][c]["set"]]
+    for x, y in along(a, b, int(length / 4) + 1):
+        far = distance((x, y), head, head)
+        near = [distance((x, y), *side) for side in others] + [distance((x, y), at, at) / 3 for at in labels]
+        if far > BAND_FROM * sizes(plan)[0] and min(near, default=band) >= band and plan.holds((x, y), band):
+            yield from (((x + s * across[0], y + s * across[1]), far) for s in (0.38 * band, -0.38 * band))
+
+
+def band_faults(plan, seen):
+    """The side on which the head sits has its band all along, both sides of a corner for a part, and nothing else has one."""
+    head, band = sizes(plan)
+    for chart in CHARTS:
+        found = plan.report["found"][chart]
+        form, table = RINGS[found["position"]], plan.tables[chart]
+        for side in range(3) if found["triangle"] is not None else ():
+            corners = [plan.pixels(table[found["triangle"]][2 * k : 2 * k + 2]) for k in (side, (side + 1) % 3)]
+            on = form == "side" and side == found["position"] - 1
+            at = form == "corner" and found["position"] - 4 in (side, (side + 1) % 3)
+            places = list(band_places(plan, *corners, band))
+            there = [p for p, far in places if on or at and far < BAND_TO * head]
+            nothing = [p for p, far in places if not on and not (at and far < BAND_END * head)]
+            has = [sum(any(coloured(plan, p, c) for c in ("side", "corner") if all_of or c == form) for p in part)
+                   for part, all_of in ((there, False), (nothing, True))]
+            what = f"side {side} of {chart} {found['triangle']}, the head {form} at {plan.report['head']}"
+            if has[0] < 0.9 * len(there):
+                yield f"{what}: its band is at {has[0]} of {len(there)} places"
+            if has[1]:
+                yield f"{what}: a band is at {has[1]} of {len(nothing)} places where none should be"
+            seen["places with a band"] = seen.get("places with a band", 0) + len(there)
+            seen["places without a band"] = seen.get("places without a band", 0) + len(nothing)
+
+
+def told_faults(plan, seen):
+    """Beside the plan of the helm's picture stand the positions in their colours, and no other."""
+    at = {RINGS[plan.report["found"][c]["position"]] for c in CHARTS}
+    left, rows = int(plan.right) + 10, plan.picture.rows[: int(plan.bottom)]
+    beside = [row[left * plan.picture.channels :] for row in rows]
+    pixels = {tuple(row[k : k + 3]) for row in beside for k in range(0, len(row), plan.picture.channels)}
+    seen["panels"] = seen.get("panels", 0) + 1
+    for form in ("side", "corner"):
+        if (plan.colours[form] in pixels) != (form in at):
+            yield f"the head at {plan.report['head']}, {at}: beside the plan the colour of {form} is {'missing' if form in at else 'there'}"
+
+
+def head_faults(picture, report, night, counts):
+    """What is wrong with the head of a picture, by its report."""
+    plan = Plan(picture, report, NIGHT if night else DAY)
+    yield from ring_faults(plan, counts)
+    yield from band_faults(plan, counts)
+    if report["picture"]["layout"] == "helm":
+        yield from told_faults(plan, counts)
+
+
+# ---- colours, as people with and without all three kinds of cones see them
+
+# what is seen of linear red, green and blue: Machado, Oliveira and Fernandes, 2009, the whole of a kind missing
+SEEN = {
+    "all": ((1, 0, 0), (0, 1, 0), (0, 0, 1)),
+    "protan": ((0.152286, 1.052583, -0.204868), (0.114503, 0.786281, 0.099216), (-0.003882, -0.048116, 1.051998)),
+    "deutan": ((0.367322, 0.860646, -0.227968), (0.280085, 0.672501, 0.047413), (-0.011820, 0.042940, 0.968881)),
+    "tritan": ((1.255528, -0.076749, -0.178779), (-0.078411, 0.930809, 0.147602), (0.004733, 0.691367, 0.303900)),
+}
+
+
+def linear(colour):
+    return [c / 255 / 12.92 if c <= 10 else ((c / 255 + 0.055) / 1.055) ** 2.4 for c in colour]
+
+
+def contrast(one, other):
+    """The ratio of WCAG 2."""
+    low, high = sorted(0.2126 * r + 0.7152 * g + 0.0722 * b for r, g, b in map(linear, (one, other)))
+    return (high + 0.05) / (low + 0.05)
+
+
+def lab(colour, eyes):
+    """CIE L*a*b* of a colour as it is seen."""
+    r, g, b = (min(1, max(0, sum(m * c for m, c in zip(row, linear(colour))))) for row in SEEN[eyes])
+    parts = [0.4339 * r + 0.3762 * g + 0.1899 * b, 0.2126 * r + 0.7152 * g + 0.0722 * b, 0.0177 * r + 0.1095 * g + 0.8729 * b]
+    x, y, z = (t ** (1 / 3) if t > 0.008856 else 7.787 * t + 16 / 116 for t in parts)
+    return 116 * y - 16, 500 * (x - y), 200 * (y - z)
+
+
+def difference(one, other):
+    """The least that two colours differ (CIE76) to any eyes."""
+    return min(math.dist(lab(one, eyes), lab(other, eyes)) for eyes in SEEN)
+
+
+def colour_faults():
+    """Rings stand out from the ground as the charts do, and differ from each other, and those on a boundary from the charts."""
+    for colours in (DAY, NIGHT):
+        least = {on: min(contrast(colours[c], colours[on]) for c in CHARTS) for on in ("ground", "under", "paired")}
+        for form, on in itertools.product(dict.fromkeys(RINGS), least):
+            if contrast(colours[form], colours[on]) < least[on]:
+                yield f"contrast of {form} on {on}: {contrast(colours[form], colours[on]):.1f}, and of the charts {least[on]:.1f}"
+        pairs = [(24, pair) for pair in itertools.combinations(dict.fromkeys(RINGS), 2)]
+        for least, (a, b) in pairs + [(17, pair) for pair in itertools.product(("side", "corner"), CHARTS)]:
+            if difference(colours[a], colours[b]) < least:
+                yield f"{a} and {b} differ by {difference(colours[a], colours[b]):.1f} to some eyes, not by {least}"
+
+
+# ---- a picture
 
 
 def faults_of(picture, report, night, counts):

@@ -9,7 +9,7 @@ usage: library.py SEED COUNT     all of it; COUNT is at least 5
   calls     the calls of tests/calls.py (boundaries, damaged charts of each kind, buffers one place short, COUNT drawn lists) and counts
             up to the largest, with buffers that end at an unreadable page and others that start after one, const ones on pages that
             cannot be written: answers and all places of all buffers as the model has them; some of them under valgrind, in blocks of
-            the heap of exactly their size. Every number that a header says of a call must be met, and no other
+            the heap of exactly their size. Every number that a header says of a call must be met, and no other, and every position
   threads   two threads with charts of their own at the same time
   install   `make install` below an empty folder, the examples built from another one by pkg-config, as C and as C++, with the archive
             and with the shared library; `chartkey` and the proved program run; `make uninstall`, and nothing is left
@@ -160,6 +160,15 @@ def same_numbers(answers):
     return not wrong and set(met) == set(said)
 
 
+def same_positions(answers):
+    """Whether locates gave every position that the header has, and no other."""
+    met = {int(line.split()[3]) for line in answers if line.startswith("locate ")}
+    said = {number for _, number, _ in headers.position_rows()}
+    if met != said:
+        print(f"jird_locate gave the positions {sorted(met)}, and its header has {sorted(said)}")
+    return met == said
+
+
 def compared(s, ways):
     """The model's answers, if each of these programs gives them; the checksum of all buffers is in each."""
     text = script.model_text(s.steps, sums=False)
@@ -173,7 +182,7 @@ def compared(s, ways):
 def made_calls(seed, count):
     plain, sanitized = compiled("calls"), compiled("calls", options=SANITIZED)
     answers = compared(fixed(seed, count), [[program, mode] for program in (plain, sanitized) for mode in ("end", "start")])
-    if not same_numbers(answers):
+    if not same_numbers(answers) or not same_positions(answers):
         sys.exit(1)
     under = compared(few(seed), [[*VALGRIND, plain, "heap"]])
     print(f"calls: {len(answers)} in buffers that end at a guard page and {len(answers)} in such that start after one, both with and "

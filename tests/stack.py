@@ -28,6 +28,7 @@ from tables import U, V
 
 LIBRARY = os.path.join(ROOT, "target", "lib", "libjirdtungsten.a")
 PROGRAM = os.path.join(ROOT, "target", "lib", "stack")
+AT_C = headers.in_header(headers.read("include", headers.HELM)).constants["JIRD_AT_C"]
 CALLS = ["load", "split", "take_out", "flip", "locate", "cell", "soundness", "doubled_area", "overlay"]
 
 
@@ -80,8 +81,9 @@ def calls_on(table, p):
 
 
 def is_right(call, number, answer):
-    """Whether a call was done, and one that reads found what is there; tables may be sound or not."""
-    return number == 0 and {"locate": answer < 512, "cell": answer > 0, "doubled_area": answer > 0, "overlay": answer > 0}.get(call, True)
+    """Whether a call was done, and one that reads found what is there: locate the split's point, at corner c of the lowest triangle
+    that has it. Tables may be sound or not."""
+    return number == 0 and {"locate": answer == AT_C, "cell": answer > 0, "doubled_area": answer > 0, "overlay": answer > 0}.get(call, True)
 
 
 def measured(cases):

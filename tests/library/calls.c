@@ -146,6 +146,7 @@ static int question(const char *word, size_t c, const uint64_t *v, size_t n) {
         jird_located r = jird_locate(CHART(c), x, y);
         printf("locate %" PRIu32, r.number);
         printf(r.triangle == JIRD_NOWHERE ? " nowhere" : " %" PRIu32, r.triangle);
+        printf(" %" PRIu32, r.position);
     } else if (!strcmp(word, "listing") && n == 2) {
         print_cell(c, jird_cell(CHART(c), x, y));
     } else if (!strcmp(word, "sound") && n == 0) {

@@ -86,6 +86,10 @@ static int holds(const jird_chart *c, const uint16_t *numbers, size_t n) {
 
 static int is_part(jird_part p, size_t start, size_t length) { return p.start == start && p.length == length; }
 
+static int is_at(jird_located r, uint32_t number, uint32_t triangle, uint32_t position) {
+    return r.number == number && r.triangle == triangle && r.position == position;
+}
+
 /* ---- the cases */
 
 static void entries(const Calls *f, jird_chart *c, const uint16_t *uv) {
@@ -105,13 +109,18 @@ static void entries(const Calls *f, jird_chart *c, const uint16_t *uv) {
 }
 
 static void places(const Calls *f, jird_chart *c, const uint16_t *uv) {
-    f->load(c, U, 6); /* 6 */
-    CHECK(f->locate(c, 32768, 32767).number == JIRD_DONE && f->locate(c, 32768, 32767).triangle == 0);
-    CHECK(f->locate(c, 32768, 32768).number == JIRD_DONE && f->locate(c, 32768, 32768).triangle == JIRD_NOWHERE);
+    f->load(c, U, 6); /* 6, and each position */
+    CHECK(is_at(f->locate(c, 32768, 32767), JIRD_DONE, 0, JIRD_ON_BC));
+    CHECK(is_at(f->locate(c, 32768, 32768), JIRD_DONE, JIRD_NOWHERE, JIRD_OUTSIDE));
+    CHECK(is_at(f->locate(c, 1, 2), JIRD_DONE, 0, JIRD_INSIDE));
+    CHECK(is_at(f->locate(c, 7, 0), JIRD_DONE, 0, JIRD_ON_AB) && is_at(f->locate(c, 0, 7), JIRD_DONE, 0, JIRD_ON_CA));
+    CHECK(is_at(f->locate(c, 0, 0), JIRD_DONE, 0, JIRD_AT_A) && is_at(f->locate(c, 65535, 0), JIRD_DONE, 0, JIRD_AT_B));
+    CHECK(is_at(f->locate(c, 0, 65535), JIRD_DONE, 0, JIRD_AT_C));
     f->load(c, uv, 12);
-    CHECK(f->locate(c, 65535, 0).triangle == 0 && f->locate(c, 65535, 9).triangle == 1);
+    CHECK(is_at(f->locate(c, 65535, 0), JIRD_DONE, 0, JIRD_AT_B) && is_at(f->locate(c, 65535, 9), JIRD_DONE, 1, JIRD_ON_CA));
+    CHECK(is_at(f->locate(c, 9, 65535), JIRD_DONE, 1, JIRD_ON_AB) && is_at(f->locate(c, 65535, 65535), JIRD_DONE, 1, JIRD_AT_A));
     c->triangles = (size_t)-1;
-    CHECK(f->locate(c, 1, 1).number == JIRD_BROKEN_CHAIN && f->locate(c, 1, 1).triangle == JIRD_NOWHERE);
+    CHECK(is_at(f->locate(c, 1, 1), JIRD_BROKEN_CHAIN, JIRD_NOWHERE, JIRD_OUTSIDE));
     CHECK(is_part(f->cell(c, 40000, 5), 0, 0) && f->soundness(c).number == JIRD_BROKEN_CHAIN && f->soundness(c).sound == 0);
     CHECK(f->doubled_area(c).number == JIRD_BROKEN_CHAIN && f->doubled_area(c).area == 0);
     CHECK(is_refused(f->flip(c, 0, 1), JIRD_BROKEN_CHAIN, 0, c) && c->triangles == (size_t)-1);
@@ -171,10 +180,11 @@ static void loads(const Calls *f, jird_chart *c) {
     CHECK(f->load(c, three, 12).number == JIRD_DONE && f->soundness(c).number == JIRD_DONE && f->soundness(c).sound == 0);
 }
 
-static void words(void) {
-    for (uint32_t n = JIRD_DONE; n <= JIRD_TOO_MANY_PAIRS; n++) {
-        CHECK(strlen(jird_words(n)) > 5 && strcmp(jird_words(n), jird_words(99)) != 0);
-        for (uint32_t m = 0; m < n; m++) CHECK(strcmp(jird_words(n), jird_words(m)) != 0);
+/* Each has words, and no other has the same. */
+static void words(const char *(*words_of)(uint32_t), uint32_t last) {
+    for (uint32_t n = 0; n <= last; n++) {
+        CHECK(strlen(words_of(n)) > 5 && strcmp(words_of(n), words_of(99)) != 0);
+        for (uint32_t m = 0; m < n; m++) CHECK(strcmp(words_of(n), words_of(m)) != 0);
     }
 }
 
@@ -193,7 +203,8 @@ int main(void) {
         free(c);
         free(d);
     }
-    words();
+    words(jird_words, JIRD_TOO_MANY_PAIRS);
+    words(jird_position_words, JIRD_OUTSIDE);
     printf("%d checks, %d failed\n", checks, failures);
     return failures == 0 ? 0 : 1;
 }

@@ -5,7 +5,7 @@
    Reads calls from standard input, a word for the call, then numbers:
      load C k n1 .. nk    split C t x y    take_out C x y    flip C i j    locate C x y    cell C x y
      soundness C    doubled_area C    overlay A B
-   and prints for each its word, its number, what a call that reads answers, and the bytes of stack. */
+   and prints for each its word, its number, what a call that reads answers (locate the position), and the bytes of stack. */
 #include "jirdtungsten_charts.h"
 #include <inttypes.h>
 #include <stdio.h>
@@ -36,7 +36,7 @@ static void load(void) { changed(jird_load(given, length, CHART)); }
 static void split(void) { changed(jird_split(CHART, a, X(b), X(c))); }
 static void take_out(void) { changed(jird_take_out(CHART, X(a), X(b))); }
 static void flip(void) { changed(jird_flip(CHART, a, b)); }
-static void locate(void) { jird_located r = jird_locate(CHART, X(a), X(b)); number = r.number, answer = r.triangle; }
+static void locate(void) { jird_located r = jird_locate(CHART, X(a), X(b)); number = r.number, answer = r.position; }
 static void cell(void) { answer = jird_cell(CHART, X(a), X(b)).length; }
 static void soundness(void) { jird_sounded r = jird_soundness(CHART); number = r.number, answer = r.sound; }
 static void doubled_area(void) { jird_measured r = jird_doubled_area(CHART); number = r.number, answer = r.area; }

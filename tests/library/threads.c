@@ -71,6 +71,7 @@ static void edit(Work *w) {
         jird_located at = jird_chart_locate(&w->bed, (uint16_t)x, (uint16_t)y);
         jird_part cell = jird_chart_cell(&w->bed, (uint16_t)x, (uint16_t)y);
         add_number(w, at.triangle);
+        add_number(w, at.position);
         add(w, &w->bed.items[cell.start], cell.length * sizeof(uint16_t));
         add_changed(w, jird_chart_split(&w->bed, at.triangle, (uint16_t)x, (uint16_t)y));
         add_changed(w, jird_chart_flip(&w->bed, drawn(w, TRIANGLES), drawn(w, TRIANGLES)));
