@@ -15,6 +15,7 @@ what says it and what holds it. Refused are:
 - an `as` to a row that is not there or is later, or round in a circle;
 - code in a row where nothing runs yet;
 - a changed row whose successor is missing, is later, or belongs to another request;
+- a request that is carried before an earlier one, and one without its note, docs/landings/NN-NAME.md with the headings of LANDING;
 - a public call that no contract row says, that has no `ensures`, or that has a `requires`; an exported function that has one.
 
 usage: claims.py [PART=TEXT]..    also compares the parts demands, document-01, document-02 with their original texts"""
@@ -273,6 +274,35 @@ def public_calls(said_calls):
     return len(calls)
 
 
+# ---- the landings
+
+# what the note of a landing has: the check's time before and after, what moved and what stayed
+LANDING = ["Time of the check", "Moved", "Stayed"]
+
+
+def landings(rows):
+    """How many requests are carried: the first ones, each with its note and no other. A note says what moved and stayed of
+    definitions, promises and proofs."""
+    later = sorted({int(r.id[1:].split(".")[0]) for r in rows if r.kind == "later" and not r.id.startswith("Q0.")})
+    requests = sorted({int(r.id[1:].split(".")[0]) for r in rows} - {0})
+    done = [k for k in requests if k not in later]
+    if done != requests[: len(done)]:
+        faults.append(f"Document 02: requests {done} are carried, and they come in their order")
+    notes = sorted(glob.glob("docs/landings/*", root_dir=ROOT))
+    numbers = [re.fullmatch(r"docs/landings/(\d\d)-[a-z-]+\.md", note) for note in notes]
+    if [found and int(found.group(1)) for found in numbers] != done:
+        faults.append(f"docs/landings: notes {notes} for the requests {done}")
+    for note in notes:
+        text = read(note)
+        headings = re.findall(r"^## (.*)$", text, re.M)
+        missing = [h for h in LANDING if h not in headings]
+        missing += [f"{part} under {h}" for h in LANDING[1:] for part in ("Definitions", "Promises", "Proofs")
+                    if not re.search(rf"^## {h}\n(?:(?!## ).*\n)*?\*\*{part}", text, re.M)]
+        if missing:
+            faults.append(f"{note}: no {', no '.join(missing)}")
+    return len(done)
+
+
 # ---- the whole texts
 
 
@@ -340,6 +370,7 @@ def main():
         counted(title, own, said.get(title))
         whole(title, own, texts.get(part))
     calls = public_calls(carried(rows))
+    landings([r for r in rows.values() if r.part == "Document 02"])
     if faults:
         print("\n".join(faults))
         sys.exit(1)

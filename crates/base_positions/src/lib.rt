@@ -43,7 +43,12 @@ pub fn position_in(t: [Point; 3], p: Point) -> Position
     let bc = orientation::orientation(t[1], t[2], p);
     let ca = orientation::orientation(t[2], t[0], p);
     let held = (ab.low <= ab.high) & (bc.low <= bc.high) & (ca.low <= ca.high);
-    position_by(held, ab.low == ab.high, bc.low == bc.high, ca.low == ca.high)
+    position_by(
+        held,
+        ab.low == ab.high,
+        bc.low == bc.high,
+        ca.low == ca.high,
+    )
 }
 
 // The triangle holds the point: it is not outside.

@@ -41,7 +41,11 @@ pub extern "C" fn jird_locate(
     let number = base_answers::located_number(located);
     let triangle = base_answers::located_triangle(located) as u32;
     let position = base_positions::position_number(base_answers::located_position(located)) as u32;
-    JirdLocated { number, triangle, position }
+    JirdLocated {
+        number,
+        triangle,
+        position,
+    }
 }
 
 // Overlay of the first chart and the second.

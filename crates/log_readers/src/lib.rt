@@ -70,7 +70,11 @@ fn put_located(located: Located, out: &mut [u8], at: usize) -> usize
     let triangle = numbers::wide(base_answers::located_triangle(located));
     if base_answers::is_found(located) {
         let q = base_answers::located_position(located);
-        let others = [number, triangle, numbers::wide(base_positions::position_number(q))];
+        let others = [
+            number,
+            triangle,
+            numbers::wide(base_positions::position_number(q)),
+        ];
         return put_line(6, &others, out, at);
     }
     let others = [number, triangle];
