@@ -3,8 +3,8 @@
 
 usage: watch.py [PICTURES]      how many pictures of each kind, if not 40
 
-The bed is examples/outer-harbour.csv, the design the same made smaller; the head goes round. Each position is given when the picture of
-the one before has come, so none is passed over; the time is from the first position to the last picture, waiting for positions
+The bed is examples/outer-harbour.csv, the design the same made smaller; the head goes round. Each point is given when the picture of
+the one before has come, so none is passed over; the time is from the first point to the last picture, waiting for points
 included. It fails when target/bin/helm-display is not built (make display), or draws nothing."""
 
 import math

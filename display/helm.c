@@ -61,14 +61,14 @@ static bool plan_of_helm(page *p, box area) {
     return plan_ready(p, area, grown(extent, fmax(0.5, 0.03 * fmax(extent.right - extent.left, extent.bottom - extent.top))), true);
 }
 
-static double paint_position(const page *p, box at, double y) {
+static double paint_coordinates(const page *p, box at, double y) {
     char number[32];
     double u = p->style.unit;
     letter head = { 14 * u, false, false, p->ink->grey }, large = { 36 * u, true, false, p->ink->text };
     text_at(p, at.left, y + 14 * u, 0, "Cutter head", head);
     if (!p->s->has_head) {
         letter none = { 22 * u, true, false, p->ink->warning };
-        text_fitted(p, at.left, y + 42 * u, 0, at.right - at.left, "no position is known", none);
+        text_fitted(p, at.left, y + 42 * u, 0, at.right - at.left, "no point is known", none);
         return y + 56 * u;
     }
     double x = text_at(p, at.left, y + 49 * u, 0, "x ", head);
@@ -149,7 +149,7 @@ static void paint_panel(page *p, box at) {
         whole.left = (at.left + at.right) / 2 + 20 * u;
         words.right = whole.left - 20 * u;
     }
-    y = paint_position(p, words, y + 26 * u);
+    y = paint_coordinates(p, words, y + 26 * u);
     for (int chart = 0; chart < CHARTS; chart++) y = paint_found(p, words, y, chart);
     y = paint_partners(p, words, y) + 8 * u;
     whole.top = upright(p) ? at.top + 26 * u : y;

@@ -1,4 +1,4 @@
-/* numbers.h: numbers and texts as they are written in options and positions. */
+/* numbers.h: numbers and texts as they are written in options and points. */
 #ifndef NUMBERS_H
 #define NUMBERS_H
 #include <stdbool.h>

@@ -172,7 +172,7 @@ static int settle_uses(const options *o) {
     bool to_output = o->output && strcmp(o->output, "-") == 0;
     if (!o->output && !o->report) return wrong("nothing to do", "give -o PICTURE, or --report");
     if (to_output && o->report) return wrong("-o - and --report", "both go to standard output; give the picture a name");
-    if (o->watch && !o->input) return wrong("--watch", "reads positions from standard input, so the charts come from a FILE");
+    if (o->watch && !o->input) return wrong("--watch", "reads points from standard input, so the charts come from a FILE");
     if (o->watch && (!o->output || to_output)) return wrong("--watch", "draws to a file: give -o PICTURE");
     return WELL;
 }

@@ -11,7 +11,7 @@ typedef struct {
     uint32_t refused[CHARTS];           /* the number of the last load or edit of the chart, 0 if it was accepted */
     jird_overlaid overlay;              /* of the bed and the design */
     uint16_t pairs[JIRD_PAIRS_LENGTH];
-    bool has_head;                      /* whether a position of the cutter head is known */
+    bool has_head;                      /* whether the point of the cutter head is known */
     uint16_t head_x, head_y;
     jird_located found[CHARTS];         /* under the head */
     const char *title, *id;             /* never null */

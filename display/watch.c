@@ -1,4 +1,4 @@
-/* watch.c: draws the picture anew for each position of the cutter head. */
+/* watch.c: draws the picture anew for each point of the cutter head. */
 #define _POSIX_C_SOURCE 200809L
 #include "watch.h"
 #include "numbers.h"
@@ -19,9 +19,9 @@ enum { MOST_LINE = 256, MOST_TOLD = 20, PORTION = 1 << 16, MOST_WAITING = 1 << 2
 typedef struct {
     char line[MOST_LINE + 1];
     size_t length;                      /* of the line so far; above MOST_LINE it is too long */
-    bool fresh;                         /* whether a position waits to be drawn, */
+    bool fresh;                         /* whether a point waits to be drawn, */
     long x, y;                          /* and which */
-    unsigned long lines, positions, passed_over, no_positions, pictures;
+    unsigned long lines, points, passed_over, no_points, pictures;
     double drawing, told;               /* seconds spent drawing, and when it was last told how far it is */
 } watching;
 
@@ -35,10 +35,10 @@ static double seconds(void) {
     return (double)now.tv_sec + 1e-9 * (double)now.tv_nsec;
 }
 
-/* ---- positions */
+/* ---- points */
 
 /* Two numbers with blanks or a comma between them, and blanks around. */
-static bool read_position(char *line, long at[2]) {
+static bool read_point(char *line, long at[2]) {
     char *start = line + strspn(line, " \t"), *end = start + strlen(start);
     while (end > start && strchr(" \t\r", end[-1])) *--end = 0;
     char *gap = start + strspn(start, "0123456789");
@@ -56,14 +56,14 @@ static void end_line(watching *w) {
     w->line[whole ? w->length : 0] = 0;
     w->length = 0;
     w->lines++;
-    if (whole && read_position(w->line, at)) {
-        w->positions++;
+    if (whole && read_point(w->line, at)) {
+        w->points++;
         w->passed_over += w->fresh;
         w->fresh = true;
         w->x = at[0];
         w->y = at[1];
-    } else if (w->no_positions++ < MOST_TOLD) {
-        say("line %lu is no position: two numbers are wanted, each 0 to 65535, as `x y` or `x,y`; it is passed over", w->lines);
+    } else if (w->no_points++ < MOST_TOLD) {
+        say("line %lu is no point: two numbers are wanted, each 0 to 65535, as `x y` or `x,y`; it is passed over", w->lines);
     }
 }
 
@@ -90,7 +90,7 @@ static bool take_input(watching *w, int *status) {
         ssize_t length = ready < 0 ? -1 : read(STDIN_FILENO, portion, sizeof portion);
         if (length < 0 && errno == EINTR) continue;
         if (length < 0) {
-            say("error: cannot read positions from standard input: %s", strerror(errno));
+            say("error: cannot read points from standard input: %s", strerror(errno));
             *status = FAILED;
         }
         if (length <= 0) {
@@ -117,14 +117,14 @@ static void tell_progress(watching *w, const scene *s) {
 
 static void tell_tally(const watching *w) {
     if (w->pictures && isatty(STDERR_FILENO)) fputc('\n', stderr);
-    say("%lu positions read, %lu drawn, %lu passed over for newer ones, %lu lines were no position", w->positions, w->pictures,
-        w->passed_over + w->fresh, w->no_positions);
+    say("%lu points read, %lu drawn, %lu passed over for newer ones, %lu lines were no point", w->points, w->pictures,
+        w->passed_over + w->fresh, w->no_points);
     if (w->pictures && w->drawing > 0) say("%.1f pictures a second while drawing", (double)w->pictures / w->drawing);
 }
 
 /* ---- drawing */
 
-static int draw_position(const options *o, scene *s, drawn *d, watching *w) {
+static int draw_point(const options *o, scene *s, drawn *d, watching *w) {
     double start = seconds();
     set_head(s, (uint16_t)w->x, (uint16_t)w->y);
     int status = write_picture(s, &o->view, o->output, d);
@@ -145,7 +145,7 @@ int watch(const options *o, scene *s, drawn *d) {
     int status = write_picture(s, &o->view, o->output, d);
     for (bool more = true; more && !status && !stopped;) {
         more = take_input(&w, &status);
-        if (w.fresh && !stopped) status = higher(status, draw_position(o, s, d, &w));
+        if (w.fresh && !stopped) status = higher(status, draw_point(o, s, d, &w));
     }
     tell_tally(&w);
     return stopped ? 128 + (int)stopped : status;

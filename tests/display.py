@@ -12,7 +12,7 @@ streams, streams that the reference model draws from a fixed seed, the example p
     or the side or corner on which it sits is not the one that stands out; colours are too close to each other (tests/ink.py);
   - the same input gives other bytes of PDF or SVG, or the picture of the README is not what the display draws: blocks of 8 by 8
     pixels are compared by their mean colour, so that another version of the font or of cairo does not matter, and a line elsewhere does;
-  - --watch draws another picture than --head of the same position, or not the newest, or leaves half a picture or a part of one;
+  - --watch draws another picture than --head of the same point, or not the newest, or leaves half a picture or a part of one;
   - an option, an error or a missing package has another status or message than is said;
   - the installed display does not find what it needs, or is left after make uninstall."""
 
@@ -699,21 +699,21 @@ def test_watch(folder):
         run(BASIN, *SMALL, "-o", alone, "--head", f"{x},{y}")
         same(f"--watch and --head at {x},{y}", shown == read(alone), True)
         png.decoded(shown)
-        count("positions watched")
+        count("points watched")
     out, said = process.communicate(b"nonsense\n1 2 3\n9999999 1\n\n 7 , 8 \r\n5000\t6000", timeout=WAIT)
-    same("the head of the last position", json.loads(out)["head"], [5000, 6000])
-    same("lines that are no position", re.findall(rb"line (\d+) is no position", said), [b"5", b"6", b"7", b"8"])
-    tally = re.search(rb"(\d+) positions read, (\d+) drawn, (\d+) passed over for newer ones, (\d+) lines were no position", said)
-    positions, drawn, passed, others = map(int, tally.groups()) if tally else 4 * [None]
+    same("the head of the last point", json.loads(out)["head"], [5000, 6000])
+    same("lines that are no point", re.findall(rb"line (\d+) is no point", said), [b"5", b"6", b"7", b"8"])
+    tally = re.search(rb"(\d+) points read, (\d+) drawn, (\d+) passed over for newer ones, (\d+) lines were no point", said)
+    points, drawn, passed, others = map(int, tally.groups()) if tally else 4 * [None]
     # whether the last but one is drawn hangs on when the pipe is closed
-    same("tally", (process.returncode, positions, others, [drawn, passed] in ([6, 0], [5, 1])), (0, 6, 4, True))
+    same("tally", (process.returncode, points, others, [drawn, passed] in ([6, 0], [5, 1])), (0, 6, 4, True))
     newest(folder)
     interrupted(folder)
     same("left beside the picture", [n for n in os.listdir(folder) if n.startswith("watch.png.")], [])
 
 
 def newest(folder):
-    """Of positions that wait only the newest is drawn."""
+    """Of points that wait only the newest is drawn."""
     place = os.path.join(folder, "watch.png")
     lines = "".join(f"{k},{2 * k}\n" for k in range(1000)).encode()
     with tempfile.TemporaryFile() as f:
@@ -723,10 +723,10 @@ def newest(folder):
         done = subprocess.run(words, stdin=f, capture_output=True, env=environment(), timeout=WAIT)
     report = json.loads(done.stdout)
     same("the newest", (report["head"], done.returncode), ([12, 34], 1))
-    told = b"1001 positions read, 1 drawn, 1000 passed over for newer ones, 1 lines were no position"
+    told = b"1001 points read, 1 drawn, 1000 passed over for newer ones, 1 lines were no point"
     same("tally of the newest", told in done.stderr, True)
     empty = run("--watch", STREAM, *SMALL, "-o", place)
-    same("no positions", (b"0 positions read, 0 drawn" in empty.stderr, empty.returncode), (True, 1))
+    same("no points", (b"0 points read, 0 drawn" in empty.stderr, empty.returncode), (True, 1))
     broken = run("--watch", STREAM, *SMALL, "-o", os.path.join(folder, "none", "x.png"), given=b"1 2\n")
     same("--watch without a place to draw", broken.returncode, 4)
 
@@ -741,7 +741,7 @@ def interrupted(folder):
         time.sleep(0.01)
     process.send_signal(signal.SIGINT)
     said = process.stderr.read()
-    same("Ctrl-C", (process.wait(WAIT), b"0 positions read" in said), (130, True))
+    same("Ctrl-C", (process.wait(WAIT), b"0 points read" in said), (130, True))
     process.stdin.close()
     process.stderr.close()
 
