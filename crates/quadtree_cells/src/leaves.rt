@@ -6,9 +6,10 @@ ghost use mathlib.Core.List.{map};
 ghost use Prim.Native.Nat.{_+_, _-_, _≤_, _<_, max};
 ghost use lib.ListN.{length};
 ghost use lib.Seq.{sets};
-ghost use Rattle.spec_charts.specs.Cells.{orMark, maxEntries};
+ghost use Rattle.spec_charts.specs.Cells.{maxEntries};
 ghost use Rattle.theory_lists.specs.Lists.{part};
 ghost use Rattle.base_entries.specs.Packed.{maxHead};
+ghost use Rattle.quadtree_cells.specs.Leaf.{cellItems, EntriesPut};
 
 // One entry for each candidate from `from` up to `to`.
 fn put_candidates(stack: &[u16], from: usize, to: usize, head: u64, out: &mut [u64], at: usize)
@@ -24,9 +25,8 @@ fn put_candidates(stack: &[u16], from: usize, to: usize, head: u64, out: &mut [u
 
 // The entries of a cell: one for each candidate, or the mark where there is none.
 fn put_cell(stack: &[u16], from: usize, to: usize, head: u64, out: &mut [u64], at: usize) -> usize
-    requires { ⌜ ((from ≤ to) × (to ≤ length (now stack))) × ((at + length (orMark (part from to (now stack))) ≤ length (now out)) × (head ≤ maxHead)) ⌝ }
-    ensures { λ r. ⌜ now (out .exit) ≡ sets (now (out .entry)) at (map (λ i. head + i) (orMark (part from to (now (stack .entry))))) ⌝ }
-    ensures { λ r. ⌜ r ≡ at + length (orMark (part from to (now (stack .entry)))) ⌝ }
+    requires { ⌜ ((from ≤ to) × (to ≤ length (now stack))) × ((at + length (cellItems from to (now stack)) ≤ length (now out)) × (head ≤ maxHead)) ⌝ }
+    ensures { λ r. ⌜ EntriesPut (cellItems from to (now (stack .entry))) head at r (now (out .entry)) (now (out .exit)) ⌝ }
 {
     if from == to {
         out[at] = base_entries::marked(head);
@@ -58,8 +58,8 @@ pub fn put_leaf(
     most: usize,
 ) -> usize
     requires { ⌜ ((from ≤ to) × (to ≤ length (now stack))) × ((most ≤ length (now out)) × ((at ≤ most) × ((head ≤ maxHead) × (most ≤ maxEntries)))) ⌝ }
-    ensures { λ r. ⌜ (at + length (orMark (part from to (now (stack .entry)))) ≤ most → (r ≡ at + length (orMark (part from to (now (stack .entry))))) × (now (out .exit) ≡ sets (now (out .entry)) at (map (λ i. head + i) (orMark (part from to (now (stack .entry))))))) ⌝ }
-    ensures { λ r. ⌜ (most < at + length (orMark (part from to (now (stack .entry)))) → r ≡ most + 1) ⌝ }
+    ensures { λ r. ⌜ (at + length (cellItems from to (now (stack .entry))) ≤ most → EntriesPut (cellItems from to (now (stack .entry))) head at r (now (out .entry)) (now (out .exit))) ⌝ }
+    ensures { λ r. ⌜ (most < at + length (cellItems from to (now (stack .entry))) → r ≡ most + 1) ⌝ }
 {
     if most - at < entry_count(from, to) {
         return most + 1;

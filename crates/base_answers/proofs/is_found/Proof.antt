@@ -1,15 +1,7 @@
+-- A triangle, nowhere, or a refusal.
 use borrow.Author.Needs.{needs}
 use Rattle.base_answers.proofs.is_found.Statement.{statement}
 use Rattle.base_answers.proofs.is_found.Tie as tie
 
-returns : tie.Need-returns
-returns c = search needs
-
-returns-2 : tie.Need-returns-2
-returns-2 c = search needs
-
-returns-3 : tie.Need-returns-3
-returns-3 c = search needs
-
 pub is-found-spec : {M : Type 1} → statement M
-is-found-spec = tie.close (tie.spec (λ c. search needs) (λ c. search needs) (λ c. search needs) returns returns-2 returns-3)
+is-found-spec = tie.close (tie.spec (λ c. search needs) (λ c. search needs) (λ c. search needs) (λ c. search needs) (λ c. search needs) (λ c. search needs))

@@ -1,5 +1,5 @@
 -- Each answer is the row of `positionOf` that the tests on the way to it choose.
-use mathlib.Core.Path.{_≡_, refl, sym}
+use mathlib.Core.Path.{_≡_, refl}
 use mathlib.Core.Bool.{Bool, true, false}
 use borrow.Author.Needs.{needs}
 use borrow.Author.Tests.{not-true, not-false}
@@ -14,72 +14,65 @@ unfolding positionOf
 corner-a false = refl
 corner-a true = refl
 
--- the triangle holds the point
-held : (c : tie.Else1) →
-    let top : tie.Start = search needs in
-    top .args .held ≡ true
-held c = not-false _ (c .if1 .left)
+-- held, and D is zero for ab
+on-ab : (c : tie.Then2) → let top : tie.Start = search needs in (top .args .held ≡ true) × (top .args .ab ≡ true)
+on-ab c = let e : tie.Else1 = search needs in (not-false _ (e .if1 .left), c .if2 .taken)
+
+-- held, and D is above zero for ab
+off-ab : (c : tie.Else2) → let top : tie.Start = search needs in (top .args .held ≡ true) × (top .args .ab ≡ false)
+off-ab c = let e : tie.Else1 = search needs in (not-false _ (e .if1 .left), c .if2 .left)
 
 returns : tie.Need-returns
 unfolding positionOf
-returns c =
-    let top : tie.Start = search needs in
-    rw (not-true (top .args .held) (c .if1 .taken))
+returns c = let top : tie.Start = search needs in rw (not-true (top .args .held) (c .if1 .taken))
 
 returns-2 : tie.Need-returns-2
 returns-2 c =
     let ab : tie.Then2 = search needs in
-    let e : tie.Else1 = search needs in
     let top : tie.Start = search needs in
-    rw (held e, ab .if2 .taken, c .if3 .taken) (corner-a (top .args .bc))
+    rw (on-ab ab .0, on-ab ab .1, c .if3 .taken) (corner-a (top .args .bc))
 
 returns-3 : tie.Need-returns-3
 unfolding positionOf
 returns-3 c =
     let ca : tie.Else3 = search needs in
     let ab : tie.Then2 = search needs in
-    let e : tie.Else1 = search needs in
-    rw (held e, ab .if2 .taken, ca .if3 .left, c .if4 .taken)
+    rw (on-ab ab .0, on-ab ab .1, ca .if3 .left, c .if4 .taken)
 
 returns-4 : tie.Need-returns-4
 unfolding positionOf
 returns-4 c =
     let ca : tie.Else3 = search needs in
     let ab : tie.Then2 = search needs in
-    let e : tie.Else1 = search needs in
-    rw (held e, ab .if2 .taken, ca .if3 .left, c .if4 .left)
+    rw (on-ab ab .0, on-ab ab .1, ca .if3 .left, c .if4 .left)
 
 returns-5 : tie.Need-returns-5
 unfolding positionOf
 returns-5 c =
     let bc : tie.Then5 = search needs in
     let ab : tie.Else2 = search needs in
-    let e : tie.Else1 = search needs in
-    rw (held e, ab .if2 .left, bc .if5 .taken, c .if6 .taken)
+    rw (off-ab ab .0, off-ab ab .1, bc .if5 .taken, c .if6 .taken)
 
 returns-6 : tie.Need-returns-6
 unfolding positionOf
 returns-6 c =
     let bc : tie.Then5 = search needs in
     let ab : tie.Else2 = search needs in
-    let e : tie.Else1 = search needs in
-    rw (held e, ab .if2 .left, bc .if5 .taken, c .if6 .left)
+    rw (off-ab ab .0, off-ab ab .1, bc .if5 .taken, c .if6 .left)
 
 returns-7 : tie.Need-returns-7
 unfolding positionOf
 returns-7 c =
     let bc : tie.Else5 = search needs in
     let ab : tie.Else2 = search needs in
-    let e : tie.Else1 = search needs in
-    rw (held e, ab .if2 .left, bc .if5 .left, c .if7 .taken)
+    rw (off-ab ab .0, off-ab ab .1, bc .if5 .left, c .if7 .taken)
 
 returns-8 : tie.Need-returns-8
 unfolding positionOf
 returns-8 c =
     let bc : tie.Else5 = search needs in
     let ab : tie.Else2 = search needs in
-    let e : tie.Else1 = search needs in
-    rw (held e, ab .if2 .left, bc .if5 .left, c .if7 .left)
+    rw (off-ab ab .0, off-ab ab .1, bc .if5 .left, c .if7 .left)
 
 pub position-by-spec : {M : Type 1} → statement M
 position-by-spec = tie.close (tie.spec returns returns-2 returns-3 returns-4 returns-5 returns-6 returns-7 returns-8)

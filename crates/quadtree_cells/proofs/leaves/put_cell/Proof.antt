@@ -3,14 +3,13 @@ use Prim.Native.Nat.{_-_, _<_, max}
 use native.Mathlib.Omega.{arith}
 use borrow.Author.Needs.{needs}
 use lib.ListN.{length, set}
-use Rattle.spec_charts.specs.Cells.{orMark}
-use Rattle.theory_lists.specs.Lists.{part}
+use Rattle.quadtree_cells.specs.Leaf.{cellItems}
 use Rattle.quadtree_cells.proofs.LeafLaws.{cell-length, cell-empty, cell-items}
 use Rattle.quadtree_cells.proofs.leaves.put_cell.Statement.{statement}
 use Rattle.quadtree_cells.proofs.leaves.put_cell.Tie as tie
 
 -- how many entries the cell has
-count : (top : tie.Start) → let a = top .args in length (orMark (part (a .from) (a .to) (a .stack .now))) ≡ max 1 (a .to - a .from)
+count : (top : tie.Start) → let a = top .args in length (cellItems (a .from) (a .to) (a .stack .now)) ≡ max 1 (a .to - a .from)
 count top = let a = top .args in cell-length (a .from) (a .to) (a .stack .now) (search needs)
 
 slice-write-out : tie.Need-slice-write-out
@@ -25,7 +24,7 @@ returns c =
     let top : tie.Start = search needs in
     let a = top .args in
     let m = cell-empty (a .from) (a .to) (a .stack .now) (search needs) (then1 .if1 .taken) in
-    (rw m (ap (set (a .out .now) (a .at)) (marked .marked .ensures)), rw m refl)
+    (rw m refl, rw m (ap (set (a .out .now) (a .at)) (marked .marked .ensures)))
 
 put-candidates-requires : tie.Need-put-candidates-requires
 put-candidates-requires c κs =
@@ -38,7 +37,7 @@ returns-2 c =
     let top : tie.Start = search needs in
     let a = top .args in
     let some : a .from < a .to = omega arith in
-    (rw (cell-items (a .from) (a .to) (a .stack .now) (search needs) some) (put-candidates .put-candidates .ensures), omega (arith, count top))
+    (omega (arith, count top), rw (cell-items (a .from) (a .to) (a .stack .now) (search needs) some) (put-candidates .put-candidates .ensures))
 
 pub put-cell-spec : {M : Type 1} → statement M
 put-cell-spec =

@@ -3,14 +3,13 @@ use Prim.Native.Nat.{_-_, max}
 use native.Mathlib.Omega.{arith}
 use borrow.Author.Needs.{needs}
 use lib.ListN.{length}
-use Rattle.spec_charts.specs.Cells.{orMark}
-use Rattle.theory_lists.specs.Lists.{part}
+use Rattle.quadtree_cells.specs.Leaf.{cellItems}
 use Rattle.quadtree_cells.proofs.LeafLaws.{cell-length}
 use Rattle.quadtree_cells.proofs.leaves.put_leaf.Statement.{statement}
 use Rattle.quadtree_cells.proofs.leaves.put_leaf.Tie as tie
 
 -- how many entries the cell has
-count : (top : tie.Start) → let a = top .args in length (orMark (part (a .from) (a .to) (a .stack .now))) ≡ max 1 (a .to - a .from)
+count : (top : tie.Start) → let a = top .args in length (cellItems (a .from) (a .to) (a .stack .now)) ≡ max 1 (a .to - a .from)
 count top = let a = top .args in cell-length (a .from) (a .to) (a .stack .now) (search needs)
 
 returns : tie.Need-returns
@@ -30,7 +29,7 @@ returns-2 c =
     let put-cell : tie.After-put-cell = search needs in
     let entry-count : tie.After-entry-count = search needs in
     let top : tie.Start = search needs in
-    (λ h. (put-cell .put-cell .ensures .1, put-cell .put-cell .ensures .0), λ h. absurd (omega (arith, count top, entry-count .entry-count .ensures)))
+    (λ h. put-cell .put-cell .ensures, λ h. absurd (omega (arith, count top, entry-count .entry-count .ensures)))
 
 pub put-leaf-spec : {M : Type 1} → statement M
 put-leaf-spec =
