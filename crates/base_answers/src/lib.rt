@@ -48,7 +48,7 @@ pub struct Overlaid {
     pub meetings: usize,
 }
 
-// The number of a refusal in document 01's table.
+// The number of a refusal in document 01's table, or document 02's.
 pub fn refusal_number(r: Refusal) -> u32
     ensures { λ n. ⌜ n ≡ rowOf r .number ⌝ }
 {
@@ -65,6 +65,7 @@ pub fn refusal_number(r: Refusal) -> u32
         Refusal::TableFull => 10,
         Refusal::TooManyEntries => 11,
         Refusal::TooManyPairs => 12,
+        Refusal::NotOnSide => 13,
     }
 }
 
@@ -85,6 +86,7 @@ pub fn refusal_value(r: Refusal) -> usize
         Refusal::TableFull => 0,
         Refusal::TooManyEntries => 0,
         Refusal::TooManyPairs => 0,
+        Refusal::NotOnSide => 0,
     }
 }
 

@@ -9,7 +9,7 @@ use Prim.Native.Nat.{ℕ}
 use Rattle.spec_charts.specs.Table.{Table}
 use Rattle.spec_charts.specs.declared.Refusal.{Refusal}
 use Rattle.spec_charts.specs.Refusals.{refused, done, refuseIf, andThen, outcomeNumber, outcomeValue}
-use Rattle.spec_charts.specs.Edits.{Event, load, split, takeOut, flip, eventOn, afterEvent}
+use Rattle.spec_charts.specs.Edits.{Event, load, split, takeOut, flip, sideSplit, eventOn, afterEvent}
 use Rattle.spec_calls.specs.Buffers.{Chart, tooShort, chartTable, indexedChart}
 use Rattle.spec_calls.specs.Calls.{changedBy, ifLong, ifIndexed, loadCall, editCall}
 use Rattle.spec_calls.specs.History.{eventCall}
@@ -53,6 +53,7 @@ module _ (c : Chart) (s : tooShort c ≡ false) (t : Table) (h : Indexable t) wh
   event-call (split i p) = edit-call (split i p)
   event-call (takeOut p) = edit-call (takeOut p)
   event-call (flip i j) = edit-call (flip i j)
+  event-call (sideSplit i p) = edit-call (sideSplit i p)
 
   module _ (e : Event) where
     -- it leaves the chart of the table after the event

@@ -17,13 +17,14 @@ use Rattle.spec_plane.specs.Triangle.{Triangle, proper, doubledArea}
 use Rattle.spec_charts.specs.Table.{Table, IsTable, numbered, noTriangle}
 use Rattle.spec_charts.specs.Reading.{totalArea}
 use Rattle.spec_charts.specs.Refusals.{done}
-use Rattle.spec_charts.specs.Edits.{Event, load, split, takeOut, flip, triangle, rotations, splitAt, splitTable, takeOutTable, flipTable, proposed, eventOn}
+use Rattle.spec_charts.specs.Edits.{Event, load, split, takeOut, flip, sideSplit, triangle, rotations, splitAt, splitTable, takeOutTable, flipTable, sideSplitTable, proposed, eventOn}
 use Rattle.laws_charts.proofs.TableLaws.{numbered-proper}
 use Rattle.laws_charts.proofs.TriangleLaws.{named, inside-parts, area-around, area-across}
 use Rattle.laws_charts.proofs.RotationLaws.{rotations-area, rotations-proper, rotations-apart}
 use Rattle.laws_charts.proofs.GridLaws.{table-proper}
 use Rattle.laws_charts.proofs.EditLaws.{split-done, mergedTriangle, takeOut-done}
 use Rattle.laws_charts.proofs.FlipLaws.{Flipped, flip-done}
+use Rattle.laws_charts.proofs.SideSplitLaws.{sideSplit-done, sideSplit-kept}
 use Rattle.laws_charts.proofs.MergeLaws.{taken-sum, merge-sum}
 use Rattle.laws_charts.proofs.EventTable.{event-proposed}
 
@@ -91,6 +92,11 @@ flip-area i j table next good e =
     rw (s .is)
     (omega (arith, sumOf-two (λ t. doubledArea t) table i j x y noTriangle (flip-differ s good) (s .belowI) (s .belowJ), flip-both s good))
 
+-- a side split keeps the sum of the doubled areas
+pub sideSplit-area : (i : ℕ) (p : Point) (table next : Table) → Every (λ t. T (proper t)) table → sideSplitTable i p table ≡ done next
+    → totalArea next ≡ totalArea table
+sideSplit-area i p table next good e = sideSplit-kept (sideSplit-done i p table next e) good
+
 -- so does each event that is no load, in the table that it proposes
 pub edit-area : (e : Event) (table next : Table) → ((ns : List ℕ) → e ≡ load ns → ⊥) → IsTable table → proposed e table ≡ done next
     → totalArea next ≡ totalArea table
@@ -99,6 +105,7 @@ edit-area (load ns) table next n h d = absurd (n ns refl)
 edit-area (split t p) table next n h d = split-area t p table next d
 edit-area (takeOut p) table next n h d = takeOut-area p table next (table-proper h) d
 edit-area (flip i j) table next n h d = flip-area i j table next (table-proper h) d
+edit-area (sideSplit i p) table next n h d = sideSplit-area i p table next (table-proper h) d
 
 -- and in the table that it leaves, where it is accepted
 pub event-area : (e : Event) (table next : Table) → ((ns : List ℕ) → e ≡ load ns → ⊥) → IsTable table → eventOn e table ≡ done next

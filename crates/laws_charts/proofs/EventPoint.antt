@@ -1,5 +1,5 @@
--- A split or take-out that is accepted has its point on the grid: one at another point changes nothing.
--- The idea: a point at which a triangle is split lies inside it, and one that is taken out is a corner.
+-- A split, side split or take-out that is accepted has its point on the grid: one at another point changes nothing.
+-- The idea: a triangle holds the point at which it or its side is split, and one that is taken out is a corner.
 -- Assumes nothing.
 use mathlib.Core.Path.{_≡_, refl, subst}
 use Prim.Native.Nat.{ℕ, _<_}
@@ -11,18 +11,20 @@ use Rattle.spec_plane.specs.Triangle.{Triangle}
 use Rattle.spec_plane.proofs.ExtremeLaws.{OnGrid, CornersOnGrid}
 use Rattle.spec_charts.specs.Table.{Table, IsTable, numbered, noTriangle}
 use Rattle.spec_charts.specs.Refusals.{Outcome, refused, done, doneOr}
-use Rattle.spec_charts.specs.Edits.{Event, load, split, takeOut, flip, triangle, hasCorner, endingIn, proposed, eventOn, afterEvent}
+use Rattle.spec_charts.specs.Edits.{Event, load, split, takeOut, flip, sideSplit, triangle, hasCorner, endingIn, proposed, eventOn, afterEvent}
 use Rattle.laws_charts.proofs.RotationLaws.{rotations-every, endingIn-rotation}
-use Rattle.laws_charts.proofs.GridLaws.{IsTriangle, table-triangles, inside-grid}
+use Rattle.laws_charts.proofs.GridLaws.{IsTriangle, table-triangles, held-grid, inside-grid}
 use Rattle.laws_charts.proofs.EditLaws.{split-done, takeOut-done}
+use Rattle.laws_charts.proofs.SideSplitLaws.{side-held, sideSplit-done}
 use Rattle.laws_charts.proofs.EventTable.{event-proposed}
 
--- the point of a split or take-out is on the grid
+-- the point of a split, side split or take-out is on the grid
 abbrev pub PointOnGrid : Event → Type 0
 PointOnGrid (load ns) = Unit {0}
 PointOnGrid (split t p) = OnGrid p
 PointOnGrid (takeOut p) = OnGrid p
 PointOnGrid (flip i j) = Unit {0}
+PointOnGrid (sideSplit t p) = OnGrid p
 
 -- a corner of a triangle on the grid is on the grid
 corner-grid : (p : Point) (t : Triangle) → IsTriangle t → T (hasCorner p t) → OnGrid p
@@ -45,6 +47,8 @@ module _ {table : Table} (h : IsTable table) where
   proposed-point (takeOut p) next d =
       let s = takeOut-done p table next d in corner-grid p (numbered table (s .k)) (at (s .k) (s .below)) (s .cornerK)
   proposed-point (flip i j) next d = tt
+  proposed-point (sideSplit i p) next d =
+      let s = sideSplit-done i p table next d in held-grid (numbered table i) p (at i (s .below)) (side-held (numbered table i) p (s .found))
 
   -- an accepted event has its point on the grid
   pub event-point : (e : Event) (next : Table) → eventOn e table ≡ done next → PointOnGrid e

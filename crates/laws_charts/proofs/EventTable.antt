@@ -1,7 +1,7 @@
 -- An accepted event leaves a table of document 01: at most 512 triangles, each with D > 0 and of 16-bit numbers. So the plain
 -- table is one after any list of events.
--- The idea: the parts of a split and of a flip are tested, three triangles around a point make one with their areas' sum, and
--- no edit makes a coordinate, but for a split's point, which is inside a triangle.
+-- The idea: the parts of a split and of a flip are tested, three triangles around a point make one with their areas' sum, a point on a
+-- side makes two with shares of D, and no edit makes a coordinate, but for the point of a split or side split, which a triangle holds.
 -- Assumes nothing.
 use mathlib.Core.Path.{_≡_, refl, subst}
 use mathlib.Core.List.{List, [], _∷_}
@@ -20,16 +20,17 @@ use Rattle.spec_plane.specs.Triangle.{Triangle, proper}
 use Rattle.spec_plane.proofs.ExtremeLaws.{OnGrid}
 use Rattle.spec_charts.specs.Table.{Table, IsTable, numbered, noTriangle}
 use Rattle.spec_charts.specs.Refusals.{Outcome, refused, done, andThen, doneOr}
-use Rattle.spec_charts.specs.Edits.{Event, load, split, takeOut, flip, triangle, rotations, hasCorner, splitAt, endingIn, sixteenBitEvent, proposed, counted, eventOn, afterEvent, afterEvents, plainTable}
+use Rattle.spec_charts.specs.Edits.{Event, load, split, takeOut, flip, sideSplit, triangle, rotations, hasCorner, splitAt, endingIn, sixteenBitEvent, proposed, counted, eventOn, afterEvent, afterEvents, plainTable}
 use Rattle.laws_charts.proofs.TriangleLaws.{proper-rotate, inside-parts}
 use Rattle.laws_charts.proofs.RotationLaws.{rotations-every, endingIn-rotation}
 use Rattle.laws_charts.proofs.LoadTable.{load-table}
 use Rattle.laws_charts.proofs.MergeLaws.{taken-sum, merge-length, merge-every}
-use Rattle.laws_charts.proofs.GridLaws.{IsTriangle, table-proper, table-triangles, triangles-table, inside-grid}
+use Rattle.laws_charts.proofs.GridLaws.{IsTriangle, table-proper, table-triangles, triangles-table, held-grid, inside-grid}
 use Rattle.laws_charts.proofs.OutcomeLaws.{refused-done}
 use Rattle.laws_charts.proofs.CountedLaws.{counted-done}
 use Rattle.laws_charts.proofs.EditLaws.{Split, split-done, mergedTriangle, TakenOut, takeOut-done}
 use Rattle.laws_charts.proofs.FlipLaws.{Flipped, flip-done}
+use Rattle.laws_charts.proofs.SideSplitLaws.{SideSplit, side-held, sideSplit-done, sideSplit-every, sideSplit-parts}
 
 -- ---- triangles that edits make
 
@@ -90,6 +91,14 @@ module _ {table : Table} (h : IsTable table) where
       (every-set (set table i _) j (every-set table i good (made _ _ _ (s .properI) (t .a) (u .c) (t .c)))
       (made _ _ _ (s .properJ) (u .c) (t .b) (t .c))))
 
+  sideSplit-table : {next : Table} (i : ℕ) (p : Point) → SideSplit i p table next → IsTable next
+  sideSplit-table i p s =
+      let on = held-grid (numbered table i) p (at i (s .below)) (side-held (numbered table i) p (s .found)) in
+      triangles-table (s .few) (sideSplit-every s (table-proper h) good (λ j b r f.
+      let g = rotation (numbered table j) (at j b) r (f .rotation) in
+      let d = sideSplit-parts s (table-proper h) j b f in
+      (made _ p _ (d .first) (g .a) on (g .c), made p _ _ (d .second) on (g .b) (g .c))))
+
 -- ---- events
 
 -- the table that an event makes, before its entries are counted, is a table
@@ -99,6 +108,7 @@ proposed-table (load ns) table next w h e = load-table ns next w e
 proposed-table (split t p) table next w h e = split-table h t p (split-done t p table next e)
 proposed-table (takeOut p) table next w h e = takeOut-table h p (takeOut-done p table next e)
 proposed-table (flip i j) table next w h e = flip-table h i j (flip-done i j table next e)
+proposed-table (sideSplit i p) table next w h e = sideSplit-table h i p (sideSplit-done i p table next e)
 
 -- the table that an accepted event leaves is the one proposed
 pub event-proposed : (e : Event) (table next : Table) → eventOn e table ≡ done next → proposed e table ≡ done next

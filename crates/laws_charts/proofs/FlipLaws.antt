@@ -14,12 +14,12 @@ use Rattle.theory_lists.specs.Lists.{first}
 use Rattle.theory_lists.proofs.Reflects.{reflects-test, reflects-and, reflects-or, reflects-leb}
 use Rattle.theory_lists.proofs.EditedLists.{first-found}
 use Rattle.spec_plane.specs.Triangle.{Triangle, proper}
-use Rattle.spec_plane.proofs.PointLaws.{samePoint-reflects}
 use Rattle.spec_charts.specs.Table.{Table, numbered}
 use Rattle.spec_charts.specs.declared.Refusal.the-variants.{NoSuchTriangle, NoFlip}
 use Rattle.spec_charts.specs.Refusals.{done}
 use Rattle.spec_charts.specs.Edits.{triangle, rotations, sharesSide, flipAs, flipWith, flipAmong, flipTable}
 use Rattle.laws_charts.proofs.OutcomeLaws.{refused-done, done-same, refuseIf-done, passed}
+use Rattle.laws_charts.proofs.RotationLaws.{sharesSide-reflects}
 
 -- i and j flipped, where t and u are their rotations that share a side
 pub record Flipped (i j : ℕ) (table next : Table) : Type 0 where
@@ -61,7 +61,7 @@ among-done table next i j us (t ∷ ts) e = go (first (λ u. sharesSide t u) us)
 
 -- an accepted flip is one
 pub flip-done : (i j : ℕ) (table next : Table) → flipTable i j table ≡ done next → Flipped i j table next
-unfolding flipTable flipAs sharesSide
+unfolding flipTable flipAs
 flip-done i j table next e =
     let f = refuseIf-done (leb (length table) i || leb (length table) j) NoSuchTriangle e in
     let s = among-done table next i j _ _ (f .1) in
@@ -71,7 +71,7 @@ flip-done i j table next e =
     let g = refuseIf-done (not both) NoFlip (s .flips) in
     let b = reflects-or (reflects-leb (length table) i) (reflects-leb (length table) j) in
     let p = reflects-and (reflects-test (proper (triangle (t .a) (u .c) (t .c)))) (reflects-test (proper (triangle (u .c) (t .b) (t .c)))) .to (passed both (g .0)) in
-    let q = reflects-and (samePoint-reflects (t .a) (u .b)) (samePoint-reflects (t .b) (u .a)) .to (s .shares) in
+    let q = sharesSide-reflects t u .to (s .shares) in
     let bi : length table ≤ i → ⊥ = λ h. f .0 (b .from (inl h)) in
     let bj : length table ≤ j → ⊥ = λ h. f .0 (b .from (inr h)) in
     record {

@@ -11,26 +11,20 @@ use borrow.Author.Tests.{lt-leb}
 use lib.Dec.{T}
 use lib.ListN.{length}
 use Rattle.theory_lists.specs.Lists.{first}
-use Rattle.theory_lists.proofs.Reflects.{reflects-and}
 use Rattle.theory_lists.proofs.ListsLaws.{Every, every-uncons}
 use Rattle.theory_lists.proofs.EditedLists.{first-found, first-none, first-missed}
 use Rattle.spec_plane.specs.Triangle.{Triangle, proper}
-use Rattle.spec_plane.proofs.PointLaws.{samePoint-reflects}
 use Rattle.spec_charts.specs.Table.{Table, numbered}
 use Rattle.spec_charts.specs.declared.Refusal.the-variants.{NoFlip}
 use Rattle.spec_charts.specs.Refusals.{refused, refuseIf}
 use Rattle.spec_charts.specs.Edits.{triangle, rotations, sharesSide, flipAs, flipWith, flipAmong, flipTable}
 use Rattle.laws_charts.proofs.TableLaws.{numbered-proper}
 use Rattle.laws_charts.proofs.TriangleLaws.{named, reversed-proper}
-use Rattle.laws_charts.proofs.RotationLaws.{three, corners-apart, rotations-same, rotations-proper}
+use Rattle.laws_charts.proofs.RotationLaws.{three, corners-apart, rotations-same, rotations-proper, sharesSide-reflects}
 
 -- u has the side ab of t in the other direction
 abbrev Facing : Triangle → Triangle → Type 0
 Facing t u = (t .a ≡ u .b) × (t .b ≡ u .a)
-
-facing : (t u : Triangle) → T (sharesSide t u) → Facing t u
-unfolding sharesSide
-facing t u h = reflects-and (samePoint-reflects (t .a) (u .b)) (samePoint-reflects (t .b) (u .a)) .to h
 
 -- of (a,b,c) and (b,a,d) no other rotations do
 module _ (t u : Triangle) (ht : T (proper t)) (hu : T (proper u)) (f : Facing t u) where
@@ -59,8 +53,8 @@ pub flip-side-unique : (t u : Triangle) → T (proper t) → T (proper u) → {s
     → List·Memᴰ s (rotations t) → List·Memᴰ s′ (rotations t) → List·Memᴰ r (rotations u) → List·Memᴰ r′ (rotations u)
     → T (sharesSide s r) → T (sharesSide s′ r′) → (s ≡ s′) × (r ≡ r′)
 flip-side-unique t u ht hu {s} {s′} {r} {r′} ms ms′ mr mr′ h h′ =
-    side-once s r (rotations-proper t ht s ms) (rotations-proper u hu r mr) (facing s r h)
-    s′ (rotations-same t s ms s′ ms′) r′ (rotations-same u r mr r′ mr′) (facing s′ r′ h′)
+    side-once s r (rotations-proper t ht s ms) (rotations-proper u hu r mr) (sharesSide-reflects s r .to h)
+    s′ (rotations-same t s ms s′ ms′) r′ (rotations-same u r mr r′ mr′) (sharesSide-reflects s′ r′ .to h′)
 
 module _ (table : Table) (i j : ℕ) (us : List Triangle) where
   -- the search finds the one pair that shares a side

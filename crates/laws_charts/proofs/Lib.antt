@@ -9,6 +9,8 @@ pub mod RotationLaws
 pub mod GridLaws
 pub mod EditLaws
 pub mod FlipLaws
+pub mod SideLaws
+pub mod SideSplitLaws
 pub mod LoadTable
 pub mod MergeLaws
 pub mod ProposedLaws

@@ -1,7 +1,7 @@
 -- The tables that events propose have at most 512 triangles, each with D > 0, where the table before them has: no number needs a
 -- range for that.
--- The idea: a load's length and triangles are tested, so are the parts of a split and of a flip, and three triangles around a point
--- make one with their areas' sum.
+-- The idea: a load's length and triangles are tested, so are the parts of a split and of a flip, three triangles around a point
+-- make one with their areas' sum, and a point on a side makes two with shares of D.
 -- Assumes nothing.
 use mathlib.Core.Path.{_≡_}
 use mathlib.Core.List.{List}
@@ -16,11 +16,12 @@ use Rattle.spec_plane.specs.declared.Point.{Point}
 use Rattle.spec_plane.specs.Triangle.{proper}
 use Rattle.spec_charts.specs.Table.{Table, numbered, maxTriangles}
 use Rattle.spec_charts.specs.Refusals.{done}
-use Rattle.spec_charts.specs.Edits.{Event, load, split, takeOut, flip, splitAt, proposed}
+use Rattle.spec_charts.specs.Edits.{Event, load, split, takeOut, flip, sideSplit, splitAt, proposed}
 use Rattle.laws_charts.proofs.TriangleLaws.{inside-parts}
 use Rattle.laws_charts.proofs.LoadTable.{load-done}
 use Rattle.laws_charts.proofs.EditLaws.{Split, split-done, mergedTriangle, TakenOut, takeOut-done}
 use Rattle.laws_charts.proofs.FlipLaws.{Flipped, flip-done}
+use Rattle.laws_charts.proofs.SideSplitLaws.{sideSplit-done, sideSplit-proper}
 use Rattle.laws_charts.proofs.MergeLaws.{taken-sum, merge-length, merge-every}
 
 -- at most 512 triangles, each with D > 0
@@ -63,3 +64,5 @@ proposed-drawable (load ns) table next h d = let l = load-done ns next d in reco
 proposed-drawable (split t p) table next h d = split-drawable h t p (split-done t p table next d)
 proposed-drawable (takeOut p) table next h d = takeOut-drawable h p (takeOut-done p table next d)
 proposed-drawable (flip i j) table next h d = flip-drawable h i j (flip-done i j table next d)
+proposed-drawable (sideSplit i p) table next h d =
+    let s = sideSplit-done i p table next d in record { few = s .few; oriented = sideSplit-proper s (h .oriented) }

@@ -4,13 +4,14 @@ use mathlib.Core.Path.{_≡_, refl, sym, _∙_}
 use mathlib.Core.Bool.{Bool, true, false, _||_}
 use mathlib.Core.List.{[], _∷_, List·Memᴰ, List·Memᴰ·head, List·Memᴰ·tail, List·Memᴰ·not-nil}
 use lib.Dec.{T}
+use Rattle.theory_lists.proofs.Reflects.{Reflects, reflects-and}
 use Rattle.theory_lists.proofs.ListsLaws.{Every, every-cons}
 use Rattle.theory_lists.proofs.EveryLaws.{every-nil}
 use Rattle.spec_plane.specs.declared.Point.{Point}
 use Rattle.spec_plane.specs.Point.{samePoint}
 use Rattle.spec_plane.specs.Triangle.{Triangle, proper, doubledArea}
 use Rattle.spec_plane.proofs.PointLaws.{samePoint-reflects}
-use Rattle.spec_charts.specs.Edits.{triangle, rotations, hasCorner, endingIn}
+use Rattle.spec_charts.specs.Edits.{triangle, rotations, hasCorner, endingIn, sharesSide}
 use Rattle.laws_charts.proofs.TriangleLaws.{area-rotate, proper-rotate, corners-differ}
 
 -- of a list of three
@@ -64,6 +65,11 @@ corners-apart t h = record {
   bc = corners-differ (t .b) (t .c) (t .a) (rw (proper-rotate (t .a) (t .b) (t .c)) h);
   ca = corners-differ (t .c) (t .a) (t .b) (rw (← proper-rotate (t .c) (t .a) (t .b)) h);
 }
+
+-- the test of a shared side: t is (a,b,c) and u is (b,a,d)
+pub sharesSide-reflects : (t u : Triangle) → Reflects (sharesSide t u) ((t .a ≡ u .b) × (t .b ≡ u .a))
+unfolding sharesSide
+sharesSide-reflects t u = reflects-and (samePoint-reflects (t .a) (u .b)) (samePoint-reflects (t .b) (u .a))
 
 -- s does not have the side ab of u in the other direction
 abbrev Unshared : Triangle → Triangle → Type 0

@@ -11,7 +11,7 @@ use Rattle.spec_charts.specs.Table.{Table}
 use Rattle.spec_charts.specs.Cells.{entriesOf}
 use Rattle.spec_charts.specs.declared.Refusal.the-variants.{FaultyTriangle, NotThreeAround, NoFlip}
 use Rattle.spec_charts.specs.Refusals.{Outcome, refused, done, andThen, doneOr}
-use Rattle.spec_charts.specs.Edits.{triangle, rotations, faulty, refuseFaulty, givenTable, loadTable, splitAt, hasCorner, endingIn, closesRound, mergeAround, mergeThree, takeOutThree, sharesSide, flipAs, flipWith, flipAmong, Event, load, split, takeOut, flip, sixteenBitEvent, proposed, limited, eventOn, afterEvents}
+use Rattle.spec_charts.specs.Edits.{triangle, rotations, faulty, refuseFaulty, givenTable, loadTable, splitAt, hasCorner, endingIn, closesRound, mergeAround, mergeThree, takeOutThree, sharesSide, flipAs, flipWith, flipAmong, Event, load, split, takeOut, flip, sideSplit, sixteenBitEvent, proposed, limited, eventOn, afterEvents}
 use Rattle.spec_charts.proofs.Evaluate.{evaluate}
 use Rattle.spec_charts.proofs.Written.{at}
 
@@ -170,8 +170,8 @@ flipAmong-example q r s = refl
 -- only a load's numbers have a range
 sixteen-bit-event-example :
     map (λ e. sixteenBitEvent e)
-    (load (0 ∷ 65535 ∷ []) ∷ load (0 ∷ 65536 ∷ []) ∷ split 65536 (at 65536 65536) ∷ takeOut (at 65536 65536) ∷ flip 65536 65536 ∷ [])
-    ≡ true ∷ false ∷ true ∷ true ∷ true ∷ []
+    (load (0 ∷ 65535 ∷ []) ∷ load (0 ∷ 65536 ∷ []) ∷ split 65536 (at 65536 65536) ∷ takeOut (at 65536 65536) ∷ flip 65536 65536 ∷ sideSplit 65536 (at 65536 65536) ∷ [])
+    ≡ true ∷ false ∷ true ∷ true ∷ true ∷ true ∷ []
 unfolding evaluate
 sixteen-bit-event-example = refl
 
@@ -182,6 +182,7 @@ limit-example (load ns) table = refl
 limit-example (split t p) table = refl
 limit-example (takeOut p) table = refl
 limit-example (flip i j) table = refl
+limit-example (sideSplit t p) table = refl
 
 -- a refused event leaves the table, an accepted one makes its own; the next goes on from there
 after-example : (e f : Event) (table : Table)

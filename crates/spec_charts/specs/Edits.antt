@@ -1,18 +1,22 @@
--- Document 01, "Edits on the plain table": the four events, and what each makes of a table or why it is refused.
+-- Document 01, "Edits on the plain table", and document 02, wish 2: the five events, and what each makes of a table or why it is
+-- refused.
 -- Assumes nothing.
 use mathlib.Core.Bool.{Bool, true, false, not, _&&_, _||_}
 use mathlib.Core.List.{List, [], _∷_, _++_}
 use mathlib.Core.Option.{Option, none, some}
-use Prim.Native.Nat.{ℕ, _+_, _/_, _%_}
+use Prim.Native.Nat.{ℕ, suc, _+_, _/_, _%_}
 use lib.Dec.{leb, ltb, eqb}
 use lib.ListN.{length, set}
 use Rattle.theory_lists.specs.Lists.{first, placesFrom, without}
 use Rattle.spec_plane.specs.declared.Point.{Point}
 use Rattle.spec_plane.specs.Point.{samePoint}
+use Rattle.spec_plane.specs.declared.Position.{Position}
+use Rattle.spec_plane.specs.declared.Position.the-variants.{Inside, OnAb, OnBc, OnCa, AtA, AtB, AtC, Outside}
 use Rattle.spec_plane.specs.Triangle.{Triangle, proper, strictlyInside}
+use Rattle.spec_plane.specs.Position.{position}
 use Rattle.spec_charts.specs.Table.{Table, numbered, tableOf, maxTriangles, numbersPerTriangle, tableLength, sixteenBit}
 use Rattle.spec_charts.specs.Cells.{entriesOf, maxEntries}
-use Rattle.spec_charts.specs.declared.Refusal.the-variants.{BadLength, FaultyTriangle, NoSuchTriangle, NotInside, NotThreeAround, NoFlip, TableFull, TooManyEntries}
+use Rattle.spec_charts.specs.declared.Refusal.the-variants.{BadLength, FaultyTriangle, NoSuchTriangle, NotInside, NotThreeAround, NoFlip, TableFull, TooManyEntries, NotOnSide}
 use Rattle.spec_charts.specs.Refusals.{Outcome, refused, done, refuseIf, andThen, doneOr}
 
 -- a triangle by its corners
@@ -140,22 +144,81 @@ flipTable i j table =
     refuseIf (leb (length table) i || leb (length table) j) NoSuchTriangle
     (flipAmong table i j (rotations (numbered table j)) (rotations (numbered table i)))
 
+-- Side split: insertion of a vertex on a side (document 02, wish 2)
+
+-- "Rotate t to (a,b,c) with p on ab", by where p lies: there is no such rotation where p is on no side, or at an end of one
+unfoldable pub sideFirst : Position → Triangle → Option Triangle
+sideFirst Inside t = none
+sideFirst OnAb t = some (madeFrom t (t .a) (t .b) (t .c))
+sideFirst OnBc t = some (madeFrom t (t .b) (t .c) (t .a))
+sideFirst OnCa t = some (madeFrom t (t .c) (t .a) (t .b))
+sideFirst AtA t = none
+sideFirst AtB t = none
+sideFirst AtC t = none
+sideFirst Outside t = none
+
+-- a triangle on the other side of ab: its number, and its rotation (b,a,d)
+pub record Neighbour : Type 0 where
+  pub number : ℕ
+  pub rotation : Triangle
+
+-- triangle k, where it has such a rotation, else what the triangles after it give
+unfoldable pub neighbourOr : ℕ → Option Triangle → Option Neighbour → Option Neighbour
+neighbourOr k none later = later
+neighbourOr k (some u) later = some (record { number = k; rotation = u })
+
+-- "If other triangles rotate to (b,a,d), the lowest numbered": the triangles are numbered from k on, and t is (a,b,c). It is never t
+-- itself, as t has D > 0 (`neighbour-other` of laws_charts)
+unfoldable pub neighbourFrom : Triangle → ℕ → Table → Option Neighbour
+neighbourFrom t k [] = none
+neighbourFrom t k (u ∷ us) = neighbourOr k (first (λ r. sharesSide t r) (rotations u)) (neighbourFrom t (suc k) us)
+
+-- "t gets (a,p,c) and (p,b,c) is appended", where t is triangle i. Of (b,a,d) the same makes "(b,p,d) and (p,a,d) is appended next"
+unfoldable pub sideSplitAt : Table → ℕ → Triangle → Point → Table
+sideSplitAt table i t p = set table i (madeFrom t (t .a) p (t .c)) ++ (madeFrom t p (t .b) (t .c) ∷ [])
+
+-- the triangles on both sides of ab, where there is one on the other
+unfoldable pub sideSplitBoth : Table → ℕ → Triangle → Point → Option Neighbour → Table
+sideSplitBoth table i t p none = sideSplitAt table i t p
+sideSplitBoth table i t p (some u) = sideSplitAt (sideSplitAt table i t p) (u .number) (u .rotation) p
+
+-- refusal 10: "Table full counts the triangles really added", so it is the table made that has over 512
+unfoldable pub withinTable : Table → Outcome Table
+withinTable next = refuseIf (ltb maxTriangles (length next)) TableFull (done next)
+
+-- triangle i, of which t is the rotation (a,b,c) with p on ab
+unfoldable pub sideSplitRow : ℕ → Triangle → Point → Table → Outcome Table
+sideSplitRow i t p table = withinTable (sideSplitBoth table i t p (neighbourFrom t 0 table))
+
+-- refusal 13: "p is not on such a side of t"
+unfoldable pub sideSplitFirst : ℕ → Option Triangle → Point → Table → Outcome Table
+sideSplitFirst i none p table = refused NotOnSide
+sideSplitFirst i (some t) p table = sideSplitRow i t p table
+
+-- "a side split of triangle t at p, with p on a side and not at its ends"
+unfoldable pub sideSplitTable : ℕ → Point → Table → Outcome Table
+sideSplitTable i p table =
+    refuseIf (leb (length table) i) NoSuchTriangle
+    (sideSplitFirst i (sideFirst (position (numbered table i) p) (numbered table i)) p table)
+
 -- Events
 
--- a load with the numbers given, a split of t at p, a take-out of p, a flip of i and j
+-- a load with the numbers given, a split of t at p, a take-out of p, a flip of i and j, a side split of t at p
 pub data Event : Type 0 where
   load : List ℕ → Event
   split : ℕ → Point → Event
   takeOut : Point → Event
   flip : ℕ → ℕ → Event
+  sideSplit : ℕ → Point → Event
 
--- the numbers of a load are 16-bit. Of the other events no number needs a range: a point at which a triangle is split lies
--- inside it, and the rest only names triangles and corners
+-- the numbers of a load are 16-bit. Of the other events no number needs a range: a point at which a triangle or its side is split lies
+-- in it, and the rest only names triangles and corners
 unfoldable pub sixteenBitEvent : Event → Bool
 sixteenBitEvent (load ns) = sixteenBit ns
 sixteenBitEvent (split t p) = true
 sixteenBitEvent (takeOut p) = true
 sixteenBitEvent (flip i j) = true
+sixteenBitEvent (sideSplit t p) = true
 
 -- the table that an event would make of the plain table, before its entries are counted
 unfoldable pub proposed : Event → Table → Outcome Table
@@ -163,6 +226,7 @@ proposed (load ns) table = loadTable ns
 proposed (split t p) table = splitTable t p table
 proposed (takeOut p) table = takeOutTable p table
 proposed (flip i j) table = flipTable i j table
+proposed (sideSplit t p) table = sideSplitTable t p table
 
 -- refusal 11: "the new table has over 16,384 entries", where it has n
 unfoldable pub limited : ℕ → Table → Outcome Table
@@ -178,6 +242,7 @@ counted (load ns) table = withinLimit table
 counted (split t p) table = withinLimit table
 counted (takeOut p) table = withinLimit table
 counted (flip i j) table = withinLimit table
+counted (sideSplit t p) table = withinLimit table
 
 -- what an event comes to on a plain table: refused with a number from 4 up, or the new plain table
 unfoldable pub eventOn : Event → Table → Outcome Table

@@ -1,6 +1,6 @@
 // Document 01 on plain tables as definitions. No code but the type of a refusal, which code and definitions share.
 
-// Document 01's table of numbers, row by row: why a call or an event is refused. `rowOf` in specs/ has the numbers.
+// Document 01's table of numbers with document 02's, row by row: why a call or an event is refused. `rowOf` in specs/ has the numbers.
 pub enum Refusal {
     // "a lent buffer is shorter than above"
     ShortBuffer,
@@ -26,4 +26,6 @@ pub enum Refusal {
     TooManyEntries,
     // "over 4,096 pairs"
     TooManyPairs,
+    // "p is not on such a side of t" (document 02, wish 2)
+    NotOnSide,
 }
