@@ -89,6 +89,7 @@ changedBy-example : (c : Chart)
     ∷ record { number = 10; value = 0; chart = c }
     ∷ record { number = 11; value = 0; chart = c }
     ∷ record { number = 12; value = 0; chart = c }
+    ∷ record { number = 13; value = 0; chart = c }
     ∷ []
 unfolding evaluate
 changedBy-example c = refl
