@@ -26,6 +26,11 @@ pub record IsCall (ns : List ℕ) : Type 0 where
   pub some : 0 < length ns
   pub whole : callLength (getD ns 0 0) (getD ns 1 0) ≡ length ns
 
+-- the four numbers of a split or a side split
+pub record IsSplit (ns : List ℕ) : Type 0 where
+  pub four : length ns ≡ 4
+  pub command : eqb (getD ns 0 0) 3 || eqb (getD ns 0 0) 8 ≡ true
+
 -- the event of a whole call
 unfoldable pub callEvent : List ℕ → Event
 callEvent ns =
