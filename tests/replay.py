@@ -28,6 +28,7 @@ SIZES = {3: 4, 4: 3, 5: 3, 8: 4}
 BUFFERS = {"table0": (3080, 21), "keys0": (16390, 22), "levels0": (16390, 23), "items0": (16390, 24)}
 BUFFERS |= {"table1": (3080, 31), "keys1": (16390, 32), "levels1": (16390, 33), "items1": (16390, 34), "pairs": (8200, 41)}
 COUNTS = [(513, 70000), (7, 20000)]
+LONGEST = 4096  # the most numbers of a list
 
 
 # ---- lists of calls as numbers
@@ -144,6 +145,8 @@ def stored():
         (load(U) + side_split(1, (20000, 0)) + side_split(0, INNER) + side_split(0, (0, 0)) + side_split(0, out), load(U), "0 1 7"),
         (load(small, *many, small) + side_split(0, (1007, 1000)), load(small), "0 3"),
         (load(small, *many, under) + side_split(0, (1007, 1000)), load(small), "0 1"),
+        (load(edits.ABOVE, edits.BELOW_TOO, edits.BELOW, edits.LONGER, edits.ABOVE) + side_split(0, edits.AT), load(edits.BELOW), "0 4"),
+        (load(edits.BELOW, edits.BELOW_TOO, edits.ABOVE) + side_split(2, (101, 40)) + side_split(2, edits.AT), load(edits.BELOW_TOO), "0 3"),
         (load(*[U] * 300) + side_split(0, side), load(V), "0 0 7"),
         (load(*[U] * 512) + side_split(0, side), load(V), "0 0 7"),
         (side_split(0, side) + load(U), side_split(65535, (65535, 65535)) + load(V), "0 0 7"),
@@ -171,7 +174,7 @@ def drawn(rng):
         edits.drawn_edits(s, rng.choice(list(edits.STARTS)))
     codes = {name: code for code, name in COMMANDS.items()}
     made = [(step[0], step[2]) for step in s.steps if step[0] in codes]
-    numbers = [n for name, ops in made for n in [codes[name]] + [len(ops)] * (name == "load") + ops]
+    numbers = [n for name, ops in made for n in [codes[name]] + [len(ops)] * (name == "load") + ops][:LONGEST]
     if rng.random() < 0.2:
         return numbers[: rng.randrange(len(numbers))]
     if rng.random() < 0.2:

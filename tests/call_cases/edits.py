@@ -71,6 +71,12 @@ SIDE_POINTS = {
     (20000, 65535): 13,
     (65535, 65535): 13,
 }
+# triangles and points of no side of them: beside a side with D = 1 and D = -1, and on the line of one, near its ends and far from them
+NEARLY = {
+    (1000, 1000, 1009, 1007, 1000, 1020): [(1005, 1004), (1004, 1003), (1018, 1014), (991, 993)],
+    (0, 0, 65535, 65534, 0, 65535): [(1, 1), (65534, 65533), (32768, 32767), (32767, 32767)],
+    (40000, 40000, 50000, 50000, 40000, 60000): [(0, 0), (39999, 39999), (50001, 50001), (65535, 65535), (40000, 60001)],
+}
 # side ab is from (100, 40) to (0, 40), and AT is on it; two on the other side of it, and one in its direction
 ABOVE, AT = (100, 40, 0, 40, 30, 5), (40, 40)
 BELOW, BELOW_TOO, ALONG = (0, 40, 100, 40, 60, 90), (0, 40, 100, 40, 50, 70), (100, 40, 0, 40, 70, 11)
@@ -87,6 +93,11 @@ def side_splits(s):
         for table, t, at in (([U], 0, p), ([U, V], 0, p), ([V, V, U], 2, p), ([U, V], 1, q)):
             s.table(table, number=0)
             s.call("a point on a side" if number == 0 else "a point on no side", number, "side_split", t, *at)
+    for t, points in NEARLY.items():
+        for k in range(3):
+            s.table([turned(t, k)], number=0)
+            for p in points:
+                s.call("a point nearly on a side", 13, "side_split", 0, *p)
     s.table([], number=0)
     s.call("no triangle", 6, "side_split", 0, 1, 0)
     s.table([V, U, U], number=0)
@@ -343,7 +354,7 @@ def full(s):
 # ---- lists of edits
 
 # what they start from, and how many triangles of it
-STARTS = {"UV": 2, "mesh": 60, "soup": 6, "borders": 6, "repeated": 12, "lattice": 40, "beside": 12}
+STARTS = {"UV": 2, "mesh": 60, "soup": 6, "borders": 6, "repeated": 12, "lattice": 40, "beside": 12, "nearly full": 508}
 
 
 def on_side(rng, table):
@@ -354,49 +365,53 @@ def on_side(rng, table):
     t = table[i]
     parts = side_parts(t, k)
     p = side_point(t, k, rng.choice([1, parts - 1, parts // 2, rng.randrange(parts)]))
-    others = [side_point(t, k, 0), tables.near(rng, p, 1), tuple(sum(c) // 3 for c in zip(*corners(t)))]
-    p = rng.choice([p] * 9 + others)
+    beyond = side_point(t, k, rng.choice([-1, parts + 1]))
+    others = [side_point(t, k, 0), tables.near(rng, p, 1), tuple(sum(c) // 3 for c in zip(*corners(t))), tables.near(rng, beyond, 0)]
+    p = rng.choice([p] * 12 + others)
     return rng.choice([i] * 15 + [rng.randrange(len(table)), len(table)]), p
+
+
+def start(rng, name):
+    """A table that a load takes."""
+    table = [U, V] if name == "UV" else None
+    while not table or not tables.entries_of(table):
+        table = tables.KINDS["lattice" if name == "nearly full" else name](rng)
+        table = [TINY] * (STARTS[name] - len(table)) * (name == "nearly full") + table[: STARTS[name]]
+    return [turned(t, rng.randrange(3)) for t in table]
 
 
 def drawn_edits(s, name):
     """A list of edits, most of which can be done: of a mesh, or of a table whose triangles overlap. The table that they lead
-    to is followed here to make them, without refusal 11."""
+    to is followed here to make them."""
     rng = s.rng
     s.on(rng.randrange(2))
-    table = [U, V] if name == "UV" else tables.KINDS[name](rng)[: STARTS[name]]
-    table = [turned(t, rng.randrange(3)) for t in table]
-    s.table(table)
+    table = start(rng, name)
+    s.table(table, number=0)
     points = []
     for _ in range(30):
         kind = rng.choice(["split"] * 4 + ["flip"] * 4 + ["take_out"] * 2 + ["side_split"] * 5)
         if kind == "side_split":
             i, p = on_side(rng, table)
-            s.call(f"drawn on {name}", None, "side_split", i, *p)
-            new = tables.side_split(table, i, p) if i < len(table) else None
-            if new and len(new) <= 512:
-                table = new
-                points.append(p)
+            operands, new = (i, *p), tables.side_split(table, i, p) if i < len(table) else None
         elif kind == "split":
             i = rng.randrange(len(table))
             a, b, c = corners(table[i])
             p = tuple((x + y + z) // 3 for x, y, z in zip(a, b, c))
             p = rng.choice([p, p, p, tables.near(rng, p, 50), tuple((x + y) // 2 for x, y in zip(a, b)), a])
             i = rng.choice([i] * 9 + [len(table)])
-            s.call(f"drawn on {name}", None, "split", i, *p)
-            if i < len(table) and inside(table[i], p) and len(table) < 511:
-                table = tables.split(table, i, p)
-                points.append(p)
+            operands, new = (i, *p), tables.split(table, i, p) if i < len(table) and inside(table[i], p) else None
         elif kind == "flip":
             i = rng.randrange(len(table))
             beside = [j for j in range(len(table)) if tables.sides_shared(table[i], table[j])]
             j = rng.choice(beside * 3 + [rng.randrange(len(table)), len(table)])
-            s.call(f"drawn on {name}", None, "flip", i, j)
-            table = (tables.flip(table, i, j) if j < len(table) else None) or table
+            operands, new = (i, j), tables.flip(table, i, j) if j < len(table) else None
         else:
             p = rng.choice(points[-3:] * 2 + [rng.choice(corners(rng.choice(table)))])
-            s.call(f"drawn on {name}", None, "take_out", *p)
-            table = tables.take_out(table, p) or table
+            operands, new = p, tables.take_out(table, p)
+        s.call(f"drawn on {name}", None, kind, *operands)
+        if new and tables.entries_of(new):
+            table = new
+            points += [operands[1:]] * (kind in ("split", "side_split"))
     s.read(tables.anywhere(rng), rng.choice(corners(table[0])))
     s.measure()
 
@@ -413,7 +428,8 @@ WANTED += [f"side_split: {n} entries and a neighbour" for n in (16384, 16385)]
 WANTED += [f"side_split: {n} {what}" for n in (509, 510, 511, 512) for what in ("alone", "and a neighbour")]
 WANTED += [f"side_split: side {i} facing {j}{lower}" for i in range(3) for j in range(3) for lower in ("", " lower")]
 WANTED += listed(
-    """side_split: a point on a side; side_split: a point on no side; side_split: no triangle; side_split: a triangle that is not there;
+    """side_split: a point on a side; side_split: a point on no side; side_split: a point nearly on a side; side_split: no triangle;
+    side_split: a triangle that is not there;
     side_split: the last of three; side_split: its other half; side_split: 6 before 13; side_split: 6 before 10; side_split: 13 before 10;
     side_split: 13 before 11; side_split: 10 before 11; side_split: many copies; side_split: once more; side_split: no neighbour;
     side_split: a copy of t; side_split: copies of t alone; side_split: the lowest of two; side_split: the lowest of two, another way;
