@@ -25,6 +25,7 @@ pub enum Edit {
     Split(usize, Point),
     TakeOut(Point),
     Flip(usize, usize),
+    SideSplit(usize, Point),
 }
 
 // A refusal, with the counts as they were.
@@ -48,6 +49,7 @@ pub fn edit_table(edit: Edit, table: &[u16], n: usize, scratch: &mut [u16]) -> E
         Edit::Split(i, p) => edit_split::split_table(table, n, i, p, scratch),
         Edit::TakeOut(p) => edit_take_out::take_out_table(table, n, p, scratch),
         Edit::Flip(i, j) => edit_flip::flip_table(table, n, i, j, scratch),
+        Edit::SideSplit(i, p) => edit_side_split::side_split_table(table, n, i, p, scratch),
     }
 }
 

@@ -32,18 +32,20 @@ start-some {q} {r} {p} s = elim (decLe 1 (s .m)) [
       absurd (s .notEnd (λ i. record { x = x i; y = y i }))
 ]
 
--- D(a,p,c) and D(p,b,c) as shares of D(a,b,c), in coordinates
-first-share : (ax ay bx by cx cy px py m n k : ℕ) → (m + n) * px ≡ m * ax + n * bx → (m + n) * py ≡ m * ay + n * by
-    → bx * cy + by * ax + ay * cx ≡ bx * ay + ax * cy + by * cx + k
-    → (m + n) * (px * cy + py * ax + ay * cx) ≡ (m + n) * (px * ay + ax * cy + py * cx) + n * k
-first-share ax ay bx by cx cy px py m n k e f g =
-    omega (arith, ap (λ z. z * cy) e, ap (λ z. z * ay) e, ap (λ z. z * ax) f, ap (λ z. z * cx) f, ap (λ z. n * z) g)
+-- a sum that is linear in a point is at p the mean of what it is at both ends
+mean : (m n px py qx qy rx ry u v w : ℕ) → (m + n) * px ≡ m * qx + n * rx → (m + n) * py ≡ m * qy + n * ry
+    → (m + n) * (px * u + py * v + w) ≡ m * (qx * u + qy * v + w) + n * (rx * u + ry * v + w)
+mean m n px py qx qy rx ry u v w e f = omega (arith, ap (λ z. z * u) e, ap (λ z. z * v) f)
 
-second-share : (ax ay bx by cx cy px py m n k : ℕ) → (m + n) * px ≡ m * ax + n * bx → (m + n) * py ≡ m * ay + n * by
-    → bx * cy + by * ax + ay * cx ≡ bx * ay + ax * cy + by * cx + k
-    → (m + n) * (bx * cy + by * px + py * cx) ≡ (m + n) * (bx * py + px * cy + by * cx) + m * k
-second-share ax ay bx by cx cy px py m n k e f g =
-    omega (arith, ap (λ z. z * by) e, ap (λ z. z * cy) e, ap (λ z. z * bx) f, ap (λ z. z * cx) f, ap (λ z. m * z) g)
+-- where the difference of two such sums is 0 at one end, it is at p a share of what it is at the other
+share : (s j k lp hp lq hq lr hr d : ℕ) → s * lp ≡ j * lq + k * lr → s * hp ≡ j * hq + k * hr → hq ≡ lq → hr ≡ lr + d → s * hp ≡ s * lp + k * d
+share s j k lp hp lq hq lr hr d e f flat other = omega (arith, ap (λ z. j * z) flat, ap (λ z. k * z) other)
+
+-- both shares are the whole
+shares-sum : (m n l h l′ h′ x y d : ℕ) → 0 < m + n → (m + n) * h ≡ (m + n) * l + n * d → (m + n) * h′ ≡ (m + n) * l′ + m * d
+    → h ≡ l + x → h′ ≡ l′ + y → x + y ≡ d
+shares-sum m n l h l′ h′ x y d some e f g k =
+    eq-of-mul-eq-mul-left (m + n) some (x + y) d (omega (arith, ap (λ z. (m + n) * z) g, ap (λ z. (m + n) * z) k))
 
 -- a share above 0
 share-positive : (s l h j k : ℕ) → s * h ≡ s * l + j * k → 0 < j → 0 < k → l < h
@@ -56,13 +58,23 @@ module _ (a b c p : Point) (on : OnSide a b p) (d : T (proper (triangle a b c)))
   abbrev area : ℕ
   area = doubledArea (triangle a b c)
 
-  first-part : (on .m + on .n) * orientHigh a p c ≡ (on .m + on .n) * orientLow a p c + on .n * area
-  first-part = first-share (a .x) (a .y) (b .x) (b .y) (c .x) (c .y) (p .x) (p .y) (on .m) (on .n) area (on .x) (on .y) (doubled a b c d)
+  at : (u v w : ℕ) → (on .m + on .n) * (p .x * u + p .y * v + w) ≡ on .m * (a .x * u + a .y * v + w) + on .n * (b .x * u + b .y * v + w)
+  at u v w = mean (on .m) (on .n) (p .x) (p .y) (a .x) (a .y) (b .x) (b .y) u v w (on .x) (on .y)
 
+  -- D(a,·,c), which is 0 at a
+  first-part : (on .m + on .n) * orientHigh a p c ≡ (on .m + on .n) * orientLow a p c + on .n * area
+  first-part =
+      share (on .m + on .n) (on .m) (on .n) (orientLow a p c) (orientHigh a p c) (orientLow a a c) (orientHigh a a c) _ _ area
+      (omega (arith, at (a .y) (c .x) (a .x * c .y))) (omega (arith, at (c .y) (a .x) (a .y * c .x))) (omega arith) (doubled a b c d)
+
+  -- D(·,b,c), which is 0 at b
   second-part : (on .m + on .n) * orientHigh p b c ≡ (on .m + on .n) * orientLow p b c + on .m * area
-  second-part = second-share (a .x) (a .y) (b .x) (b .y) (c .x) (c .y) (p .x) (p .y) (on .m) (on .n) area (on .x) (on .y) (doubled a b c d)
+  second-part =
+      share (on .m + on .n) (on .n) (on .m) (orientLow p b c) (orientHigh p b c) (orientLow b b c) (orientHigh b b c) _ _ area
+      (omega (arith, at (c .y) (b .x) (b .y * c .x))) (omega (arith, at (b .y) (c .x) (b .x * c .y))) (omega arith) (doubled a b c d)
 
   first-proper : T (proper (triangle a p c))
+  unfolding side-reversed
   first-proper = order a p c .from (share-positive _ _ _ (on .n) area first-part (start-some (side-reversed on)) (area-positive a b c d))
 
   second-proper : T (proper (triangle p b c))
@@ -70,14 +82,8 @@ module _ (a b c p : Point) (on : OnSide a b p) (d : T (proper (triangle a b c)))
 
   parts-area : doubledArea (triangle a p c) + doubledArea (triangle p b c) ≡ area
   parts-area =
-      let s = on .m + on .n in
-      eq-of-mul-eq-mul-left s (on .some) _ _ (omega (
-        arith,
-        first-part,
-        second-part,
-        ap (λ z. s * z) (doubled a p c first-proper),
-        ap (λ z. s * z) (doubled p b c second-proper),
-      ))
+      shares-sum (on .m) (on .n) (orientLow a p c) (orientHigh a p c) (orientLow p b c) (orientHigh p b c) _ _ area (on .some) first-part second-part
+      (doubled a p c first-proper) (doubled p b c second-proper)
 
 -- the two triangles that p makes of t, where it is on the side ab of t
 pub record SideParts (t : Triangle) (p : Point) : Type 0 where

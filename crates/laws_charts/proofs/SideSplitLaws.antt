@@ -278,7 +278,7 @@ module _ {i : ℕ} {p : Point} {table next : Table} (s : SideSplit i p table nex
   unfolding sideSplitBoth
   sideSplit-kept = ap totalArea (s .is) ∙ go (neighbourFrom (s .t) 0 table) refl
     where
-      abbrev half : Table
+      half : Table
       half = sideSplitAt table i (s .t) p
 
       here : totalArea half ≡ totalArea table

@@ -17,7 +17,7 @@ use Rattle.spec_plane.specs.declared.Point.{Point}
 use Rattle.spec_plane.proofs.ExtremeLaws.{OnGrid}
 use Rattle.spec_charts.specs.Table.{Table, IsTable, sixteenBit}
 use Rattle.spec_charts.specs.Refusals.{doneOr}
-use Rattle.spec_charts.specs.Edits.{Event, load, split, takeOut, flip, sixteenBitEvent, afterEvent, afterEvents, plainTable}
+use Rattle.spec_charts.specs.Edits.{Event, load, split, takeOut, flip, sideSplit, sixteenBitEvent, afterEvent, afterEvents, plainTable}
 use Rattle.spec_charts.proofs.Evaluate.{evaluate}
 use Rattle.laws_charts.proofs.GridLaws.{sixteenBit-reflects}
 use Rattle.laws_charts.proofs.EventTable.{after-event-table, plain-table}
@@ -45,6 +45,7 @@ point-fits (load ns) g = tt
 point-fits (split t p) g = fits-grid p g
 point-fits (takeOut p) g = fits-grid p g
 point-fits (flip i j) g = tt
+point-fits (sideSplit t p) g = fits-grid p g
 
 -- the load that is refused changes nothing
 refused-stays : (table : Table) → afterEvent refusedLoad table ≡ table
@@ -65,6 +66,12 @@ refused-expressible : T (expressible refusedLoad)
 unfolding expressible callNumbers sixteenBit all
 refused-expressible = tt
 
+-- a command, a triangle and a point
+point-expressible : (k t : ℕ) (p : Point) → k < 65536 → T (sixteenBit (p .x ∷ p .y ∷ [])) → T (sixteenBit (k ∷ min t 65535 ∷ p .x ∷ p .y ∷ []))
+point-expressible k t p h f =
+    sixteenBit-reflects (k ∷ min t 65535 ∷ p .x ∷ p .y ∷ []) .from
+    (every-cons (h, every-cons (omega arith, sixteenBit-reflects (p .x ∷ p .y ∷ []) .to f)))
+
 -- and is expressible
 shortened-expressible : (e : Event) → T (sixteenBitEvent e) → T (pointFits e) → T (expressible (shortened e))
 unfolding shortened pointFits expressible callNumbers sixteenBitEvent
@@ -75,14 +82,13 @@ shortened-expressible (load ns) w f = go (ltb (length ns) 65536) refl
         let l = ltb-true (length ns) 65536 e in
         sixteenBit-reflects (2 ∷ length ns ∷ ns) .from (every-cons (omega arith, every-cons (l, sixteenBit-reflects ns .to w)))
     go false e = refused-expressible
-shortened-expressible (split t p) w f =
-    sixteenBit-reflects (3 ∷ min t 65535 ∷ p .x ∷ p .y ∷ []) .from
-    (every-cons (omega arith, every-cons (omega arith, sixteenBit-reflects (p .x ∷ p .y ∷ []) .to f)))
+shortened-expressible (split t p) w f = point-expressible 3 t p (omega arith) f
 shortened-expressible (takeOut p) w f =
     sixteenBit-reflects (4 ∷ p .x ∷ p .y ∷ []) .from (every-cons (omega arith, sixteenBit-reflects (p .x ∷ p .y ∷ []) .to f))
 shortened-expressible (flip i j) w f =
     sixteenBit-reflects (5 ∷ min i 65535 ∷ min j 65535 ∷ []) .from
     (every-cons (omega arith, every-cons (omega arith, every-cons (omega arith, every-nil (λ n. n < 65536)))))
+shortened-expressible (sideSplit t p) w f = point-expressible 8 t p (omega arith) f
 
 pub clipped-expressible : (e : Event) → T (sixteenBitEvent e) → T (expressible (clipped e))
 unfolding clipped
@@ -102,6 +108,7 @@ expressible-words (load ns) h =
 expressible-words (split t p) h = tt
 expressible-words (takeOut p) h = tt
 expressible-words (flip i j) h = tt
+expressible-words (sideSplit t p) h = tt
 
 clipped-table : (es : List Event) (table : Table) → Every (λ e. T (sixteenBitEvent e)) es → IsTable table
     → afterEvents (map (λ e. clipped e) es) table ≡ afterEvents es table

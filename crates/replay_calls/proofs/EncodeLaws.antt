@@ -12,7 +12,7 @@ use Rattle.theory_lists.specs.Lists.{all}
 use Rattle.theory_lists.proofs.ListsLaws.{all-reflects}
 use Rattle.theory_lists.proofs.EveryLaws.{every-flatMap}
 use Rattle.spec_charts.specs.Table.{pointAt, sixteenBit}
-use Rattle.spec_charts.specs.Edits.{Event, load, split, takeOut, flip}
+use Rattle.spec_charts.specs.Edits.{Event, load, split, takeOut, flip, sideSplit}
 use Rattle.laws_charts.proofs.GridLaws.{sixteenBit-reflects}
 use Rattle.replay_calls.specs.Encoding.{callLength, wholeCall, IsCall, callEvent, decode, callNumbers, encode, expressible}
 use Rattle.replay_calls.proofs.EncodingLaws.{length-two, whole-fits, decode-none, decode-more}
@@ -43,6 +43,7 @@ event-call (load ns) = record { some = omega arith; whole = omega arith }
 event-call (split t p) = record { some = omega arith; whole = refl }
 event-call (takeOut p) = record { some = omega arith; whole = refl }
 event-call (flip i j) = record { some = omega arith; whole = refl }
+event-call (sideSplit t p) = record { some = omega arith; whole = refl }
 
 -- of that event
 event-same : (e : Event) → callEvent (callNumbers e) ≡ e
@@ -51,6 +52,7 @@ event-same (load ns) = refl
 event-same (split t p) = refl
 event-same (takeOut p) = refl
 event-same (flip i j) = refl
+event-same (sideSplit t p) = refl
 
 -- what is written is read
 pub decode-encode : (es : List Event) → decode (encode es) ≡ es

@@ -16,7 +16,7 @@ use Rattle.theory_lists.proofs.Reflects.{reflects-test}
 use Rattle.theory_lists.proofs.ListsLaws.{Every, every-cons, all-reflects, every-places}
 use Rattle.theory_lists.proofs.EveryLaws.{every-nil}
 use Rattle.spec_charts.specs.Table.{pointAt}
-use Rattle.spec_charts.specs.Edits.{load, split, takeOut, flip, sixteenBitEvent}
+use Rattle.spec_charts.specs.Edits.{load, split, takeOut, flip, sideSplit, sixteenBitEvent}
 use Rattle.laws_charts.proofs.GridLaws.{sixteenBit-reflects}
 use Rattle.replay_calls.specs.Encoding.{callLength, wholeCall, IsCall, callEvent, decodeUpTo, decode}
 
@@ -28,22 +28,23 @@ module _ (k n : ℕ) where
   length-load h = rw (eq-eqb k 2 h)
 
   module _ (l : k ≡ 2 → ⊥) where
-    pub length-split : k ≡ 3 → callLength k n ≡ 4
+    -- a split or a side split
+    pub length-split : eqb k 3 || eqb k 8 ≡ true → callLength k n ≡ 4
     unfolding callLength
-    length-split h = rw (ne-eqb k 2 l, eq-eqb k 3 h)
+    length-split h = rw (ne-eqb k 2 l, h)
 
-    module _ (s : k ≡ 3 → ⊥) where
+    module _ (s : eqb k 3 || eqb k 8 ≡ false) where
       -- a take-out or a flip
       pub length-other : eqb k 4 || eqb k 5 ≡ true → callLength k n ≡ 3
       unfolding callLength
-      length-other h = rw (ne-eqb k 2 l, ne-eqb k 3 s, h)
+      length-other h = rw (ne-eqb k 2 l, s, h)
 
       -- no command
       pub length-none : eqb k 4 || eqb k 5 ≡ false → callLength k n ≡ 0
       unfolding callLength
-      length-none h = rw (ne-eqb k 2 l, ne-eqb k 3 s, h)
+      length-none h = rw (ne-eqb k 2 l, s, h)
 
-      -- so what has a length and is no load and no split has the length 3
+      -- so what has a length and is no load, no split and no side split has the length 3
       pub length-three : 0 < callLength k n → callLength k n ≡ 3
       length-three p = go (eqb k 4 || eqb k 5) refl
         where
@@ -54,7 +55,7 @@ module _ (k n : ℕ) where
 -- what has a length has two numbers at least
 pub length-two : (k n : ℕ) → 0 < callLength k n → 2 ≤ callLength k n
 unfolding callLength
-length-two k n p = go (eqb k 2) (eqb k 3) (eqb k 4 || eqb k 5) p
+length-two k n p = go (eqb k 2) (eqb k 3 || eqb k 8) (eqb k 4 || eqb k 5) p
   where
     go : (a b c : Bool) → 0 < cond a (n + 2) (cond b 4 (cond c 3 0)) → 2 ≤ cond a (n + 2) (cond b 4 (cond c 3 0))
     go true b c h = omega arith
@@ -182,13 +183,15 @@ module _ {P : ℕ → Type 0} (n : ℕ) (ns : List ℕ) (w : Every P ns) where
 -- the event of 16-bit numbers has 16-bit numbers
 event-words : (ns : List ℕ) → Every (λ n. n < 65536) ns → T (sixteenBitEvent (callEvent ns))
 unfolding callEvent sixteenBitEvent
-event-words ns w = go (eqb (getD ns 0 0) 2) (eqb (getD ns 0 0) 3) (eqb (getD ns 0 0) 4)
+event-words ns w = go (eqb (getD ns 0 0) 2) (eqb (getD ns 0 0) 3) (eqb (getD ns 0 0) 8) (eqb (getD ns 0 0) 4)
   where
-    go : (a b c : Bool) → T (sixteenBitEvent (cond a (load (drop 2 ns)) (cond b (split (getD ns 1 0) (pointAt ns 2)) (cond c (takeOut (pointAt ns 1)) (flip (getD ns 1 0) (getD ns 2 0))))))
-    go true b c = sixteenBit-reflects (drop 2 ns) .from (every-drop 2 ns w)
-    go false true c = tt
-    go false false true = tt
-    go false false false = tt
+    go : (a b c d : Bool) → T (sixteenBitEvent (cond a (load (drop 2 ns)) (cond b (split (getD ns 1 0) (pointAt ns 2))
+        (cond c (sideSplit (getD ns 1 0) (pointAt ns 2)) (cond d (takeOut (pointAt ns 1)) (flip (getD ns 1 0) (getD ns 2 0)))))))
+    go true b c d = sixteenBit-reflects (drop 2 ns) .from (every-drop 2 ns w)
+    go false true c d = tt
+    go false false true d = tt
+    go false false false true = tt
+    go false false false false = tt
 
 upTo-words : (m : ℕ) (ns : List ℕ) → Every (λ n. n < 65536) ns → Every (λ e. T (sixteenBitEvent e)) (decodeUpTo m ns)
 unfolding decodeUpTo

@@ -10,11 +10,11 @@ use Rattle.spec_charts.specs.Edits.{load, split, takeOut, flip}
 use Rattle.spec_charts.proofs.Written.{at}
 use Rattle.replay_calls.specs.Encoding.{callLength, wholeCall, callEvent, decodeUpTo, decode, callNumbers, encode, expressible, shortened, pointFits, clipped}
 
--- for the commands 0 to 7, where 5000000009 comes next; a number beyond 2^32 is no command, whatever its low bits are
+-- for the commands 0 to 9, where 5000000009 comes next; a number beyond 2^32 is no command, whatever its low bits are
 callLength-example :
     map (λ k. callLength k 5000000009)
-    (0 ∷ 1 ∷ 2 ∷ 3 ∷ 4 ∷ 5 ∷ 6 ∷ 7 ∷ 4294967298 ∷ 4294967299 ∷ 4294967300 ∷ 4294967301 ∷ [])
-    ≡ 0 ∷ 0 ∷ 5000000011 ∷ 4 ∷ 3 ∷ 3 ∷ replicate 6 0
+    (0 ∷ 1 ∷ 2 ∷ 3 ∷ 4 ∷ 5 ∷ 6 ∷ 7 ∷ 8 ∷ 9 ∷ 4294967298 ∷ 4294967299 ∷ 4294967300 ∷ 4294967301 ∷ 4294967304 ∷ [])
+    ≡ 0 ∷ 0 ∷ 5000000011 ∷ 4 ∷ 3 ∷ 3 ∷ 0 ∷ 0 ∷ 4 ∷ replicate 6 0
 unfolding callLength
 callLength-example = refl
 

@@ -13,8 +13,8 @@ use lib.ListN.{length}
 use Rattle.spec_plane.specs.declared.Point.{Point}
 use Rattle.spec_charts.specs.Table.{Table, maxTriangles, tableLength}
 use Rattle.spec_charts.specs.declared.Refusal.the-variants.{BadLength, NoSuchTriangle}
-use Rattle.spec_charts.specs.Refusals.{refused, refuseIf, andThen}
-use Rattle.spec_charts.specs.Edits.{Event, load, split, takeOut, flip, loadTable, splitTable, flipTable, proposed, withinLimit, eventOn}
+use Rattle.spec_charts.specs.Refusals.{Outcome, refused, refuseIf, andThen}
+use Rattle.spec_charts.specs.Edits.{Event, load, split, takeOut, flip, sideSplit, loadTable, splitTable, flipTable, sideSplitTable, proposed, withinLimit, eventOn}
 use Rattle.laws_charts.proofs.CountedLaws.{event-limited}
 use Rattle.replay_calls.specs.Encoding.{refusedLoad, shortened}
 
@@ -28,6 +28,10 @@ split-none : (t : ℕ) (p : Point) (table : Table) → length table ≤ t → sp
 unfolding splitTable refuseIf
 split-none t p table h = rw (le-leb (length table) t h)
 
+sideSplit-none : (t : ℕ) (p : Point) (table : Table) → length table ≤ t → sideSplitTable t p table ≡ refused NoSuchTriangle
+unfolding sideSplitTable refuseIf
+sideSplit-none t p table h = rw (le-leb (length table) t h)
+
 flip-none-first : (i j : ℕ) (table : Table) → length table ≤ i → flipTable i j table ≡ refused NoSuchTriangle
 unfolding flipTable refuseIf
 flip-none-first i j table h = rw (le-leb (length table) i h)
@@ -37,6 +41,13 @@ unfolding flipTable refuseIf
 flip-none-second i j table h = rw (le-leb (length table) j h, or-true)
 
 module _ (table : Table) (few : length table ≤ maxTriangles) where
+  -- what is refused for every triangle that the table does not have
+  number-shortened : (f : ℕ → Outcome Table) → ((t : ℕ) → length table ≤ t → f t ≡ refused NoSuchTriangle) → (t : ℕ) → f (min t 65535) ≡ f t
+  number-shortened f beyond t = elim (decLe t 65535) [
+    | yes h ↦ let e : min t 65535 ≡ t = omega arith in ap f e
+    | no h ↦ beyond (min t 65535) (omega arith) ∙ sym (beyond t (omega arith))
+  ]
+
   shortened-proposed : (e : Event) → proposed (shortened e) table ≡ proposed e table
   unfolding shortened proposed loadTable refuseIf
   shortened-proposed (load ns) = go (ltb (length ns) 65536) refl
@@ -44,20 +55,12 @@ module _ (table : Table) (few : length table ≤ maxTriangles) where
       go : (b : Bool) → ltb (length ns) 65536 ≡ b → proposed (cond b (load ns) refusedLoad) table ≡ loadTable ns
       go true e = refl
       go false e = let h = ltb-false (length ns) 65536 e in sym (load-long ns (omega arith))
-  shortened-proposed (split t p) = elim (decLe t 65535) [
-    | yes h ↦ let e : min t 65535 ≡ t = omega arith in rw e
-    | no h ↦ split-none (min t 65535) p table (omega arith) ∙ sym (split-none t p table (omega arith))
-  ]
+  shortened-proposed (split t p) = number-shortened (λ t. splitTable t p table) (λ t h. split-none t p table h) t
   shortened-proposed (takeOut p) = refl
-  shortened-proposed (flip i j) = elim (decLe i 65535) [
-    | yes h ↦ elim (decLe j 65535) [
-      | yes g ↦
-          let e : min i 65535 ≡ i = omega arith in
-          let f : min j 65535 ≡ j = omega arith in rw (e, f)
-      | no g ↦ flip-none-second (min i 65535) (min j 65535) table (omega arith) ∙ sym (flip-none-second i j table (omega arith))
-    ]
-    | no h ↦ flip-none-first (min i 65535) (min j 65535) table (omega arith) ∙ sym (flip-none-first i j table (omega arith))
-  ]
+  shortened-proposed (flip i j) =
+      number-shortened (λ i. flipTable i (min j 65535) table) (λ i h. flip-none-first i (min j 65535) table h) i
+      ∙ number-shortened (λ j. flipTable i j table) (λ j h. flip-none-second i j table h) j
+  shortened-proposed (sideSplit t p) = number-shortened (λ t. sideSplitTable t p table) (λ t h. sideSplit-none t p table h) t
 
   -- it comes to the same on every table, refusal 4 or 6 included
   pub shortened-same : (e : Event) → eventOn (shortened e) table ≡ eventOn e table

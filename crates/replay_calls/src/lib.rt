@@ -15,6 +15,8 @@ pub const TAKE_OUT: u16 = 4;
 
 pub const FLIP: u16 = 5;
 
+pub const SIDE_SPLIT: u16 = 8;
+
 // How many numbers a call takes with its command, by the command and the number after it; 0 where the command is another.
 fn call_length(command: u16, n: u16) -> usize
     ensures { λ r. ⌜ r ≡ callLength command n ⌝ }
@@ -22,7 +24,7 @@ fn call_length(command: u16, n: u16) -> usize
     if command == LOAD {
         return numbers::index(n) + 2;
     }
-    if command == SPLIT {
+    if (command == SPLIT) | (command == SIDE_SPLIT) {
         return 4;
     }
     if (command == TAKE_OUT) | (command == FLIP) {

@@ -4,7 +4,7 @@
 use mathlib.Core.Path.{_≡_, refl}
 use mathlib.Core.Bool.{true, false, false≢true}
 use mathlib.Core.List.{List, [], _∷_, _++_, map}
-use mathlib.Core.Option.{some}
+use mathlib.Core.Option.{none, some}
 use mathlib.Core.Logic.{inl, inr}
 use Prim.Native.Nat.{ℕ}
 use native.Mathlib.Omega.{arith}
@@ -13,17 +13,18 @@ use lib.ListN.{length, drop, replicate}
 use Rattle.theory_orthtree.specs.Entries.{Entry, entry}
 use Rattle.spec_plane.specs.Triangle.{Triangle}
 use Rattle.spec_squares.specs.declared.Square.{Square}
-use Rattle.spec_plane.specs.declared.Position.the-variants.{Inside, AtA}
+use Rattle.spec_plane.specs.declared.Position.the-variants.{Inside, OnBc, AtA}
 use Rattle.spec_charts.specs.Table.{Table, Drawn, sixteenBit, pointAt, triangleAt, tableOf, triangleNumbers, tableNumbers, noTriangle, numbered}
 use Rattle.spec_charts.specs.Cells.{cellsIn, stopped, orMark, entryOf}
-use Rattle.spec_charts.specs.declared.Refusal.the-variants.{FaultyTriangle, NoFlip, TooManyPairs}
+use Rattle.spec_charts.specs.declared.Refusal.the-variants.{FaultyTriangle, NoFlip, TableFull, TooManyPairs}
 use Rattle.spec_charts.specs.Refusals.{alone, rowOf, refused, done, outcomeValue, doneOr}
-use Rattle.spec_charts.specs.Edits.{refuseFaulty, givenTable, loadTable, splitAt, splitTable, mergeAround, mergeThree, takeOutThree, flipAs, flipWith, flipAmong, flipTable, split, flip, proposed, limited}
+use Rattle.spec_charts.specs.Edits.{refuseFaulty, givenTable, loadTable, splitAt, splitTable, mergeAround, mergeThree, takeOutThree, flipAs, flipWith, flipAmong, flipTable, sideFirst, neighbourOr, neighbourFrom, sideSplitAt, sideSplitBoth, withinTable, sideSplitRow, sideSplitFirst, sideSplitTable, split, flip, sideSplit, proposed, limited}
 use Rattle.spec_charts.specs.Overlay.{pair, Earlier, pairNumbers, pairListed, pairsListed, withinPairs, SharesGround, keysOf, rangesOverlap}
 use Rattle.spec_charts.specs.Reading.{listing, located, foundPosition, totalArea}
 use Rattle.spec_charts.proofs.Evaluate.{evaluate}
 use Rattle.spec_charts.proofs.Written.{at, outcomeNumbers}
 use Rattle.spec_charts.proofs.EditExamples.{pa, pb, pc, pd, pp, tri}
+use Rattle.spec_charts.proofs.SideSplitExamples.{neighbour}
 
 -- pp is inside `near`, and `next` has a side of it; `far` is far from both
 abbrev near : Triangle
@@ -191,7 +192,85 @@ flipTable-last : drop 511 (doneOr [] (flipTable 512 513 deep)) ≡ far ∷ tri p
 unfolding evaluate
 flipTable-last = refl
 
-proposed-large : map (λ e. outcomeNumbers (proposed e four)) (split 4294967296 pp ∷ flip 4294967296 2 ∷ flip 0 4294967298 ∷ []) ≡ (6 ∷ 0 ∷ []) ∷ (6 ∷ 0 ∷ []) ∷ (6 ∷ 0 ∷ []) ∷ []
+-- Side split
+
+sideFirst-large : sideFirst OnBc (tri (at 5000000011 12) (at 13 5000000014) (at 5000000015 5000000016))
+    ≡ some (tri (at 13 5000000014) (at 5000000015 5000000016) (at 5000000011 12))
+unfolding evaluate
+sideFirst-large = refl
+
+neighbourOr-large : neighbourOr 5000000003 (some near) none ∷ neighbourOr 3 none (some (neighbour 5000000005 near)) ∷ []
+    ≡ some (neighbour 5000000003 near) ∷ some (neighbour 5000000005 near) ∷ []
+unfolding evaluate
+neighbourOr-large = refl
+
+-- numbered from 5,000,000,003 on, from 2^32 - 1 on; the last of 514, of which 512 is no neighbour
+neighbourFrom-large :
+    neighbourFrom near 5000000003 (next ∷ [])
+    ∷ neighbourFrom near 5000000003 (far ∷ near ∷ next ∷ [])
+    ∷ neighbourFrom near 4294967295 (far ∷ next ∷ [])
+    ∷ neighbourFrom near 0 deep
+    ∷ []
+    ≡ some (neighbour 5000000003 next) ∷ some (neighbour 5000000005 next) ∷ some (neighbour 4294967296 next) ∷ some (neighbour 513 next) ∷ []
+unfolding evaluate
+neighbourFrom-large = refl
+
+-- a place beyond the end is not written
+sideSplitAt-large : sideSplitAt (far ∷ []) 4294967296 near pp ≡ far ∷ tri pp pb pc ∷ []
+unfolding evaluate
+sideSplitAt-large = refl
+
+-- so it is with the place of the triangle, alone and with a neighbour, and with the neighbour's
+sideSplitBoth-large :
+    sideSplitBoth (far ∷ far ∷ []) 4294967296 near pp none
+    ∷ sideSplitBoth (far ∷ far ∷ []) 4294967296 near pp (some (neighbour 1 next))
+    ∷ sideSplitBoth (far ∷ far ∷ []) 1 near pp (some (neighbour 4294967296 next))
+    ∷ []
+    ≡ (far ∷ far ∷ tri pp pb pc ∷ [])
+    ∷ (far ∷ tri pb pp pd ∷ tri pp pb pc ∷ tri pp pa pd ∷ [])
+    ∷ (far ∷ tri pa pp pc ∷ tri pp pb pc ∷ tri pp pa pd ∷ [])
+    ∷ []
+unfolding evaluate
+sideSplitBoth-large = refl
+
+withinTable-large : map (λ n. withinTable (replicate n far)) (513 ∷ 768 ∷ 65536 ∷ []) ≡ replicate 3 (refused TableFull)
+unfolding evaluate
+withinTable-large = refl
+
+-- the neighbour is triangle 0
+sideSplitRow-large : sideSplitRow 4294967297 near pp four ∷ sideSplitFirst 4294967297 (some near) pp four ∷ []
+    ≡ replicate 2 (done (tri pb pp pd ∷ far ∷ near ∷ far ∷ tri pp pb pc ∷ tri pp pa pd ∷ []))
+unfolding evaluate
+sideSplitRow-large = refl
+
+-- (30,15) is on the side of both
+abbrev halved : Triangle
+halved = tri (at 10 10) (at 50 20) (at 20 60)
+
+abbrev beyond : Triangle
+beyond = tri (at 50 20) (at 10 10) (at 40 3)
+
+-- no such triangle; (30,15) is on a side of triangle 512, and the table is full
+sideSplitTable-large :
+    outcomeNumbers (sideSplitTable 4294967296 (at 30 15) (halved ∷ far ∷ []))
+    ∷ outcomeNumbers (sideSplitTable 512 (at 30 15) (replicate 512 far ++ (halved ∷ [])))
+    ∷ []
+    ≡ (6 ∷ 0 ∷ []) ∷ (10 ∷ 0 ∷ []) ∷ []
+unfolding evaluate
+sideSplitTable-large = refl
+
+-- triangle 256 with the neighbour 258, and the other way
+sideSplitTable-256 :
+    map (λ i. drop 255 (doneOr [] (sideSplitTable i (at 30 15) (replicate 256 far ++ (halved ∷ far ∷ beyond ∷ []))))) (256 ∷ 258 ∷ [])
+    ≡ (far ∷ tri (at 10 10) (at 30 15) (at 20 60) ∷ far ∷ tri (at 50 20) (at 30 15) (at 40 3) ∷ tri (at 30 15) (at 50 20) (at 20 60) ∷ tri (at 30 15) (at 10 10) (at 40 3) ∷ [])
+    ∷ (far ∷ tri (at 10 10) (at 30 15) (at 20 60) ∷ far ∷ tri (at 50 20) (at 30 15) (at 40 3) ∷ tri (at 30 15) (at 10 10) (at 40 3) ∷ tri (at 30 15) (at 50 20) (at 20 60) ∷ [])
+    ∷ []
+unfolding evaluate
+sideSplitTable-256 = refl
+
+-- Events
+
+proposed-large : map (λ e. outcomeNumbers (proposed e four)) (split 4294967296 pp ∷ flip 4294967296 2 ∷ flip 0 4294967298 ∷ sideSplit 4294967296 pp ∷ []) ≡ replicate 4 (6 ∷ 0 ∷ [])
 unfolding evaluate
 proposed-large = refl
 

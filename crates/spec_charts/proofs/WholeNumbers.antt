@@ -11,13 +11,14 @@ use Rattle.theory_lists.specs.Lists.{upTo, all}
 use Rattle.theory_orthtree.specs.Entries.{Entry}
 use Rattle.spec_plane.specs.declared.Point.{Point}
 use Rattle.spec_plane.specs.Triangle.{proper, strictlyInside}
+use Rattle.spec_plane.specs.Position.{position}
 use Rattle.spec_plane.specs.Interior.{CommonInterior}
 use Rattle.spec_squares.specs.declared.Square.{Square}
 use Rattle.spec_charts.specs.Table.{Table, IsTable, Drawn, triangleAt, tableOf, numbered, maxTriangles, numbersPerTriangle, tableLength}
 use Rattle.spec_charts.specs.Cells.{orMark, trianglesMeeting, entryOf, cellEntries}
 use Rattle.spec_charts.specs.declared.Refusal.the-variants.{BadLength, NoSuchTriangle, NotInside, TableFull}
 use Rattle.spec_charts.specs.Refusals.{refused, done, refuseIf}
-use Rattle.spec_charts.specs.Edits.{givenTable, loadTable, splitAt, splitTable, rotations, flipAmong, flipTable}
+use Rattle.spec_charts.specs.Edits.{givenTable, loadTable, splitAt, splitTable, rotations, flipAmong, flipTable, sideFirst, withinTable, sideSplitFirst, sideSplitTable}
 use Rattle.spec_charts.specs.Overlay.{SharesGround}
 
 or-true : (b : Bool) → b || true ≡ true
@@ -90,6 +91,22 @@ module _ (i j : ℕ) (table : Table) where
   flip-there : i < length table → j < length table → flipTable i j table ≡ flipAmong table i j (rotations (numbered table j)) (rotations (numbered table i))
   unfolding flipTable refuseIf
   flip-there h k = rw (lt-leb (length table) i h, lt-leb (length table) j k)
+
+module _ (i : ℕ) (p : Point) (table : Table) where
+  sideSplit-none : length table ≤ i → sideSplitTable i p table ≡ refused NoSuchTriangle
+  unfolding sideSplitTable refuseIf
+  sideSplit-none h = rw (le-leb (length table) i h)
+
+  -- a triangle that is there, by its number
+  sideSplit-there : i < length table → sideSplitTable i p table
+      ≡ sideSplitFirst i (sideFirst (position (numbered table i) p) (numbered table i)) p table
+  unfolding sideSplitTable refuseIf
+  sideSplit-there h = rw (lt-leb (length table) i h)
+
+-- any more triangles than 512 are too many
+within-most : (table : Table) → 512 < length table → withinTable table ≡ refused TableFull
+unfolding withinTable refuseIf
+within-most table h = rw (lt-ltb 512 (length table) h)
 
 -- Overlay
 

@@ -38,7 +38,16 @@ returns-3 c =
     let top : tie.Start = search needs in
     (flip-table .flip-table .ensures .0 ∙ ap (proposal top) (sym (edit3 .edit3 .given .1)), search needs)
 
+returns-4 : tie.Need-returns-4
+unfolding proposed
+returns-4 c =
+    let side-split-table : tie.After-side-split-table = search needs in
+    let edit4 : tie.After-edit4 = search needs in
+    let top : tie.Start = search needs in
+    (side-split-table .side-split-table .ensures .0 ∙ ap (proposal top) (sym (edit4 .edit4 .given .1)), search needs)
+
 pub edit-table-spec : {M : Type 1} → statement M
 edit-table-spec =
     tie.close (tie.spec (λ c. search needs) (λ c κs. search needs) (λ c. search needs) (λ c κs. search needs) (λ c. search needs)
-    (λ c κs. search needs) (λ c. search needs) returns (λ c. search needs) returns-2 (λ c. search needs) returns-3)
+    (λ c κs. search needs) (λ c. search needs) (λ c κs. search needs) (λ c. search needs) returns (λ c. search needs) returns-2 (λ c. search needs) returns-3
+    (λ c. search needs) returns-4)
