@@ -6,20 +6,20 @@ use mathlib.Core.Bool.{true, false}
 use mathlib.Core.List.{List, [], _∷_, _++_, map}
 use mathlib.Core.Option.{none, some}
 use Prim.Native.Nat.{ℕ}
-use lib.ListN.{take, replicate}
+use lib.ListN.{length, take, replicate}
 use Rattle.spec_plane.specs.declared.Point.{Point}
 use Rattle.spec_plane.specs.declared.Position.the-variants.{OnAb, Outside}
 use Rattle.spec_plane.specs.Triangle.{Triangle}
 use Rattle.spec_charts.specs.Table.{Table, tableLength}
-use Rattle.spec_charts.specs.Cells.{maxEntries}
-use Rattle.spec_charts.specs.declared.Refusal.the-variants.{ShortBuffer, BrokenChain, StaleEntries, TooManyPairs}
-use Rattle.spec_charts.specs.Refusals.{rowOf, refused, done}
-use Rattle.spec_charts.specs.Edits.{Event, load, split, takeOut, flip, eventOn}
+use Rattle.spec_charts.specs.Cells.{entriesOf, maxEntries}
+use Rattle.spec_charts.specs.declared.Refusal.the-variants.{ShortBuffer, BrokenChain, StaleEntries, NoSuchTriangle, TooManyPairs, NotOnSide}
+use Rattle.spec_charts.specs.Refusals.{rowOf, refused, done, refuseIf, andThen}
+use Rattle.spec_charts.specs.Edits.{Event, load, split, takeOut, flip, sideSplit, sideSplitTable, proposed, limited, withinLimit, counted, eventOn}
 use Rattle.spec_charts.proofs.Written.{at}
 use Rattle.spec_charts.proofs.RefusalsExamples.{rows}
 use Rattle.spec_charts.proofs.EditExamples.{tri}
-use Rattle.spec_calls.specs.Buffers.{Chart, chartOf, indexedChart}
-use Rattle.spec_calls.specs.Calls.{Overlaid, changedBy, loadCall, editCall, splitCall, takeOutCall, flipCall, reading, locateCall, soundCall, areaCall, pairsRefused, overlaidBy, overlayCall}
+use Rattle.spec_calls.specs.Buffers.{Chart, chartOf, tooShort, chainRule, indexed, indexedChart, chartTable}
+use Rattle.spec_calls.specs.Calls.{Overlaid, ifLong, ifChained, ifIndexed, changedBy, loadCall, editCall, splitCall, takeOutCall, flipCall, sideSplitCall, reading, locateCall, soundCall, areaCall, pairsRefused, overlaidBy, overlayCall}
 use Rattle.spec_calls.specs.History.{eventCall, chartAfter}
 use Rattle.spec_calls.proofs.Evaluate.{evaluate}
 
@@ -128,9 +128,27 @@ editCall-example e = refl
 
 -- which event each call is
 edit-calls-example : (t i j : ℕ) (p : Point) (c : Chart)
-    → splitCall t p c ∷ takeOutCall p c ∷ flipCall i j c ∷ []
-    ≡ editCall (split t p) c ∷ editCall (takeOut p) c ∷ editCall (flip i j) c ∷ []
+    → splitCall t p c ∷ takeOutCall p c ∷ flipCall i j c ∷ sideSplitCall t p c ∷ []
+    ≡ editCall (split t p) c ∷ editCall (takeOut p) c ∷ editCall (flip i j) c ∷ editCall (sideSplit t p) c ∷ []
 edit-calls-example t i j p c = refl
+
+-- 1, 2 and 3, then 6 of a triangle that is not there; then 13, inside U, at two corners and next to its side
+sideSplitCall-example :
+    map (λ c. sideSplitCall 9 (at 7 3) c) (short ∷ broken ∷ stale ∷ chartU ∷ [])
+    ++ map (λ p. sideSplitCall 0 p chartU) (at 7 3 ∷ at 0 65535 ∷ at 65535 0 ∷ at 32768 32768 ∷ [])
+    ≡ changedBy short (refused ShortBuffer)
+    ∷ changedBy broken (refused BrokenChain)
+    ∷ changedBy stale (refused StaleEntries)
+    ∷ changedBy chartU (refused NoSuchTriangle)
+    ∷ replicate 4 (changedBy chartU (refused NotOnSide))
+unfolding evaluate
+sideSplitCall-example = refl
+
+-- any chart that 1, 2 and 3 let pass: 6, 13 and 10 by its table, and 11 by the entries of the new one
+sideSplitCall-passed-example : (t : ℕ) (p : Point) (c : Chart) → tooShort c ≡ false → chainRule c ≡ true → indexed c ≡ true
+    → sideSplitCall t p c ≡ changedBy c (andThen (sideSplitTable t p (chartTable c)) (λ u. limited (length (entriesOf u)) u))
+unfolding editCall ifIndexed ifChained ifLong refuseIf eventOn proposed counted withinLimit
+sideSplitCall-passed-example t p c long chained stored = rw (long, chained, stored)
 
 -- Readers
 
@@ -168,7 +186,7 @@ areaCall-example = refl
 
 -- only 12 writes the pairs
 pairsRefused-example : (before : List ℕ)
-    → map (λ r. pairsRefused r before) (take 11 rows) ≡ replicate 11 before
+    → map (λ r. pairsRefused r before) (NotOnSide ∷ take 11 rows) ≡ replicate 12 before
 unfolding evaluate
 pairsRefused-example before = refl
 
@@ -177,8 +195,8 @@ unfolding evaluate
 pairsRefused-many-example = refl
 
 overlaidBy-example : (before : List ℕ)
-    → map (λ r. overlaidBy before (refused r)) (take 11 rows)
-    ≡ map (λ r. record { number = rowOf r .number; pairCount = 0; meets = 0; pairs = before }) (take 11 rows)
+    → map (λ r. overlaidBy before (refused r)) (NotOnSide ∷ take 11 rows)
+    ≡ map (λ r. record { number = rowOf r .number; pairCount = 0; meets = 0; pairs = before }) (NotOnSide ∷ take 11 rows)
 unfolding evaluate
 overlaidBy-example before = refl
 
@@ -219,8 +237,8 @@ overlay-refused-example = refl
 
 -- the event says which call
 eventCall-example : (ns : List ℕ) (c : Chart)
-    → map (λ e. eventCall e c) (load ns ∷ split 3 (at 5 7) ∷ takeOut (at 5 7) ∷ flip 3 5 ∷ [])
-    ≡ loadCall ns c ∷ splitCall 3 (at 5 7) c ∷ takeOutCall (at 5 7) c ∷ flipCall 3 5 c ∷ []
+    → map (λ e. eventCall e c) (load ns ∷ split 3 (at 5 7) ∷ takeOut (at 5 7) ∷ flip 3 5 ∷ sideSplit 3 (at 5 7) ∷ [])
+    ≡ loadCall ns c ∷ splitCall 3 (at 5 7) c ∷ takeOutCall (at 5 7) c ∷ flipCall 3 5 c ∷ sideSplitCall 3 (at 5 7) c ∷ []
 unfolding eventCall
 eventCall-example ns c = refl
 

@@ -12,10 +12,10 @@ use Rattle.spec_plane.specs.declared.Point.{Point}
 use Rattle.spec_charts.specs.Table.{noTriangle}
 use Rattle.spec_charts.specs.declared.Refusal.the-variants.{FaultyTriangle}
 use Rattle.spec_charts.specs.Refusals.{refused, done}
-use Rattle.spec_charts.specs.Edits.{split, flip}
+use Rattle.spec_charts.specs.Edits.{split, flip, sideSplit}
 use Rattle.spec_charts.specs.Overlay.{pair}
 use Rattle.spec_calls.specs.Buffers.{Chart, chartOf, Roomy, padded, zipEntries, chartTable, chartEntries, tableRule, entryCountFits, entriesRule, chainRule, sameEntries, chartWith}
-use Rattle.spec_calls.specs.Calls.{changedBy, editCall, splitCall, flipCall, areaCall, overlaidBy}
+use Rattle.spec_calls.specs.Calls.{changedBy, editCall, splitCall, flipCall, sideSplitCall, areaCall, overlaidBy}
 use Rattle.spec_calls.specs.History.{eventCall}
 use Rattle.spec_calls.specs.Lent.{Held, held}
 use Rattle.spec_calls.proofs.Evaluate.{evaluate}
@@ -119,6 +119,12 @@ edit-large : (p : Point) (c : Chart)
     ≡ editCall (split 4294967296 p) c ∷ editCall (flip 4294967296 4294967297) c ∷ editCall (split 4294967296 p) c ∷ editCall (flip 4294967296 4294967297) c ∷ []
 unfolding eventCall
 edit-large p c = refl
+
+sideSplit-large : (p : Point) (c : Chart)
+    → sideSplitCall 4294967296 p c ∷ eventCall (sideSplit 4294967296 p) c ∷ []
+    ≡ editCall (sideSplit 4294967296 p) c ∷ editCall (sideSplit 4294967296 p) c ∷ []
+unfolding eventCall
+sideSplit-large p c = refl
 
 -- two triangles of doubled area 10^10 and 6 × 10^10, in one cell
 abbrev wide : Chart

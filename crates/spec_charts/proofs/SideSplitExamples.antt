@@ -333,6 +333,11 @@ eventOn-sideSplit-example : map (λ e. eventOn e (tri b a d ∷ t ∷ [])) (side
 unfolding evaluate
 eventOn-sideSplit-example = refl
 
+-- 10 before 11: its entries are not counted
+eventOn-full-example : map (λ z. eventOn (sideSplit 511 z) (replicate 512 t)) (c ∷ p ∷ []) ≡ refused NotOnSide ∷ refused TableFull ∷ []
+unfolding evaluate
+eventOn-full-example = refl
+
 -- all five, refused ones among them: a vertex put on the side and a flip leave three triangles around it, and it is taken out
 abbrev loaded : List ℕ
 unfolding evaluate
