@@ -20,8 +20,8 @@ use Rattle.laws_charts.proofs.TableLaws.{tableOf-length, numbered-at}
 use Rattle.edit_rows.proofs.RowLaws.{withRow, rows-set}
 use Rattle.edit_rows.proofs.CopyLaws.{triangle-read}
 use Rattle.edit_flip.specs.Places.{BothBelow}
-use Rattle.edit_flip.specs.Sharing.{firstSharing}
-use Rattle.edit_flip.proofs.RotationSteps.{RotationsSkipped, skipped-start, skipped-here, skipped-next, skipped-all}
+use Rattle.edit_sides.specs.Sharing.{firstSharing}
+use Rattle.edit_sides.proofs.RotationSteps.{RotationsSkipped, skipped-start, skipped-here, skipped-next, skipped-all}
 
 -- ---- a search for the rotations that share a side
 

@@ -1,2 +1,1 @@
-pub mod RotationSteps
 pub mod FlipSteps

@@ -1,8 +1,6 @@
 // Flip: the side that two triangles of a plain table share is exchanged for the other diagonal. The new table is written into a
 // scratch table.
 
-mod shared_edges;
-
 use base_geometry::geometry;
 use edit_rows::Edited;
 use spec_charts::Refusal;
@@ -55,7 +53,7 @@ pub fn flip_table(table: &[u16], n: usize, i: usize, j: usize, scratch: &mut [u1
     let mut k = 0;
     while k < 3 {
         let v = geometry::rotated(s, k);
-        let m = shared_edges::sharing_rotation(v, u);
+        let m = edit_sides::sharing_rotation(v, u);
         if m < 3 {
             return flip_as(table, n, i, j, v, geometry::rotated(u, m), scratch);
         }

@@ -1,4 +1,4 @@
--- The table of a list of numbers after a triangle is written into one of its rows.
+-- The table of a list of numbers: its rows from one on, and the table after a triangle is written into one of its rows.
 -- The idea: the six numbers of a row are read back where they were written, and those of other rows are as they were.
 -- Assumes nothing.
 use mathlib.Core.Path.{_≡_, refl, sym, _∙_, ap, ap₂}
@@ -8,12 +8,19 @@ use Prim.Native.Nat.{ℕ, zero, suc, _+_, _*_, _≤_, _<_}
 use native.Mathlib.Nat.{add-zero, suc-add, add-suc}
 use native.Mathlib.Omega.{arith}
 use native.Mathlib.Decide.{decLe}
-use lib.ListN.{length, getD, set, length-set}
-use lib.Seq.{sets, length-sets, getD-set-same, getD-set-other, set-at, set-append-left}
+use lib.ListN.{length, getD, set, drop, length-set}
+use lib.Seq.{sets, length-sets, getD-set-same, getD-set-other, set-at, set-append-left, drop-cons}
 use Rattle.theory_lists.specs.Lists.{upTo, countFrom}
 use Rattle.spec_plane.specs.Triangle.{Triangle}
-use Rattle.spec_charts.specs.Table.{numbersPerTriangle, pointAt, triangleAt, tableOf, triangleNumbers}
-use Rattle.laws_charts.proofs.TableLaws.{tableOf-length, tableOf-suc}
+use Rattle.spec_charts.specs.Table.{numbersPerTriangle, pointAt, triangleAt, tableOf, triangleNumbers, numbered, noTriangle}
+use Rattle.laws_charts.proofs.TableLaws.{tableOf-length, tableOf-suc, numbered-at}
+
+-- the rows from number i on: row i, and the rest
+pub rows-cons : (ns : List ℕ) (n i : ℕ) → i < n → drop i (tableOf ns n) ≡ triangleAt ns i ∷ drop (suc i) (tableOf ns n)
+unfolding numbered
+rows-cons ns n i h =
+    drop-cons (tableOf ns n) i noTriangle (omega (arith, tableOf-length ns n))
+    ∙ ap (λ t. t ∷ drop (suc i) (tableOf ns n)) (numbered-at ns n i h)
 
 -- a place before a run of stores, or after it, keeps its number
 pub getD-sets-other : (vs l : List ℕ) (i j : ℕ) → (j < i) ⊎ (i + length vs ≤ j) → getD (sets l i vs) j 0 ≡ getD l j 0

@@ -8,13 +8,13 @@ use Prim.Native.Nat.{ℕ, suc, _+_, _≤_, _<_}
 use native.Mathlib.Numerals.{add-one}
 use native.Mathlib.Omega.{arith}
 use lib.ListN.{drop, drop-of-length-le}
-use lib.Seq.{drop-cons}
 use Rattle.theory_lists.specs.Lists.{placesFrom}
 use Rattle.spec_plane.specs.declared.Point.{Point}
 use Rattle.spec_plane.specs.Triangle.{Triangle}
-use Rattle.spec_charts.specs.Table.{triangleAt, tableOf, numbered, noTriangle}
+use Rattle.spec_charts.specs.Table.{triangleAt, tableOf}
 use Rattle.spec_charts.specs.Edits.{hasCorner}
-use Rattle.laws_charts.proofs.TableLaws.{tableOf-length, numbered-at}
+use Rattle.laws_charts.proofs.TableLaws.{tableOf-length}
+use Rattle.edit_rows.proofs.RowLaws.{rows-cons}
 use Rattle.edit_star.specs.Star.{aroundFrom, NextAround}
 
 module _ (p : Point) where
@@ -37,25 +37,18 @@ module _ (p : Point) where
       pub high : i ≤ n + first
       pub same : aroundFrom p (tableOf ns n) first ≡ aroundFrom p (tableOf ns n) i
 
-    -- the rows from number i on
-    row-cons : (i : ℕ) → i < n → drop i (tableOf ns n) ≡ triangleAt ns i ∷ drop (suc i) (tableOf ns n)
-    unfolding numbered
-    row-cons i h =
-        drop-cons (tableOf ns n) i noTriangle (omega (arith, tableOf-length ns n))
-        ∙ ap (λ t. t ∷ drop (suc i) (tableOf ns n)) (numbered-at ns n i h)
-
     -- triangle i has it
     around-hit : (i : ℕ) → i < n → hasCorner p (triangleAt ns i) ≡ true
         → aroundFrom p (tableOf ns n) i ≡ i ∷ aroundFrom p (tableOf ns n) (i + 1)
     around-hit i h e =
-        ap (placesFrom (λ t. hasCorner p t) i) (row-cons i h) ∙ cons-hit i (triangleAt ns i) (drop (suc i) (tableOf ns n)) e
+        ap (placesFrom (λ t. hasCorner p t) i) (rows-cons ns n i h) ∙ cons-hit i (triangleAt ns i) (drop (suc i) (tableOf ns n)) e
         ∙ ap (λ k. i ∷ aroundFrom p (tableOf ns n) k) (sym (add-one i))
 
     -- triangle i does not have it
     around-miss : (i : ℕ) → i < n → hasCorner p (triangleAt ns i) ≡ false
         → aroundFrom p (tableOf ns n) i ≡ aroundFrom p (tableOf ns n) (i + 1)
     around-miss i h e =
-        ap (placesFrom (λ t. hasCorner p t) i) (row-cons i h) ∙ cons-miss i (triangleAt ns i) (drop (suc i) (tableOf ns n)) e
+        ap (placesFrom (λ t. hasCorner p t) i) (rows-cons ns n i h) ∙ cons-miss i (triangleAt ns i) (drop (suc i) (tableOf ns n)) e
         ∙ ap (aroundFrom p (tableOf ns n)) (sym (add-one i))
 
     -- past the rows there is none

@@ -1,7 +1,7 @@
 -- One call by its numbers: how many they are, and which call of a chart they make.
 -- Assumes nothing.
 use mathlib.Core.Path.{_≡_, refl, sym, _∙_}
-use mathlib.Core.Bool.{Bool, true, false, _||_}
+use mathlib.Core.Bool.{Bool, true, false, true≢false, _||_}
 use mathlib.Core.List.{List}
 use Prim.Native.Nat.{ℕ, _-_, _≤_}
 use native.Mathlib.Omega.{arith}
@@ -18,7 +18,7 @@ use Rattle.replay_calls.proofs.EncodingLaws.{length-load, length-split, length-
 
 -- a command that is none of two
 neither : (a b : Bool) → a || b ≡ false → (a ≡ false) × (b ≡ false)
-neither true b e = (e, absurd (rw (sym e) tt))
+neither true b e = absurd (true≢false e)
 neither false b e = (refl, e)
 
 -- one that is not the first of two is the second

@@ -7,7 +7,7 @@ use Rattle.spec_plane.specs.Triangle.{triangleOf}
 use Rattle.spec_charts.specs.Table.{tableOf}
 use Rattle.spec_charts.specs.Edits.{rotations, flipAs}
 use Rattle.edit_flip.specs.Places.{BothBelow}
-use Rattle.edit_flip.specs.Sharing.{firstSharing}
+use Rattle.edit_sides.specs.Sharing.{firstSharing}
 use Rattle.edit_flip.proofs.FlipSteps.{Tried, tried-start, tried-hit, tried-next, tried-end, neither-over, flip-beyond, flip-begun}
 use Rattle.edit_flip.proofs.flip_table.Statement.{statement}
 use Rattle.edit_flip.proofs.flip_table.Tie as tie

@@ -1,12 +1,13 @@
 -- The first number of a call says which call it is, and each is the call of its event.
-use mathlib.Core.Path.{_∙_}
+use mathlib.Core.Path.{_≡_, _∙_}
 use mathlib.Core.List.{List}
 use Prim.Native.Nat.{ℕ}
 use native.Mathlib.Omega.{arith}
 use borrow.Author.Needs.{needs}
+use lib.ListN.{length}
 use Rattle.spec_calls.specs.Buffers.{Chart}
 use Rattle.spec_calls.specs.Lent.{held}
-use Rattle.replay_lists.proofs.CallLaws.{load-long, split-long, other-long, load-event, split-event, takeOut-event, flip-event}
+use Rattle.replay_lists.proofs.CallLaws.{load-long, split-numbers, other-long, load-event, takeOut-event, flip-event}
 use Rattle.replay_lists.proofs.call_steps.run_call.Statement.{statement}
 use Rattle.replay_lists.proofs.call_steps.run_call.Tie as tie
 
@@ -43,49 +44,24 @@ returns c =
     let top = then1-to-top then1 in
     load .load .ensures ∙ load-event (numbers top) (chart top) (then1 .if1 .taken)
 
-shared-slice-read-index : tie.Need-shared-slice-read-index
-shared-slice-read-index c =
+run-split-requires : tie.Need-run-split-requires
+run-split-requires c κs =
     let then2 : tie.Then2 = search needs in
     let else1 : tie.Else1 = search needs in
     let top = else1-to-top else1 in
-    omega (arith, split-long (numbers top) (top .pre) (else1 .if1 .left) (then2 .if2 .taken))
-
-shared-slice-read-t31 : tie.Need-shared-slice-read-t31
-shared-slice-read-t31 c =
-    let then2 : tie.Then2 = search needs in
-    let else1 : tie.Else1 = search needs in
-    let top = else1-to-top else1 in
-    omega (arith, split-long (numbers top) (top .pre) (else1 .if1 .left) (then2 .if2 .taken))
-
-shared-slice-read-t34 : tie.Need-shared-slice-read-t34
-shared-slice-read-t34 c =
-    let then2 : tie.Then2 = search needs in
-    let else1 : tie.Else1 = search needs in
-    let top = else1-to-top else1 in
-    omega (arith, split-long (numbers top) (top .pre) (else1 .if1 .left) (then2 .if2 .taken))
+    split-numbers (numbers top) (top .pre) (else1 .if1 .left) (then2 .if2 .taken)
 
 returns-2 : tie.Need-returns-2
 returns-2 c =
-    let split : tie.After-split = search needs in
-    let index : tie.After-index = search needs in
-    let then2 : tie.Then2 = search needs in
-    let else1 : tie.Else1 = search needs in
-    let top = else1-to-top else1 in
-    split .split .ensures ∙ split-event (numbers top) (chart top) (else1 .if1 .left) (then2 .if2 .taken) (index .index .ensures .0)
+    let run-split : tie.After-run-split = search needs in
+    run-split .run-split .ensures
 
-shared-slice-read-t45 : tie.Need-shared-slice-read-t45
-shared-slice-read-t45 c =
-    let else2 : tie.Else2 = search needs in
+-- the numbers of a take-out or a flip are three
+long : (c : tie.Else2) → let else1 : tie.Else1 = search needs in let top = else1-to-top else1 in length (numbers top) ≡ 3
+long c =
     let else1 : tie.Else1 = search needs in
     let top = else1-to-top else1 in
-    omega (arith, other-long (numbers top) (top .pre) (else1 .if1 .left) (else2 .if2 .left))
-
-shared-slice-read-t47 : tie.Need-shared-slice-read-t47
-shared-slice-read-t47 c =
-    let else2 : tie.Else2 = search needs in
-    let else1 : tie.Else1 = search needs in
-    let top = else1-to-top else1 in
-    omega (arith, other-long (numbers top) (top .pre) (else1 .if1 .left) (else2 .if2 .left))
+    other-long (numbers top) (top .pre) (else1 .if1 .left) (c .if2 .left)
 
 returns-3 : tie.Need-returns-3
 returns-3 c =
@@ -96,36 +72,24 @@ returns-3 c =
     let top = else1-to-top else1 in
     take-out .take-out .ensures ∙ takeOut-event (numbers top) (chart top) (else1 .if1 .left) (else2 .if2 .left) (then3 .if3 .taken)
 
-shared-slice-read-index-2 : tie.Need-shared-slice-read-index-2
-shared-slice-read-index-2 c =
-    let else2 : tie.Else2 = search needs in
-    let else1 : tie.Else1 = search needs in
-    let top = else1-to-top else1 in
-    omega (arith, other-long (numbers top) (top .pre) (else1 .if1 .left) (else2 .if2 .left))
-
-shared-slice-read-index-3 : tie.Need-shared-slice-read-index-3
-shared-slice-read-index-3 c =
-    let else2 : tie.Else2 = search needs in
-    let else1 : tie.Else1 = search needs in
-    let top = else1-to-top else1 in
-    omega (arith, other-long (numbers top) (top .pre) (else1 .if1 .left) (else2 .if2 .left))
-
 returns-4 : tie.Need-returns-4
 returns-4 c =
     let flip : tie.After-flip = search needs in
-    let index3 : tie.After-index3 = search needs in
     let index2 : tie.After-index2 = search needs in
+    let index : tie.After-index = search needs in
     let else3 : tie.Else3 = search needs in
     let else2 : tie.Else2 = search needs in
     let else1 : tie.Else1 = search needs in
     let top = else1-to-top else1 in
-    flip .flip .ensures ∙ flip-event (numbers top) (chart top) (else1 .if1 .left) (else2 .if2 .left) (else3 .if3 .left) (index2 .index2 .ensures .0) (index3 .index3 .ensures .0)
+    flip .flip .ensures ∙ flip-event (numbers top) (chart top) (else1 .if1 .left) (else2 .if2 .left) (else3 .if3 .left) (index .index .ensures .0) (index2 .index2 .ensures .0)
 
 pub run-call-spec : {M : Type 1} → statement M
 run-call-spec =
     tie.close (tie.spec (λ c. search needs) sub-words part-words-start (λ c. search needs) (λ c κs. search needs) (λ c. search needs)
-    (λ c. search needs) (λ c. search needs) (λ c. search needs) returns (λ c. search needs) shared-slice-read-index (λ c κs. search needs)
-    shared-slice-read-t31 shared-slice-read-t34 (λ c κs. search needs) (λ c. search needs) (λ c. search needs) (λ c. search needs) (λ c. search needs)
-    returns-2 (λ c. search needs) shared-slice-read-t45 shared-slice-read-t47 (λ c κs. search needs) (λ c. search needs) (λ c. search needs)
-    (λ c. search needs) (λ c. search needs) returns-3 shared-slice-read-index-2 (λ c κs. search needs) shared-slice-read-index-3
-    (λ c κs. search needs) (λ c κs. search needs) (λ c. search needs) (λ c. search needs) (λ c. search needs) (λ c. search needs) returns-4)
+    (λ c. search needs) (λ c. search needs) (λ c. search needs) returns (λ c. search needs) (λ c. search needs) run-split-requires
+    (λ c. search needs) (λ c. search needs) (λ c. search needs) (λ c. search needs) returns-2 (λ c. search needs)
+    (λ c. let else2 : tie.Else2 = search needs in omega (arith, long else2))
+    (λ c. let else2 : tie.Else2 = search needs in omega (arith, long else2)) (λ c κs. search needs) (λ c. search needs) (λ c. search needs)
+    (λ c. search needs) (λ c. search needs) returns-3 (λ c. let else2 : tie.Else2 = search needs in omega (arith, long else2))
+    (λ c κs. search needs) (λ c. let else2 : tie.Else2 = search needs in omega (arith, long else2)) (λ c κs. search needs)
+    (λ c κs. search needs) (λ c. search needs) (λ c. search needs) (λ c. search needs) (λ c. search needs) returns-4)

@@ -4,10 +4,10 @@ use Prim.Native.Nat.{_-_}
 use borrow.Author.Needs.{needs}
 use Rattle.spec_plane.specs.Triangle.{triangleOf, rotated}
 use Rattle.spec_charts.specs.Edits.{sharesSide}
-use Rattle.edit_flip.specs.Sharing.{firstSharing}
-use Rattle.edit_flip.proofs.RotationSteps.{RotationsSkipped, skipped-start, skipped-next, sharing-miss, sharing-found, sharing-absent}
-use Rattle.edit_flip.proofs.shared_edges.sharing_rotation.Statement.{statement}
-use Rattle.edit_flip.proofs.shared_edges.sharing_rotation.Tie as tie
+use Rattle.edit_sides.specs.Sharing.{firstSharing}
+use Rattle.edit_sides.proofs.RotationSteps.{RotationsSkipped, skipped-start, skipped-next, sharing-miss, sharing-found, sharing-absent}
+use Rattle.edit_sides.proofs.sharing_rotation.Statement.{statement}
+use Rattle.edit_sides.proofs.sharing_rotation.Tie as tie
 
 abbrev Inv-loop : tie.InvT-loop
 Inv-loop s u k₀ k = RotationsSkipped (firstSharing (triangleOf s)) u k

@@ -12,7 +12,7 @@ use Rattle.theory_lists.specs.Lists.{first}
 use Rattle.spec_plane.specs.declared.Point.{Point}
 use Rattle.spec_plane.specs.Triangle.{Triangle, triangleOf, cornerAt, rotated}
 use Rattle.spec_charts.specs.Edits.{triangle, rotations, sharesSide}
-use Rattle.edit_flip.specs.Sharing.{firstSharing, SharingRotation}
+use Rattle.edit_sides.specs.Sharing.{firstSharing, RotationFound}
 
 -- the rotations of a triangle from number k on: rotation k, and the rest
 rotation-cons : (t : List Point) (k : ℕ) → k < 3
@@ -67,7 +67,7 @@ module _ (x : Triangle) where
 
   module _ (u : List Point) {k : ℕ} (s : RotationsSkipped (firstSharing x) u k) where
     -- rotation k does
-    pub sharing-found : k < 3 → sharesSide x (triangleOf (rotated u k)) ≡ true → SharingRotation x u k
+    pub sharing-found : k < 3 → sharesSide x (triangleOf (rotated u k)) ≡ true → RotationFound (firstSharing x (rotations (triangleOf u))) u k
     sharing-found h e =
         record {
           found = λ _. skipped-here (firstSharing x) u s h ∙ sharing-hit (triangleOf (rotated u k)) (drop (k + 1) (rotations (triangleOf u))) e;
@@ -75,6 +75,6 @@ module _ (x : Triangle) where
         }
 
     -- no rotation does
-    pub sharing-absent : 3 ≤ k → SharingRotation x u 3
+    pub sharing-absent : 3 ≤ k → RotationFound (firstSharing x (rotations (triangleOf u))) u 3
     unfolding first
     sharing-absent h = record { found = λ l. absurd (omega arith); absent = λ _. skipped-all (firstSharing x) u s h }

@@ -3,8 +3,8 @@ use mathlib.Core.Bool.{_&&_}
 use Rattle.spec_plane.specs.Triangle.{triangleOf, cornerAt}
 use Rattle.spec_charts.specs.Edits.{sharesSide}
 use borrow.Author.Needs.{needs}
-use Rattle.edit_flip.proofs.shared_edges.shares_side.Statement.{statement}
-use Rattle.edit_flip.proofs.shared_edges.shares_side.Tie as tie
+use Rattle.edit_sides.proofs.shares_side.Statement.{statement}
+use Rattle.edit_sides.proofs.shares_side.Tie as tie
 
 returns : tie.Need-returns
 unfolding sharesSide triangleOf cornerAt

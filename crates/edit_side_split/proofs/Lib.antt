@@ -1,0 +1,2 @@
+pub mod NeighbourSteps
+pub mod SideSplitSteps

@@ -1,0 +1,160 @@
+-- What a side split comes to, by its tests; and the table that its rows make.
+-- Assumes nothing.
+use mathlib.Core.Path.{_≡_, refl, sym, _∙_, ap, ap₂, subst}
+use mathlib.Core.List.{List, [], _∷_, _++_}
+use mathlib.Core.Option.{Option, none, some}
+use Prim.Native.Nat.{ℕ, _+_, _*_, _≤_, _<_}
+use native.Mathlib.Numerals.{add-one}
+use native.Mathlib.Omega.{arith}
+use borrow.Author.Tests.{lt-ltb, le-ltb, le-leb, lt-leb}
+use lib.ListN.{length, set}
+use Rattle.spec_plane.specs.declared.Point.{Point}
+use Rattle.spec_plane.specs.declared.Position.{Position}
+use Rattle.spec_plane.specs.declared.Position.the-variants.{Inside, OnAb, OnBc, OnCa, AtA, AtB, AtC, Outside}
+use Rattle.spec_plane.specs.Triangle.{Triangle, triangleOf, cornerAt, corners, rotated}
+use Rattle.spec_plane.specs.Position.{position}
+use Rattle.spec_charts.specs.Table.{numbersPerTriangle, maxTriangles, Table, triangleAt, tableOf}
+use Rattle.spec_charts.specs.declared.Refusal.the-variants.{NoSuchTriangle, TableFull, NotOnSide}
+use Rattle.spec_charts.specs.Refusals.{refused, done, refuseIf}
+use Rattle.spec_charts.specs.Edits.{triangle, Neighbour, neighbourFrom, sideFirst, sideSplitAt, sideSplitBoth, withinTable, sideSplitRow, sideSplitFirst, sideSplitTable}
+use Rattle.laws_charts.proofs.TableLaws.{tableOf-length, numbered-at}
+use Rattle.laws_charts.proofs.SideSplitLaws.{neighbour-found, sideSplitAt-length}
+use Rattle.edit_rows.proofs.RowLaws.{withRow, withRow-length, rows-append, rows-set}
+use Rattle.edit_rows.proofs.CopyLaws.{triangle-read}
+use Rattle.edit_sides.specs.Sharing.{RotationFound}
+use Rattle.edit_side_split.specs.Sides.{SideRotation}
+
+-- ---- the rotation with p on its side ab
+
+-- its number; 3 stands for none
+abbrev pub sideNumber : Position → ℕ
+sideNumber Inside = 3
+sideNumber OnAb = 0
+sideNumber OnBc = 1
+sideNumber OnCa = 2
+sideNumber AtA = 3
+sideNumber AtB = 3
+sideNumber AtC = 3
+sideNumber Outside = 3
+
+-- it is found
+first-found : {o : Option Triangle} {s : List Point} (r : ℕ) → r < 3 → o ≡ some (triangleOf (rotated s r)) → RotationFound o s r
+first-found r h e = record { found = λ _. e; absent = λ over. absurd (omega arith) }
+
+-- there is none
+first-absent : {o : Option Triangle} {s : List Point} → o ≡ none → RotationFound o s 3
+first-absent e = record { found = λ below. absurd (omega arith); absent = λ _. e }
+
+numbered-side : (q : Position) → SideRotation q (sideNumber q)
+unfolding sideFirst triangle triangleOf rotated cornerAt
+numbered-side Inside s = first-absent refl
+numbered-side OnAb s = first-found 0 (omega arith) refl
+numbered-side OnBc s = first-found 1 (omega arith) refl
+numbered-side OnCa s = first-found 2 (omega arith) refl
+numbered-side AtA s = first-absent refl
+numbered-side AtB s = first-absent refl
+numbered-side AtC s = first-absent refl
+numbered-side Outside s = first-absent refl
+
+-- for what is told of a position
+pub side-told : {q : Position} (told : Position) → q ≡ told → SideRotation q (sideNumber told)
+side-told told e = subst (λ q. SideRotation q (sideNumber told)) (sym e) (numbered-side told)
+
+-- ---- the rows
+
+-- a triangle in row i, and one behind the rows
+pub row-split : (o : List ℕ) {o₁ o₂ : List ℕ} (n i : ℕ) (x y : Triangle) → i < n → numbersPerTriangle * (n + 1) ≤ length o → o₁ ≡ withRow o i x
+    → o₂ ≡ withRow o₁ n y → tableOf o₂ (n + 1) ≡ set (tableOf o n) i x ++ (y ∷ [])
+row-split o {o₁} n i x y h room e₁ e₂ =
+    let l : length o₁ ≡ length o = ap length e₁ ∙ withRow-length o i x in
+    ap₂ tableOf e₂ (add-one n) ∙ rows-append o₁ n y (omega arith)
+    ∙ ap (λ l. l ++ (y ∷ [])) (ap (λ l. tableOf l n) e₁ ∙ rows-set o i n x h (omega arith))
+
+-- the same twice: the triangles on both sides
+pub both-rows : (o₁ o₂ : List ℕ) (n : ℕ) {half : Table} {v : List Point} (j : ℕ) (u : List Point) (p : Point) → tableOf o₁ (n + 1) ≡ half → v ≡ u
+    → tableOf o₂ (n + 1 + 1) ≡ sideSplitAt (tableOf o₁ (n + 1)) j (triangleOf v) p → tableOf o₂ (n + 2) ≡ sideSplitAt half j (triangleOf u) p
+both-rows o₁ o₂ n j u p e₁ ev e₂ =
+    let m : n + 2 ≡ n + 1 + 1 = omega arith in
+    ap (tableOf o₂) m ∙ e₂ ∙ ap₂ (λ l w. sideSplitAt l j (triangleOf w) p) e₁ ev
+
+-- ---- refusal 10
+
+within-full : (next : Table) → maxTriangles < length next → withinTable next ≡ refused TableFull
+unfolding withinTable refuseIf
+within-full next h = rw (lt-ltb maxTriangles (length next) h)
+
+within-done : (next : Table) → length next ≤ maxTriangles → withinTable next ≡ done next
+unfolding withinTable refuseIf
+within-done next h = rw (le-ltb maxTriangles (length next) h)
+
+-- ---- the triangle, and the one on the other side
+
+module _ (ns : List ℕ) (n i : ℕ) (t : Triangle) (p : Point) where
+  -- the table with the triangle split
+  abbrev pub half : Table
+  half = sideSplitAt (tableOf ns n) i t p
+
+  half-length : length half ≡ n + 1
+  half-length = sideSplitAt-length (tableOf ns n) i t p ∙ ap (λ m. m + 1) (tableOf-length ns n)
+
+  module _ (e : neighbourFrom t 0 (tableOf ns n) ≡ none) where
+    alone : sideSplitRow i t p (tableOf ns n) ≡ withinTable half
+    unfolding sideSplitRow sideSplitBoth
+    alone = ap (λ o. withinTable (sideSplitBoth (tableOf ns n) i t p o)) e
+
+    -- refusal 10: "511 alone" is accepted, 512 is not
+    pub alone-full : maxTriangles < n + 1 → sideSplitRow i t p (tableOf ns n) ≡ refused TableFull
+    alone-full h = alone ∙ within-full half (omega (arith, half-length))
+
+    -- done
+    pub alone-made : n + 1 ≤ maxTriangles → sideSplitRow i t p (tableOf ns n) ≡ done half
+    alone-made h = alone ∙ within-done half (omega (arith, half-length))
+
+  module _ {u : Neighbour} (e : neighbourFrom t 0 (tableOf ns n) ≡ some u) where
+    -- it is in the table
+    pub neighbour-below : u .number < n
+    neighbour-below = omega (arith, neighbour-found t (tableOf ns n) e .below, tableOf-length ns n)
+
+    -- the table with both split
+    abbrev whole : Table
+    whole = sideSplitAt half (u .number) (u .rotation) p
+
+    whole-length : length whole ≡ n + 2
+    whole-length = omega (arith, sideSplitAt-length half (u .number) (u .rotation) p, half-length)
+
+    both : sideSplitRow i t p (tableOf ns n) ≡ withinTable whole
+    unfolding sideSplitRow sideSplitBoth
+    both = ap (λ o. withinTable (sideSplitBoth (tableOf ns n) i t p o)) e
+
+    -- refusal 10: 511 and more are not accepted
+    pub both-full : maxTriangles < n + 2 → sideSplitRow i t p (tableOf ns n) ≡ refused TableFull
+    both-full h = both ∙ within-full whole (omega (arith, whole-length))
+
+    -- done
+    pub both-made : n + 2 ≤ maxTriangles → sideSplitRow i t p (tableOf ns n) ≡ done (sideSplitAt half (u .number) (u .rotation) p)
+    both-made h = both ∙ within-done whole (omega (arith, whole-length))
+
+-- ---- side split
+
+module _ (ns : List ℕ) (n i : ℕ) (p : Point) where
+  -- refusal 6
+  pub side-beyond : n ≤ i → sideSplitTable i p (tableOf ns n) ≡ refused NoSuchTriangle
+  unfolding sideSplitTable refuseIf
+  side-beyond h = rw (tableOf-length ns n, le-leb n i h)
+
+  module _ (h : i < n) {s : List Point} (read : s ≡ corners (triangleAt ns i)) {k : ℕ}
+      (tried : RotationFound (sideFirst (position (triangleOf s) p) (triangleOf s)) s k) where
+    side-within : sideSplitTable i p (tableOf ns n)
+        ≡ sideSplitFirst i (sideFirst (position (triangleOf s) p) (triangleOf s)) p (tableOf ns n)
+    unfolding sideSplitTable refuseIf
+    side-within = rw (tableOf-length ns n, lt-leb n i h, numbered-at ns n i h, triangle-read (triangleAt ns i) read)
+
+    -- refusal 13
+    pub side-off : 3 ≤ k → sideSplitTable i p (tableOf ns n) ≡ refused NotOnSide
+    unfolding sideSplitFirst
+    side-off b = side-within ∙ ap (λ o. sideSplitFirst i o p (tableOf ns n)) (tried .absent b)
+
+    -- the triangle by its rotation
+    pub side-on : k < 3 → sideSplitTable i p (tableOf ns n) ≡ sideSplitRow i (triangleOf (rotated s k)) p (tableOf ns n)
+    unfolding sideSplitFirst
+    side-on b = side-within ∙ ap (λ o. sideSplitFirst i o p (tableOf ns n)) (tried .found b)
