@@ -1,4 +1,4 @@
-"""Document 01's numbers in words, and what to do. These words stand nowhere else.
+"""Document 01's numbers and document 02's in words, and what to do. These words stand nowhere else.
 
 In the words, {T} is the triangle that is printed beside the number, {N} the chart's count of triangles, {W} where it was written.
 A program that calls the engine has no paper, and its own words where those above would not fit."""
@@ -66,6 +66,11 @@ NUMBERS = (
         "sides that run close to each other without a common end cost most: join or part them",
     ),
     Number(12, "over 4,096 pairs share ground", "overlay a part of the chart"),
+    Number(
+        13,
+        "the point is on no side of that triangle, or at an end of one",
+        "it lies outside, at a corner, or inside, where a split takes it; locate tells which; a paper cannot meet it",
+    ),
 )
 
 

@@ -50,6 +50,15 @@ jird_changed jird_split(
     uint8_t *levels, size_t levels_length, uint16_t *items, size_t items_length,
     size_t triangles, size_t entries, size_t i, uint16_t x, uint16_t y);
 
+/* Triangle i, rotated to (a, b, c) with p = (x, y) on its side ab and not at its ends, is split there: (a, p, c) takes its place and
+ * (p, b, c) comes last. If other triangles rotate to (b, a, d), the lowest numbered becomes (b, p, d), and (p, a, d) comes after that.
+ * Gives 0, 1, 2, 3, 6, 13, 10 or 11; checked in this order. 10 is over 512 with what is really added, one triangle or two.
+ * Writes as jird_load. Stack: at most 256 KB. */
+jird_changed jird_side_split(
+    uint16_t *table, size_t table_length, uint32_t *keys, size_t keys_length,
+    uint8_t *levels, size_t levels_length, uint16_t *items, size_t items_length,
+    size_t triangles, size_t entries, size_t i, uint16_t x, uint16_t y);
+
 /* The point p = (x, y) is taken out: of exactly three triangles around it, (a, b, p), (b, c, p) and (c, a, p), the lowest numbered
  * becomes (a, b, c), the other two go, and later ones move down.
  * Gives 0, 1, 2, 3, 8 or 11; a take-out adds no side, so that 11 is not to be expected. Writes as jird_load. Stack: at most 256 KB. */
@@ -116,6 +125,15 @@ static inline jird_changed jird_chart_load(jird_chart *c, const uint16_t *number
 
 static inline jird_changed jird_chart_split(jird_chart *c, size_t i, uint16_t x, uint16_t y) {
     jird_changed r = jird_split(
+        c->table, JIRD_TABLE_LENGTH, c->keys, JIRD_ENTRIES_LENGTH,
+        c->levels, JIRD_ENTRIES_LENGTH, c->items, JIRD_ENTRIES_LENGTH, c->triangles, c->entries, i, x, y);
+    c->triangles = r.triangles;
+    c->entries = r.entries;
+    return r;
+}
+
+static inline jird_changed jird_chart_side_split(jird_chart *c, size_t i, uint16_t x, uint16_t y) {
+    jird_changed r = jird_side_split(
         c->table, JIRD_TABLE_LENGTH, c->keys, JIRD_ENTRIES_LENGTH,
         c->levels, JIRD_ENTRIES_LENGTH, c->items, JIRD_ENTRIES_LENGTH, c->triangles, c->entries, i, x, y);
     c->triangles = r.triangles;
@@ -205,6 +223,8 @@ static inline const char *jird_words(uint32_t number) {
         return "the new chart would have over 16,384 entries";
     case JIRD_TOO_MANY_PAIRS:
         return "over 4,096 pairs share ground";
+    case JIRD_NOT_ON_SIDE:
+        return "the point is on no side of that triangle, or at an end of one";
     default:
         return "no number that a call gives";
     }

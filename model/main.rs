@@ -46,6 +46,7 @@
 //! counts they give back as the counts of the chart.
 //!   load C n1 n2 ...     load NUMBER REF N M HASH
 //!   split C t x y        split NUMBER REF N M HASH
+//!   side_split C t x y   side_split NUMBER REF N M HASH
 //!   take_out C x y       take_out NUMBER REF N M HASH
 //!   flip C i j           flip NUMBER REF N M HASH
 //!   locate C x y         locate NUMBER TRIANGLE POSITION HASH   (TRIANGLE or
@@ -420,6 +421,11 @@ impl Bench {
             "split" => {
                 exact(5)?;
                 let r = chart.split(num(2)?, pt(coord(3)?, coord(4)?));
+                edited(r, chart)
+            }
+            "side_split" => {
+                exact(5)?;
+                let r = chart.side_split(num(2)?, pt(coord(3)?, coord(4)?));
                 edited(r, chart)
             }
             "take_out" => {

@@ -1,5 +1,5 @@
-//! Reference model of document 01, with wish 1 of document 02: chart overlay
-//! on a whole-number star-quadtree. Written for clarity; every edit rebuilds
+//! Reference model of document 01, with wishes 1 and 2 of document 02: chart
+//! overlay on a whole-number star-quadtree. Written for clarity; every edit rebuilds
 //! all entries from the table. Nothing here is clever on purpose, save that
 //! the search for cells hands only what met a square on to its quarters.
 
@@ -364,6 +364,44 @@ pub fn plain_split(table: &[Tri], t: u64, p: Point) -> Outcome {
     with_entries(new)
 }
 
+/// Is p on the side from a to b, and at neither end?
+/// Told by the way from p to either end: no area between them, and opposite.
+pub fn strictly_between(a: Point, b: Point, p: Point) -> bool {
+    let (to_a, to_b) = ((a.x - p.x, a.y - p.y), (b.x - p.x, b.y - p.y));
+    to_a.0 * to_b.1 == to_a.1 * to_b.0 && to_a.0 * to_b.0 + to_a.1 * to_b.1 < 0
+}
+
+pub fn plain_side_split(table: &[Tri], t: u64, p: Point) -> Outcome {
+    if t >= table.len() as u64 {
+        return Err(no(6));
+    }
+    let t = t as usize;
+    let first = (0..3).map(|k| turned(&table[t], k)).find(|s| strictly_between(s[0], s[1], p));
+    let Some([a, b, c]) = first else { return Err(no(13)) };
+    // Every other triangle in every rotation: those with the side b to a.
+    let mut beside: Vec<(usize, Point)> = Vec::new();
+    for (j, other) in table.iter().enumerate().filter(|(j, _)| *j != t) {
+        for [from, to, d] in [0, 1, 2].map(|k| turned(other, k)) {
+            if (from, to) == (b, a) {
+                beside.push((j, d));
+            }
+        }
+    }
+    let neighbour = beside.into_iter().min_by_key(|n| n.0);
+    // What is put in place of old triangles, and what comes after them all.
+    let mut replaced = vec![(t, [a, p, c])];
+    let mut added = vec![[p, b, c]];
+    if let Some((j, d)) = neighbour {
+        replaced.push((j, [b, p, d]));
+        added.push([p, a, d]);
+    }
+    if table.len() + added.len() > MAX_TRIANGLES {
+        return Err(no(10));
+    }
+    let kept = (0..table.len()).map(|i| replaced.iter().find(|r| r.0 == i).map_or(table[i], |r| r.1));
+    with_entries(kept.chain(added).collect())
+}
+
 pub fn plain_take_out(table: &[Tri], p: Point) -> Outcome {
     let places: Vec<usize> = (0..table.len()).filter(|&i| table[i].contains(&p)).collect();
     if places.len() != 3 {
@@ -565,6 +603,10 @@ impl Chart {
 
     pub fn split(&mut self, t: u64, p: Point) -> Refusal {
         self.edit(|table| plain_split(table, t, p))
+    }
+
+    pub fn side_split(&mut self, t: u64, p: Point) -> Refusal {
+        self.edit(|table| plain_side_split(table, t, p))
     }
 
     pub fn take_out(&mut self, p: Point) -> Refusal {

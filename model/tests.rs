@@ -1,5 +1,5 @@
-//! Marked cases of document 01, positions of points, the readings on raw
-//! buffers, and the model's means checked against plainer ones.
+//! Marked cases of document 01, positions of points, side splits, the readings
+//! on raw buffers, and the model's means checked against plainer ones.
 
 use crate::gen::{numbered, stream, Rng};
 use crate::model::Position::*;
@@ -271,6 +271,332 @@ fn wrong_tables() {
     }
 }
 
+// ------------------------------------------------------------ side splits
+
+const NOT_ON_SIDE: u8 = 13;
+
+/// The table after a side split, or its number.
+fn side_split(table: &[Tri], t: u64, p: (u16, u16)) -> Result<Vec<Tri>, u8> {
+    plain_side_split(table, t, pt(p.0, p.1)).map(|made| made.0).map_err(|r| r.number)
+}
+
+fn tri(n: [u16; 6]) -> Tri {
+    tri_of_numbers(&n)
+}
+
+fn total(table: &[Tri]) -> i64 {
+    table.iter().map(doubled_area).sum()
+}
+
+#[test]
+fn side_split_by_either_triangle() {
+    // The side of U and V, first by U, whose neighbour has the higher number, then by V.
+    let both = [tri(U), tri(V)];
+    let by_u = [
+        [65535, 0, 32768, 32767, 0, 0],
+        [0, 65535, 32768, 32767, 65535, 65535],
+        [32768, 32767, 0, 65535, 0, 0],
+        [32768, 32767, 65535, 0, 65535, 65535],
+    ];
+    assert_eq!(side_split(&both, 0, (32768, 32767)), Ok(by_u.map(tri).to_vec()));
+    let by_v = [by_u[0], by_u[1], by_u[3], by_u[2]];
+    // Here (a,b) is (0,65535), (65535,0): V gets (a,p,c), U gets (b,p,d), then (p,b,c) and (p,a,d).
+    assert_eq!(side_split(&both, 1, (32768, 32767)), Ok(by_v.map(tri).to_vec()));
+    let mut chart = loaded(&uv());
+    assert_eq!(chart.side_split(1, pt(32768, 32767)).number, 0);
+    assert_eq!(numbers(&chart), by_v.concat());
+    assert_eq!((chart.n, chart.area(), chart.sound()), (4, (0, 8_589_672_450), (0, true)));
+    assert!(chart.chain_holds() && chart.is_filed());
+    // p is now a corner of all four.
+    for t in 0..4 {
+        assert_eq!(chart.side_split(t, pt(32768, 32767)).number, NOT_ON_SIDE);
+    }
+    assert_eq!(chart.side_split(4, pt(32768, 32767)).number, 6);
+}
+
+#[test]
+fn side_split_positions() {
+    for (x, y, place) in MARKED {
+        let made = side_split(&[tri(U)], 0, (x, y));
+        assert_eq!(made.is_ok(), SIDES.contains(&place), "{place:?}");
+        assert!(made.is_ok() || made == Err(NOT_ON_SIDE));
+    }
+    // Beside each end of a side, and beyond; on the side of another triangle alone.
+    for (p, done) in [((1, 0), true), ((65534, 0), true), ((1, 65534), true), ((65534, 1), true), ((0, 65534), true), ((1, 1), false)] {
+        assert_eq!(side_split(&[tri(U)], 0, p).is_ok(), done, "{p:?}");
+    }
+    assert_eq!(side_split(&[tri(U), tri(V)], 0, (65535, 7)), Err(NOT_ON_SIDE));
+    assert_eq!(side_split(&[tri([10, 10, 20, 10, 10, 90]), tri(V)], 0, (30, 10)), Err(NOT_ON_SIDE));
+}
+
+#[test]
+fn side_split_in_each_rotation() {
+    let (corners, on, ..) = LARGE;
+    let t = corners.map(|p| pt(p.0, p.1));
+    // A corner beyond each side.
+    let beyond = [pt(55_000, 20_001), pt(65_000, 60_003), pt(30_001, 50_000)];
+    for k in 0..3 {
+        let (a, b, c, d, p) = (t[k], t[(k + 1) % 3], t[(k + 2) % 3], beyond[k], pt(on[k].0, on[k].1));
+        for (i, j) in [(0, 0), (0, 1), (0, 2), (1, 0), (1, 1), (1, 2), (2, 0), (2, 1), (2, 2)] {
+            let (mine, other) = (turned(&t, i), turned(&[b, a, d], j));
+            assert!(doubled_area(&other) > 0);
+            assert_eq!(side_split(&[mine], 0, on[k]), Ok(vec![[a, p, c], [p, b, c]]));
+            assert_eq!(side_split(&[mine, other], 0, on[k]), Ok(vec![[a, p, c], [b, p, d], [p, b, c], [p, a, d]]));
+            assert_eq!(side_split(&[other, mine], 1, on[k]), Ok(vec![[b, p, d], [a, p, c], [p, b, c], [p, a, d]]));
+        }
+    }
+}
+
+/// A triangle above the side from (100,40) to (0,40), and others by it: p is (40,40).
+const ABOVE: [u16; 6] = [100, 40, 0, 40, 30, 5];
+const BELOW: [[u16; 6]; 3] = [[0, 40, 100, 40, 60, 90], [100, 40, 50, 70, 0, 40], [45, 99, 0, 40, 100, 40]];
+/// p on a longer side, on a shorter one, at the end of one, and inside.
+const OTHERS: [[u16; 6]; 4] = [[0, 40, 120, 40, 60, 90], [20, 40, 80, 40, 60, 90], [40, 40, 100, 40, 60, 90], [0, 30, 90, 35, 40, 80]];
+
+#[test]
+fn who_takes_part() {
+    let p = (40, 40);
+    let mine = [[100, 40, 40, 40, 30, 5], [40, 40, 0, 40, 30, 5]];
+    let below = [[[0, 40, 40, 40, 60, 90], [40, 40, 100, 40, 60, 90]], [[0, 40, 40, 40, 50, 70], [40, 40, 100, 40, 50, 70]]];
+    let check = |table: &[[u16; 6]], t: u64, want: &[[u16; 6]]| {
+        let table: Vec<Tri> = table.iter().map(|n| tri(*n)).collect();
+        let want: Vec<Tri> = want.iter().map(|n| tri(*n)).collect();
+        assert!(table.iter().all(|t| doubled_area(t) > 0));
+        assert_eq!(side_split(&table, t, p), Ok(want.clone()));
+        assert_eq!(total(&table), total(&want));
+    };
+    let [one, two, three] = BELOW;
+    // The lowest numbered, before and after t, and no other.
+    check(&[ABOVE, one, two, three], 0, &[mine[0], below[0][0], two, three, mine[1], below[0][1]]);
+    check(&[ABOVE, two, one, three], 0, &[mine[0], below[1][0], one, three, mine[1], below[1][1]]);
+    check(&[two, ABOVE, one], 1, &[below[1][0], mine[0], one, mine[1], below[1][1]]);
+    check(&[two, one, ABOVE], 2, &[below[1][0], one, mine[0], mine[1], below[1][1]]);
+    // Copies of t stay, and a copy takes the same neighbour.
+    check(&[ABOVE, ABOVE, two], 1, &[ABOVE, mine[0], below[1][0], mine[1], below[1][1]]);
+    check(&[ABOVE, ABOVE], 0, &[mine[0], ABOVE, mine[1]]);
+    // Of two copies of a neighbour the second stays.
+    check(&[two, two, ABOVE], 2, &[below[1][0], two, mine[0], mine[1], below[1][1]]);
+    // Those with p on another side, at a corner or inside stay.
+    let [long, short, end, around] = OTHERS;
+    check(&[long, short, ABOVE, end, around], 2, &[long, short, mine[0], end, around, mine[1]]);
+    check(
+        &[long, around, ABOVE, end, one, short],
+        2,
+        &[long, around, mine[0], end, below[0][0], short, mine[1], below[0][1]],
+    );
+    // By one of those that face: t is the neighbour then.
+    check(&[one, two, ABOVE], 1, &[one, below[1][0], mine[0], below[1][1], mine[1]]);
+}
+
+#[test]
+fn side_split_refusals() {
+    let u = tri(U);
+    // 6 before 13 before 10.
+    for n in [0, 1, 512] {
+        assert_eq!(side_split(&vec![u; n], n as u64, (0, 0)), Err(6));
+        assert_eq!(side_split(&vec![u; n], u64::MAX, (7, 0)), Err(6));
+    }
+    for p in [(0, 0), (1, 1), (65535, 65535)] {
+        assert_eq!(side_split(&[u; 512], 511, p), Err(NOT_ON_SIDE));
+    }
+    // 10 by the triangles really added: all but one or two are small, and stand elsewhere.
+    let full = |n: usize, neighbour: bool| {
+        let mut table = vec![tri([0, 0, 1, 0, 0, 1]); n];
+        table[3] = tri([1000, 1000, 1040, 1000, 1000, 1040]);
+        if neighbour {
+            table[n - 1] = tri([1040, 1000, 1000, 1000, 1020, 960]);
+        }
+        side_split(&table, 3, (1007, 1000)).map(|made| made.len())
+    };
+    assert_eq!([509, 510, 511, 512].map(|n| full(n, false)), [Ok(510), Ok(511), Ok(512), Err(10)]);
+    assert_eq!([509, 510, 511, 512].map(|n| full(n, true)), [Ok(511), Ok(512), Err(10), Err(10)]);
+    // 10 before 11, which is met where many triangles are listed along the new side.
+    assert_eq!([300, 511, 512].map(|n| side_split(&vec![u; n], 0, (32768, 32767))), [Err(11), Err(11), Err(10)]);
+    assert_eq!(side_split(&[vec![u; 510], vec![tri(V)]].concat(), 0, (32768, 32767)), Err(10));
+    // Reading 2.3: 1,591 entries, and 1,605 after the side split.
+    let table = [vec![tri([1000, 1000, 1040, 1000, 1000, 1040])], vec![tri([0, 0, 1, 0, 0, 1]); 510]].concat();
+    let made = plain_side_split(&table, 0, pt(1007, 1000)).map(|m| m.1.len()).ok();
+    assert_eq!((entries_of(&table).map(|e| e.len()), made), (Some(1591), Some(1605)));
+    // 1, 2 and 3 before 6, and nothing is changed.
+    let mut chart = loaded(&U);
+    let good = chart.clone();
+    assert_eq!((chart.side_split(1, pt(7, 0)).number, chart.side_split(0, pt(1, 1)).number), (6, NOT_ON_SIDE));
+    assert!(chart == good);
+    chart.items[0] = MARK;
+    assert_eq!(chart.side_split(1, pt(7, 0)).number, 3);
+    chart.levels[0] = 17;
+    assert_eq!(chart.side_split(1, pt(7, 0)).number, 2);
+    chart.items.pop();
+    assert_eq!(chart.side_split(1, pt(7, 0)).number, 1);
+}
+
+#[test]
+fn side_splits_of_drawn_tables() {
+    // Of tables that overlap and repeat on few points: by position the same are refused; area and ground are kept.
+    let mut r = Rng::new(8);
+    let mut met = [0; 4];
+    for _ in 0..4000 {
+        let step = [2 * r.range(1, 3), 2 * r.range(1, 3)];
+        let (x, y) = (r.pick(&[0, 40_000, 65_511]), r.pick(&[0, 32_000, 65_511]));
+        let mut table: Vec<Tri> = Vec::new();
+        while table.len() < 6 {
+            let mut point = || Point { x: x + step[0] * r.range(0, 4), y: y + step[1] * r.range(0, 4) };
+            let mut t = [point(), point(), point()];
+            if !table.is_empty() && r.chance(50) {
+                // On a side of one before it, the other way round.
+                let side = turned(&table[r.below(table.len() as i64) as usize], r.below(3) as usize);
+                t = turned(&[side[1], side[0], t[0]], r.below(3) as usize);
+            }
+            if doubled_area(&t) > 0 {
+                table.push(t);
+            }
+        }
+        let [q, s, _] = turned(&table[r.below(6) as usize], r.below(3) as usize);
+        let any = Point { x: x + r.range(0, 24), y: y + r.range(0, 24) };
+        let p = if r.chance(60) { Point { x: (q.x + s.x) / 2, y: (q.y + s.y) / 2 } } else { any };
+        for (t, old) in table.iter().enumerate() {
+            let place = position(old, p);
+            let Ok((new, _)) = plain_side_split(&table, t as u64, p) else {
+                assert!(!SIDES.contains(&place));
+                met[0] += 1;
+                continue;
+            };
+            assert!(SIDES.contains(&place));
+            let changed: Vec<usize> = (0..table.len()).filter(|&i| new[i] != table[i]).collect();
+            assert_eq!(new.len(), table.len() + changed.len());
+            assert!(changed.contains(&t) && changed.len() <= 2);
+            assert_eq!(total(&new), total(&table));
+            // Each half lies in its old triangle, has p as a corner, and shares no ground with the other.
+            let halves = |i: usize| [new[i], new[table.len() + usize::from(i != t)]];
+            for &i in &changed {
+                let [first, second] = halves(i);
+                assert!(doubled_area(&first) > 0 && doubled_area(&second) > 0 && !share_by_lines(&first, &second));
+                assert_eq!(doubled_area(&first) + doubled_area(&second), doubled_area(&table[i]));
+                for half in [first, second] {
+                    assert!(half.contains(&p) && half.iter().all(|c| position(&table[i], *c) != Outside));
+                }
+                // The ends of the side, in opposite directions in both.
+                assert_eq!((first[1], second[0]), (p, p));
+                assert_eq!((halves(t)[0][0], halves(t)[1][1]), if i == t { (first[0], second[1]) } else { (second[1], first[0]) });
+            }
+            // No other triangle before the neighbour has the side the other way round, and none at all where there is no neighbour.
+            let (a, b) = (halves(t)[0][0], halves(t)[1][1]);
+            let other = changed.iter().copied().find(|&i| i != t);
+            for i in 0..other.unwrap_or(table.len()) {
+                assert!((0..3).all(|k| (table[i][k], table[i][(k + 1) % 3]) != (b, a)));
+            }
+            met[1 + other.map_or(0, |j| 1 + usize::from(j > t))] += 1;
+        }
+    }
+    assert!(met.iter().all(|&times| times > 100), "{met:?}");
+}
+
+/// One thing that a side split may do wrong.
+#[derive(Clone, Copy, PartialEq, Debug)]
+enum Wrong {
+    Nothing,
+    EndTaken,
+    InsideTaken,
+    HighestNeighbour,
+    LaterNeighbour,
+    EarlierNeighbour,
+    SameDirection,
+    EveryNeighbour,
+    NoNeighbour,
+    OtherOrder,
+    HalvesExchanged,
+    NeighbourHalvesExchanged,
+    NeighbourNotTurned,
+    NotTurned,
+    TwoCounted,
+    OneCounted,
+    FullFirst,
+    AsSplit,
+}
+
+fn wrong_side_split(w: Wrong, table: &[Tri], t: usize, p: Point) -> Result<Vec<Tri>, u8> {
+    if t >= table.len() {
+        return Err(6);
+    }
+    if w == Wrong::FullFirst && table.len() == MAX_TRIANGLES {
+        return Err(10);
+    }
+    let place = position(&table[t], p).number();
+    let k = match place {
+        1..=3 => place as usize - 1,
+        4..=6 if w == Wrong::EndTaken => place as usize - 4,
+        0 if w == Wrong::InsideTaken => 0,
+        _ => return Err(if w == Wrong::AsSplit { 7 } else { NOT_ON_SIDE }),
+    };
+    let [a, b, c] = turned(&table[t], if w == Wrong::NotTurned { 0 } else { k });
+    let side = if w == Wrong::SameDirection { (a, b) } else { (b, a) };
+    let mut all: Vec<(usize, Tri)> = (0..table.len())
+        .filter(|&j| j != t && !(w == Wrong::LaterNeighbour && j < t) && !(w == Wrong::EarlierNeighbour && j > t))
+        .flat_map(|j| (0..3).map(move |m| (j, turned(&table[j], m))))
+        .filter(|(_, s)| (s[0], s[1]) == side)
+        .collect();
+    match w {
+        Wrong::NoNeighbour => all.clear(),
+        Wrong::HighestNeighbour => drop(all.drain(..all.len().max(1) - 1)),
+        Wrong::EveryNeighbour => {}
+        _ => all.truncate(1),
+    }
+    let added = match w {
+        Wrong::TwoCounted => 2,
+        Wrong::OneCounted => 1,
+        _ => 1 + all.len(),
+    };
+    if table.len() + added > MAX_TRIANGLES {
+        return Err(10);
+    }
+    let mut new = table.to_vec();
+    let mut halves = vec![(t, [a, p, c], [p, b, c])];
+    if w == Wrong::HalvesExchanged {
+        halves[0] = (t, [p, b, c], [a, p, c]);
+    }
+    for (j, s) in all {
+        let [from, to, d] = if w == Wrong::NeighbourNotTurned { table[j] } else { s };
+        let (first, second) = ([from, p, d], [p, to, d]);
+        halves.push(if w == Wrong::NeighbourHalvesExchanged { (j, second, first) } else { (j, first, second) });
+    }
+    if w == Wrong::OtherOrder {
+        halves.reverse();
+    }
+    for (j, first, second) in halves {
+        new[j] = first;
+        new.push(second);
+    }
+    Ok(new)
+}
+
+#[test]
+fn wrong_side_splits() {
+    use Wrong::*;
+    let (u, v) = (tri(U), tri(V));
+    let side = pt(32768, 32767);
+    let [one, two, three] = BELOW.map(tri);
+    let mut trials = vec![(vec![u, v], 0, side), (vec![u, v], 1, side), (vec![u, u], 0, side), (vec![tri(ABOVE), one, two], 0, pt(40, 40))];
+    trials.push((vec![two, tri(ABOVE), three], 1, pt(40, 40)));
+    trials.extend(MARKED.map(|(x, y, _)| (vec![u], 0, pt(x, y))));
+    for n in [511, 512] {
+        let mut table = vec![tri([0, 0, 1, 0, 0, 1]); n];
+        table[0] = tri(ABOVE);
+        trials.extend([(table.clone(), 0, pt(40, 40)), (table.clone(), 0, pt(40, 39))]);
+        table[n - 1] = one;
+        trials.push((table, 0, pt(40, 40)));
+    }
+    let right: Vec<Result<Vec<Tri>, u8>> =
+        trials.iter().map(|(table, t, p)| plain_side_split(table, *t as u64, *p).map(|m| m.0).map_err(|r| r.number)).collect();
+    let fits = |w: Wrong| trials.iter().zip(&right).all(|((table, t, p), want)| wrong_side_split(w, table, *t, *p) == *want);
+    assert!(fits(Nothing));
+    for w in [
+        EndTaken, InsideTaken, HighestNeighbour, LaterNeighbour, EarlierNeighbour, SameDirection, EveryNeighbour, NoNeighbour, OtherOrder,
+        HalvesExchanged, NeighbourHalvesExchanged, NeighbourNotTurned, NotTurned, TwoCounted, OneCounted, FullFirst, AsSplit,
+    ] {
+        assert!(!fits(w), "{w:?}");
+    }
+}
+
 // -------------------------------------------------------------- readings
 
 fn said(script: &str) -> Vec<String> {
@@ -287,7 +613,7 @@ fn filed_or_not() {
     // 5.1: table U with the mark alone passes 2 but not 3.
     let got = said(
         "load 0 0 0 65535 0 0 65535\nset keys0 0 0\nset levels0 0 0\nset items0 0 65535\ncounts 0 1 1\n\
-         locate 0 5 5\noverlay 0 0\nlisting 0 5 5\nsplit 0 0 5 5\ntake_out 0 5 5\nflip 0 0 0\nsound 0\narea 0",
+         locate 0 5 5\noverlay 0 0\nlisting 0 5 5\nsplit 0 0 5 5\nside_split 0 0 5 0\ntake_out 0 5 5\nflip 0 0 0\nsound 0\narea 0",
     );
     assert_eq!(
         got,
@@ -297,6 +623,7 @@ fn filed_or_not() {
             "overlay 0 0 1",
             "listing 0",
             "split 3 0 1 1",
+            "side_split 3 0 1 1",
             "take_out 3 0 1 1",
             "flip 3 0 1 1",
             "sound 0 yes",
@@ -356,11 +683,11 @@ fn short_buffers() {
     for buf in ["table", "keys", "levels", "items"] {
         let n = if buf == "table" { 3071 } else { 16383 };
         let got = said(&format!(
-            "counts 0 4 5\nload 1\nlen {buf}0 {n}\nload 0 1 2 3\nsplit 0 0 0 0\ntake_out 0 0 0\nflip 0 0 0\nlocate 0 0 0\n\
+            "counts 0 4 5\nload 1\nlen {buf}0 {n}\nload 0 1 2 3\nsplit 0 0 0 0\nside_split 0 0 0 0\ntake_out 0 0 0\nflip 0 0 0\nlocate 0 0 0\n\
              listing 0 0 0\nsound 0\narea 0\noverlay 0 1\noverlay 1 0\noverlay 1 1"
         ));
         let want = [
-            "load 0 0 0 1", "load 1 0 4 5", "split 1 0 4 5", "take_out 1 0 4 5", "flip 1 0 4 5", "locate 1 nowhere 7",
+            "load 0 0 0 1", "load 1 0 4 5", "split 1 0 4 5", "side_split 1 0 4 5", "take_out 1 0 4 5", "flip 1 0 4 5", "locate 1 nowhere 7",
             "listing 0", "sound 1 no", "area 1 0", "overlay 1 0 0", "overlay 1 0 0", "overlay 0 0 1",
         ];
         assert_eq!(got, want);

@@ -45,7 +45,7 @@ def fixed(s):
 
 def on_charts(s):
     """Positions, entries that are stale, edits and overlays, but for the longest lists."""
-    for part in (positions.positions, damage.stale, edits.splits, edits.take_outs, edits.flips, edits.full):
+    for part in (positions.positions, damage.stale, edits.splits, edits.side_splits, edits.take_outs, edits.flips, edits.full):
         part(s)
     for part in (overlays.known_overlays, overlays.touching, overlays.overlay_refusals, overlays.overlay_damaged):
         part(s)
@@ -97,6 +97,8 @@ def met(shows, words, before):
         yield f"{call}: {shows}"
         if shows.startswith("drawn on"):
             yield f"drawn {call} {number}"
+            if call == "side_split" and number == "0":
+                yield "drawn side_split of " + ("one" if int(words[3]) == int(before[3]) + 1 else "two")
         if number == "0":
             yield f"{call} of {words[4]}"
         return

@@ -806,8 +806,8 @@ def test_help():
             fault("help does not tell in a line", word)
     same("-h is --help", run("-h", "x", "y").out.decode(), text)
     told = run("numbers").out.decode()
-    same("each number once", [int(n) for n in re.findall(r"^ ?(\d+)  ", told, re.M)], list(range(13)))
-    same("one number", run("numbers", "12").out.decode() in told, True)
+    same("each number once", [int(n) for n in re.findall(r"^ ?(\d+)  ", told, re.M)], list(range(14)))
+    same("one number", run("numbers", "13").out.decode() in told, True)
 
 
 def test_words():

@@ -3,10 +3,10 @@
 
 usage: quadtree.py SEED COUNT
 
-COUNT tables of each kind: overlapping triangles, meshes, slivers, triangles on the borders of squares, repeated triangles,
-copies of one triangle up to 512, and tables of exactly 16,384 and 16,385 entries. A few tables come at the end that nothing is
-drawn for: the empty table, one triangle, 512 copies, two triangles that cross, triangles with D = 0 and D < 0, two slivers with
-far too many entries, and 513 copies.
+COUNT tables of each kind: overlapping triangles, meshes, slivers, triangles on the borders of squares, repeated triangles, copies of
+one triangle up to 512, lattices, triangles beside few sides, and tables of exactly 16,384 and 16,385 entries. A few tables come at the
+end that nothing is drawn for: the empty table, one triangle, 512 copies, two triangles that cross, triangles with D = 0 and D < 0, two
+slivers with far too many entries, and 513 copies.
 
 It fails when the lists differ, when a table whose answer is known by its making has another, when something that is to be met
 was not met (see `WANTED`), and when either engine ends with a status other than 0, says something on its standard error or
@@ -86,7 +86,7 @@ def met(name, table, answer):
 
 
 # each kind is to be met as often as asked, and each of these once
-WANTED_KINDS = ["soup", "mesh", "slivers", "borders", "repeated", "copies", "exactly full", "one too many"]
+WANTED_KINDS = ["soup", "mesh", "slivers", "borders", "repeated", "copies", "lattice", "beside", "exactly full", "one too many"]
 WANTED = ["empty", "one", "512 copies", "crossing", "D = 0", "D < 0", "D < 0 in a full table", "far too many", "513 copies"]
 WANTED += ["over", "refused", f"{LIMIT} entries", "0 triangles", "1 triangles", "512 triangles", "some triangles"]
 WANTED += [f"level {k}" for k in range(17)] + ["the mark", "several triangles in a cell"]

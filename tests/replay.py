@@ -22,11 +22,13 @@ from call_cases.script import INNER, PARTS, Script
 from tables import FLAT, SLIVERS, U, V
 
 PROGRAM = "test_replay"
-COMMANDS = {2: "load", 3: "split", 4: "take_out", 5: "flip"}
+COMMANDS = {2: "load", 3: "split", 4: "take_out", 5: "flip", 8: "side_split"}
+SIZES = {3: 4, 4: 3, 5: 3, 8: 4}
 # the program's buffers: places, and what each of them holds before a case
 BUFFERS = {"table0": (3080, 21), "keys0": (16390, 22), "levels0": (16390, 23), "items0": (16390, 24)}
 BUFFERS |= {"table1": (3080, 31), "keys1": (16390, 32), "levels1": (16390, 33), "items1": (16390, 34), "pairs": (8200, 41)}
 COUNTS = [(513, 70000), (7, 20000)]
+LONGEST = 4096  # the most numbers of a list
 
 
 # ---- lists of calls as numbers
@@ -40,6 +42,10 @@ def split(t, p):
     return [3, t, *p]
 
 
+def side_split(t, p):
+    return [8, t, *p]
+
+
 def take_out(p):
     return [4, *p]
 
@@ -51,7 +57,7 @@ def flip(i, j):
 def decoded(numbers):
     """The calls of a list, up to its end or to a place where no whole call stands."""
     while len(numbers) > 1 and numbers[0] in COMMANDS:
-        size = [numbers[1] + 2, 4, 3, 3][numbers[0] - 2]
+        size = SIZES.get(numbers[0], numbers[1] + 2)
         if size > len(numbers):
             return
         yield COMMANDS[numbers[0]], numbers[2 if numbers[0] == 2 else 1 : size]
@@ -101,6 +107,11 @@ def stored():
     splits = load(U, V) + split(0, INNER) + split(1, (50000, 50000)) + flip(4, 2) + split(3, (3000, 30000)) + flip(7, 4)
     others = load(V, U) + split(0, (40000, 40000)) + flip(1, 2) + split(1, (30000, 10000)) + split(2, (10000, 30000)) + take_out((30000, 10000))
     grid = tables.mesh(random.Random(4))
+    side = (32768, 32767)
+    square = load((0, 0, 64, 0, 0, 64), (64, 64, 0, 64, 64, 0))
+    small = (1000, 1000, 1040, 1000, 1000, 1040)
+    many = [(0, 0, 1, 0, 0, 1)] * 509
+    under = (1040, 1000, 1000, 1000, 1020, 960)
     return [
         ([], [], "0 0 1"),
         # marked cases 7, 8 and 9
@@ -125,6 +136,26 @@ def stored():
         (load(U) + [3], load(U) + [4, 1], "0 1 7"),
         (load(U, V) + [5, 0], load(U, V) + [4], "0 2 7"),
         (load(U, V) + [5], load(U, V) + [2, 65535], "0 2 7"),
+        # side splits: of U and V by either, of U alone, with all other events, and each refusal
+        (load(U, V) + side_split(0, side), load(U, V) + side_split(1, side), "0 4"),
+        (load(U, V) + side_split(1, side), load(V), "0 2"),
+        (load(U) + side_split(0, (20000, 0)), load(U), "0 2"),
+        (square + side_split(0, (24, 40)) + flip(0, 3) + take_out((24, 40)), square + flip(0, 1), "0 2"),
+        (square + side_split(0, (24, 40)) + split(0, (30, 12)) + side_split(2, (12, 20)), square + side_split(1, (64, 7)), "0"),
+        (load(U) + side_split(1, (20000, 0)) + side_split(0, INNER) + side_split(0, (0, 0)) + side_split(0, out), load(U), "0 1 7"),
+        (load(small, *many, small) + side_split(0, (1007, 1000)), load(small), "0 3"),
+        (load(small, *many, under) + side_split(0, (1007, 1000)), load(small), "0 1"),
+        (load(edits.ABOVE, edits.BELOW_TOO, edits.BELOW, edits.LONGER, edits.ABOVE) + side_split(0, edits.AT), load(edits.BELOW), "0 4"),
+        (load(edits.BELOW, edits.BELOW_TOO, edits.ABOVE) + side_split(2, (101, 40)) + side_split(2, edits.AT), load(edits.BELOW_TOO), "0 3"),
+        (load(*[U] * 300) + side_split(0, side), load(V), "0 0 7"),
+        (load(*[U] * 512) + side_split(0, side), load(V), "0 0 7"),
+        (side_split(0, side) + load(U), side_split(65535, (65535, 65535)) + load(V), "0 0 7"),
+        # cut side splits, and 7 and 9, which are no commands
+        (load(U) + [8], load(U) + [8, 0], "0 1 7"),
+        (load(U) + [8, 0, 20000], load(U) + side_split(0, (20000, 0))[:3], "0 1 7"),
+        (load(U) + [8, 0, 20000, 0], load(U) + [8, 0, 20000, 0, 8], "0 2"),
+        (load(U) + [9, 0, 20000, 0] + load(V), load(U) + [7, 0, 20000, 0] + load(V), "0 1 7"),
+        (load(U) + [8] + side_split(0, (20000, 0)), load(U) + [264, 0, 20000, 0], "0 1 7"),
         # 4,096 pairs and more
         (load(*[U] * 64), load(*[U] * 64), "0 4096 7"),
         (load(*[U] * 65), load(*[U] * 64), "12 0 0"),
@@ -143,16 +174,16 @@ def drawn(rng):
         edits.drawn_edits(s, rng.choice(list(edits.STARTS)))
     codes = {name: code for code, name in COMMANDS.items()}
     made = [(step[0], step[2]) for step in s.steps if step[0] in codes]
-    numbers = [n for name, ops in made for n in [codes[name]] + [len(ops)] * (name == "load") + ops]
+    numbers = [n for name, ops in made for n in [codes[name]] + [len(ops)] * (name == "load") + ops][:LONGEST]
     if rng.random() < 0.2:
         return numbers[: rng.randrange(len(numbers))]
     if rng.random() < 0.2:
-        numbers.insert(rng.randrange(len(numbers)), rng.choice([0, 1, 2, 3, 4, 5, 6, 65535]))
+        numbers.insert(rng.randrange(len(numbers)), rng.choice([0, 1, 2, 3, 4, 5, 6, 8, 8, 9, 65535]))
     return numbers
 
 
 WANTED = [f"load {n}" for n in (0, 4, 5, 11)] + [f"split {n}" for n in (0, 6, 7, 10)] + ["take_out 0", "take_out 8"]
-WANTED += [f"flip {n}" for n in (0, 6, 9)] + ["overlay 0", "overlay 12"]
+WANTED += [f"flip {n}" for n in (0, 6, 9)] + [f"side_split {n}" for n in (0, 6, 10, 11, 13)] + ["overlay 0", "overlay 12"]
 
 
 def is_known(case, line):

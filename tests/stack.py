@@ -29,7 +29,7 @@ from tables import U, V
 LIBRARY = os.path.join(ROOT, "target", "lib", "libjirdtungsten.a")
 PROGRAM = os.path.join(ROOT, "target", "lib", "stack")
 AT_C = headers.in_header(headers.read("include", headers.HELM)).constants["JIRD_AT_C"]
-CALLS = ["load", "split", "take_out", "flip", "locate", "cell", "soundness", "doubled_area", "overlay"]
+CALLS = ["load", "split", "side_split", "take_out", "flip", "locate", "cell", "soundness", "doubled_area", "overlay"]
 
 
 def build():
@@ -59,24 +59,26 @@ def strip(length):
 
 
 COPIES = [(40000, 40000, 40400, 40000, 40000, 40400)] * 510
-# each with a point strictly inside its first triangle
+# each with a point strictly inside its first triangle, and one on a side of it; beyond that side of U and of the grid's is another triangle
 TABLES = {
-    "2 triangles": [([U, V], (10000, 10000)), (strip(40), (110, 101))],
-    "2, over 1,024 entries": [(strip(1000), (350, 101))],
-    "512 triangles": [(grid(16), (1000, 1001)), (strip(40) + COPIES, (110, 101))],
+    "2 triangles": [([U, V], (10000, 10000), (32768, 32767)), (strip(40), (110, 101), (120, 102))],
+    "2, over 1,024 entries": [(strip(1000), (350, 101), (600, 102))],
+    "512 triangles": [(grid(16), (1000, 1001), (1000, 3095)), (strip(40) + COPIES, (110, 101), (120, 102))],
 }
 
 
-def calls_on(table, p):
-    """The calls on chart 0: it is loaded, its first two triangles are flipped; it is loaded again with room for two more, the first
-    is split at the point, the chart is read and laid over a chart of U and V, and the point is taken out."""
+def calls_on(table, p, q):
+    """The calls on chart 0: it is loaded, its first two triangles are flipped; it is loaded again with room for two more, and a side
+    of the first is split at q; it is loaded so again, the first is split at p, the chart is read and laid over a chart of U and V, and
+    p is taken out."""
 
     def load(chart, ts):
         numbers = [c for t in ts for c in t]
         return " ".join(map(str, ["load", chart, len(numbers), *numbers]))
 
     point = f"{p[0]} {p[1]}"
-    yield from [load(0, table), "flip 0 0 1", load(0, table[:510]), f"split 0 0 {point}", f"locate 0 {point}", f"cell 0 {point}"]
+    yield from [load(0, table), "flip 0 0 1", load(0, table[:510]), f"side_split 0 0 {q[0]} {q[1]}"]
+    yield from [load(0, table[:510]), f"split 0 0 {point}", f"locate 0 {point}", f"cell 0 {point}"]
     yield from ["soundness 0", "doubled_area 0", load(1, [U, V]), "overlay 0 1", f"take_out 0 {point}"]
 
 
@@ -89,8 +91,8 @@ def is_right(call, number, answer):
 def measured(cases):
     """The most bytes that each call uses on these tables."""
     most = dict.fromkeys(CALLS, 0)
-    for table, p in cases:
-        calls = list(calls_on(table, p))
+    for case in cases:
+        calls = list(calls_on(*case))
         lines = engines.run([PROGRAM], "\n".join(calls).encode()).split("\n")[:-1]
         if len(lines) != len(calls):
             sys.exit(f"{len(calls)} calls, {len(lines)} answers")

@@ -3,6 +3,7 @@
 A point is two numbers, a triangle six, a table a list of triangles."""
 
 import collections
+import math
 
 import engines
 
@@ -44,6 +45,33 @@ def inside(t, p):
     """Whether a point is strictly inside."""
     a, b, c = corners(t)
     return all(orientation(u + v + p) > 0 for u, v in ((a, b), (b, c), (c, a)))
+
+
+def side(t, k):
+    """The ends of side k: ab, bc, ca."""
+    return corners(turned(t, k))[:2]
+
+
+def side_parts(t, k):
+    """How many parts grid points divide a side into."""
+    (ax, ay), (bx, by) = side(t, k)
+    return math.gcd(bx - ax, by - ay)
+
+
+def side_point(t, k, n):
+    """Grid point n of a side: 0 is where it starts, and its last part ends at its end."""
+    (ax, ay), (bx, by) = side(t, k)
+    parts = side_parts(t, k)
+    return (ax + (bx - ax) // parts * n, ay + (by - ay) // parts * n)
+
+
+def side_of(t, p):
+    """The side that a point is on, at neither end; nothing where there is none."""
+    for k in range(3):
+        a, b = side(t, k)
+        if orientation(a + b + p) == 0 and sum((u - w) * (v - w) for u, v, w in zip(a, b, p)) < 0:
+            return k
+    return None
 
 
 def sides_shared(t, u):
@@ -140,7 +168,42 @@ def copies(rng):
     return [anyhow(rng)] * rng.choice([2, 100, 511, 512])
 
 
+def lattice(rng):
+    """A mesh of equal triangles: every side of a larger one has grid points between its ends."""
+    across, down = rng.choice([(1, 2), (3, 2), (4, 5)])
+    wide, high = (rng.choice([2, 12, 60, 9000]) for _ in "xy")
+    left, top = rng.randint(0, 65535 - across * wide), rng.randint(0, 65535 - down * high)
+    table = []
+    for j in range(down):
+        for i in range(across):
+            a, b, c, d = ((left + (i + k % 2) * wide, top + (j + k // 2) * high) for k in range(4))
+            table += [a + b + c, d + c + b]
+    rng.shuffle(table)
+    return table
+
+
+def beside(rng):
+    """Triangles on few sides, in both directions: several on one, repeated, and some on a part of it or on more than it."""
+    unit = [(12, 5), (-7, 4), (0, 9), (3000, 2), (-1, 5000)]
+    sides, table, wanted = [], [], rng.choice([2, 5, 9])
+    for _ in range(rng.choice([1, 1, 2])):
+        (dx, dy), parts = rng.choice(unit), rng.choice([2, 3, 4, 6])
+        start = (rng.randint(max(0, -dx) * 7, 65535 - max(0, dx) * 7), rng.randint(0, 65535 - dy * 7))
+        sides += [[(start[0] + dx * n, start[1] + dy * n) for n in range(parts + 2)]]
+    while len(table) < wanted:
+        points = rng.choice(sides)
+        first, last = rng.choice([(0, -2)] * 6 + [(0, -1), (1, -2), (1, -1)])
+        ends = [points[first], points[last]]
+        third = near(rng, points[len(points) // 2], rng.choice([30, 900, 9000]))
+        t = proper(ends + [third]) if points[first] != points[last] else None
+        if t:
+            table += [turned(t, rng.randrange(3))] * rng.choice([1, 1, 1, 2])
+    rng.shuffle(table)
+    return table
+
+
 KINDS = {"soup": soup, "mesh": mesh, "slivers": slivers, "borders": borders, "repeated": repeated, "copies": copies}
+KINDS |= {"lattice": lattice, "beside": beside}
 
 
 # ---- entries
@@ -188,6 +251,23 @@ def reached(counts, total, most):
 def split(table, i, p):
     a, b, c = corners(table[i])
     return table[:i] + [a + b + p] + table[i + 1 :] + [b + c + p, c + a + p]
+
+
+def side_split(table, i, p):
+    """The table after a side split, or nothing."""
+    k = side_of(table[i], p)
+    if k is None:
+        return None
+    a, b, c = corners(turned(table[i], k))
+    new = list(table)
+    new[i] = a + p + c
+    new.append(p + b + c)
+    for j, t in enumerate(table):
+        for first, second, third in (corners(turned(t, m)) for m in range(3)):
+            if (first, second) == (b, a):
+                new[j] = b + p + third
+                return new + [p + a + third]
+    return new
 
 
 def flip(table, i, j):

@@ -46,7 +46,7 @@ def lent_short(s, k, short):
     s.lend(k, NEEDED[k])
     s.table(PARTS, f"{BUFFERS[k]} as asked", 0)
     s.read(SOMEWHERE[1], number=0)
-    s.call(f"{BUFFERS[k]} as asked", 0, *ALLOWED[k % 3])
+    s.call(f"{BUFFERS[k]} as asked", 0, *ALLOWED[k])
     s.lend(k, LONGEST[k])
 
 

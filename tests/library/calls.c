@@ -122,6 +122,8 @@ static int change(const char *word, size_t c, const uint64_t *v, size_t n) {
         take_back(&buffers[GIVEN]);
     } else if (!strcmp(word, "split") && n == 3) {
         changed(word, c, jird_split(CHART(c), (size_t)v[0], x, y));
+    } else if (!strcmp(word, "side_split") && n == 3) {
+        changed(word, c, jird_side_split(CHART(c), (size_t)v[0], x, y));
     } else if (!strcmp(word, "take_out") && n == 2) {
         changed(word, c, jird_take_out(CHART(c), x, y));
     } else if (!strcmp(word, "flip") && n == 2) {
@@ -174,14 +176,14 @@ static void overlay(size_t c, size_t d) {
 }
 
 static int call(const char *word, size_t c, const uint64_t *v, size_t n) {
-    static const char *const changes[] = {"load", "split", "take_out", "flip"};
+    static const char *const changes[] = {"load", "split", "side_split", "take_out", "flip"};
     int is_change = 0, known;
     if (!strcmp(word, "overlay")) {
         if (n != 1 || v[0] > 1) return 0;
         overlay(c, (size_t)v[0]);
         return 1;
     }
-    for (size_t k = 0; k < 4; k++) is_change |= !strcmp(word, changes[k]);
+    for (size_t k = 0; k < sizeof changes / sizeof *changes; k++) is_change |= !strcmp(word, changes[k]);
     lend_chart(c, !is_change);
     known = is_change ? change(word, c, v, n) : question(word, c, v, n);
     take_chart(c);

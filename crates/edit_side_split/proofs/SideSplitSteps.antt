@@ -70,12 +70,12 @@ row-split o {o₁} n i x y h room e₁ e₂ =
     ap₂ tableOf e₂ (add-one n) ∙ rows-append o₁ n y (omega arith)
     ∙ ap (λ l. l ++ (y ∷ [])) (ap (λ l. tableOf l n) e₁ ∙ rows-set o i n x h (omega arith))
 
--- the same twice: the triangles on both sides
-pub both-rows : (o₁ o₂ : List ℕ) (n : ℕ) {half : Table} {v : List Point} (j : ℕ) (u : List Point) (p : Point) → tableOf o₁ (n + 1) ≡ half → v ≡ u
-    → tableOf o₂ (n + 1 + 1) ≡ sideSplitAt (tableOf o₁ (n + 1)) j (triangleOf v) p → tableOf o₂ (n + 2) ≡ sideSplitAt half j (triangleOf u) p
-both-rows o₁ o₂ n j u p e₁ ev e₂ =
+-- the same after it, of a table made so
+pub row-split-next : (o₁ o₂ : List ℕ) (n : ℕ) {half : Table} (j : ℕ) (u : Triangle) (p : Point) → tableOf o₁ (n + 1) ≡ half
+    → tableOf o₂ (n + 1 + 1) ≡ sideSplitAt (tableOf o₁ (n + 1)) j u p → tableOf o₂ (n + 2) ≡ sideSplitAt half j u p
+row-split-next o₁ o₂ n j u p e₁ e₂ =
     let m : n + 2 ≡ n + 1 + 1 = omega arith in
-    ap (tableOf o₂) m ∙ e₂ ∙ ap₂ (λ l w. sideSplitAt l j (triangleOf w) p) e₁ ev
+    ap (tableOf o₂) m ∙ e₂ ∙ ap (λ l. sideSplitAt l j u p) e₁
 
 -- ---- refusal 10
 

@@ -62,8 +62,7 @@ pub fn side_split_row(
                 return Edited::Refused(Refusal::TableFull);
             }
             let u = geometry::rotated(base_tables::triangle_at(table, j), k);
-            row_split::put_split(table, n, i, t, p, scratch);
-            row_split::split_row(scratch, n + 1, j, u, p);
+            row_split::put_both(table, n, i, j, t, u, p, scratch);
             Edited::Made(n + 2)
         }
     }

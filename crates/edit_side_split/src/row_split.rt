@@ -30,3 +30,24 @@ pub fn put_split(table: &[u16], n: usize, i: usize, t: [Point; 3], p: Point, scr
     edit_rows::append_rows(table, 0, n, scratch, 0);
     split_row(scratch, n, i, t, p);
 }
+
+// The table with triangles i and j, of which t and u are rotations, split at p one after the other.
+pub fn put_both(
+    table: &[u16],
+    n: usize,
+    i: usize,
+    j: usize,
+    t: [Point; 3],
+    u: [Point; 3],
+    p: Point,
+    scratch: &mut [u16],
+)
+    requires { ⌜ i < n ⌝ }
+    requires { ⌜ j < n ⌝ }
+    requires { ⌜ n + 1 < maxTriangles ⌝ }
+    requires { ⌜ Workspace (now table) n (now scratch) ⌝ }
+    ensures { λ _. ⌜ tableOf (now (scratch .exit)) (n + 2) ≡ sideSplitAt (sideSplitAt (tableOf (now (table .entry)) n) i (triangleOf t) p) j (triangleOf u) p ⌝ }
+{
+    put_split(table, n, i, t, p, scratch);
+    split_row(scratch, n + 1, j, u, p);
+}

@@ -33,6 +33,9 @@ fn change(
     if what == 10 {
         return call_edits::split(t, k, v, i, n, m, b as usize, point(c, c / 65536));
     }
+    if what == 14 {
+        return call_edits::side_split(t, k, v, i, n, m, b as usize, point(c, c / 65536));
+    }
     if what == 11 {
         return call_edits::take_out(t, k, v, i, n, m, point(b, c));
     }

@@ -26,6 +26,10 @@ fn print_name(what: u8) {
         say(b"split");
         return;
     }
+    if what == 14 {
+        say(b"side_split");
+        return;
+    }
     if what == 11 {
         say(b"take_out");
         return;

@@ -7,10 +7,10 @@ use borrow.Author.Needs.{needs}
 use Rattle.spec_plane.specs.Triangle.{triangleOf, rotated as Triangle·rotated}
 use Rattle.spec_charts.specs.Table.{tableOf}
 use Rattle.spec_charts.specs.Refusals.{done}
-use Rattle.spec_charts.specs.Edits.{neighbourFrom}
+use Rattle.spec_charts.specs.Edits.{neighbourFrom, sideSplitAt}
 use Rattle.edit_side_split.specs.Sides.{besideNeighbour}
 use Rattle.edit_side_split.specs.declared.neighbours.Beside.the-variants.{Triangle}
-use Rattle.edit_side_split.proofs.SideSplitSteps.{neighbour-below, alone-full, alone-made, both-full, both-made, both-rows}
+use Rattle.edit_side_split.proofs.SideSplitSteps.{neighbour-below, alone-full, alone-made, both-full, both-made}
 use Rattle.edit_side_split.proofs.side_split_row.Statement.{statement}
 use Rattle.edit_side_split.proofs.side_split_row.Tie as tie
 
@@ -67,10 +67,12 @@ triangle-at-requires c κs =
     let top : tie.Start = search needs in
     omega (arith, below j, top .pre .1)
 
-split-row-requires : tie.Need-split-row-requires
-split-row-requires c κs =
+put-both-requires : tie.Need-put-both-requires
+put-both-requires c κs =
+    let else2 : tie.Else2 = search needs in
     let j : tie.After-j = search needs in
-    (omega (arith, below j), search needs)
+    let top : tie.Start = search needs in
+    (top .pre .0, (below j, (omega (arith, else2 .if2 .left), top .pre .1)))
 
 returns-3 : tie.Need-returns-3
 returns-3 c =
@@ -87,8 +89,7 @@ returns-3 c =
 
 returns-4 : tie.Need-returns-4
 returns-4 c =
-    let split-row : tie.After-split-row = search needs in
-    let put-split : tie.After-put-split2 = search needs in
+    let put-both : tie.After-put-both = search needs in
     let rotated : tie.After-rotated = search needs in
     let triangle-at : tie.After-triangle-at = search needs in
     let else2 : tie.Else2 = search needs in
@@ -96,9 +97,9 @@ returns-4 c =
     let neighbour : tie.After-neighbour = search needs in
     let top = neighbour-to-top neighbour in
     let a = top .args in
-    let read = rotated .rotated .ensures ∙ ap (λ w. Triangle·rotated w (j .j .given .0 .1 .0)) (triangle-at .triangle-at .ensures) in
-    let rows = both-rows _ _ (a .n) (j .j .given .0 .0) _ (a .p) (put-split .put-split2 .ensures) read (split-row .split-row .ensures) in (
-      ap done rows
+    let half = sideSplitAt (tableOf (a .table .now) (a .n)) (a .i) (triangleOf (a .t)) (a .p) in
+    let read = rotated .rotated .ensures ∙ ap (λ w. Triangle·rotated w (j .j .given .0 .1 .0)) (triangle-at .triangle-at .ensures) in (
+      ap done (put-both .put-both .ensures ∙ ap (λ v. sideSplitAt half (j .j .given .0 .0) (triangleOf v) (a .p)) read)
           ∙ sym (both-made (a .table .now) (a .n) (a .i) (triangleOf (a .t)) (a .p) (found j) (omega (arith, else2 .if2 .left))),
       omega (arith, else2 .if2 .left),
     )
@@ -106,5 +107,5 @@ returns-4 c =
 pub side-split-row-spec : {M : Type 1} → statement M
 side-split-row-spec =
     tie.close (tie.spec (λ c κs. search needs) (λ c. search needs) (λ c. search needs) returns (λ c κs. search needs) (λ c. search needs) (λ c. search needs)
-    (λ c. search needs) returns-2 triangle-at-requires (λ c κs. search needs) (λ c κs. search needs) (λ c. search needs) split-row-requires
-    (λ c. search needs) (λ c. search needs) returns-3 (λ c. search needs) returns-4)
+    (λ c. search needs) returns-2 triangle-at-requires (λ c κs. search needs) put-both-requires (λ c. search needs)
+    (λ c. search needs) returns-3 (λ c. search needs) returns-4)
