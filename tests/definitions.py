@@ -5,11 +5,13 @@ what they compute to what the reference model (model/) answers.
 usage: definitions.py SEED COUNT
 
 COUNT of each kind of drawn case: the entries of a table; the log of a command stream; the public calls on raw buffers, most of
-them damaged; an event on a plain table; the overlay of two different tables. With them the fixed ones: locates at each position of
-a triangle and refused ones, take-outs with the point at each corner and flips in every rotation, both ways, and the worked streams
-of tests/cases.txt but those that load over 500 triangles, which are named. That each position, accepted take-outs at each corner,
-accepted flips of the nine pairs of rotations both ways and pairs with i and j different are among them is asserted. The cases are
-facts of two crates that are written below target/ and checked there, side by side; nothing of them is kept."""
+them damaged; an event on a plain table; a side split of triangles that share the side, among others; the overlay of two different
+tables. With them the fixed ones: locates at each position of a triangle and refused ones, take-outs with the point at each corner,
+flips in every rotation, both ways, side splits in every rotation, both ways, alone and refused, and the worked streams of
+tests/cases.txt but those that load over 500 triangles, which are named. That each position, accepted take-outs at each corner,
+accepted flips and side splits of the nine pairs of rotations both ways, side splits on each side alone, their refusals 6 and 13, and
+pairs with i and j different are among them is asserted. The cases are facts of two crates that are written below target/ and checked
+there, side by side; nothing of them is kept."""
 
 import collections
 import os
@@ -23,7 +25,7 @@ import engines
 import streams
 from call_cases import positions
 from engines import ROOT
-from tables import corners, drawn, entries_of, inside, orientation, sides_shared, turned
+from tables import corners, drawn, entries_of, inside, orientation, side_of, side_parts, side_point, side_split, sides_shared, turned
 
 SCRATCH = os.path.join(ROOT, "target", "definitions")
 TRIALS = ["trial", "trial_worked"]  # the crates of the cases, checked side by side: the worked streams take as long as all others
@@ -94,6 +96,15 @@ def sharing(rng, kind):
             return t, b + a + d
 
 
+def halved(rng, kind):
+    """Two triangles (a,b,c) and (b,a,d), and a point of the grid on ab, at neither end."""
+    while True:
+        t, d = triangle(rng, kind), drawn_point(rng, kind)
+        a, b, _ = corners(t)
+        if orientation(b + a + d) > 0 and side_parts(t, 0) > 1:
+            return t, b + a + d, side_points(rng, t)[0]
+
+
 def mesh(rng, entries):
     """A table with three triangles around a point and two that can be flipped, rotated and in any order: the table, the
     point, the two places, and the entries."""
@@ -122,6 +133,17 @@ def point(rng, ts):
             (rng.randint(0, 65535), rng.randint(0, 65535)),
         ]
     )
+
+
+def side_points(rng, t):
+    """A point of the grid on each side of a triangle that has one between its ends."""
+    return [side_point(t, k, rng.randrange(1, side_parts(t, k))) for k in range(3) if side_parts(t, k) > 1]
+
+
+def side_split_few(ts, i, p, entries):
+    """Whether a side split is refused by 13 or leaves at most so many entries."""
+    made = side_split(ts, i, p)
+    return made is None or few(made, entries) is not None
 
 
 def stream(rng):
@@ -192,6 +214,12 @@ def noted(ts, event, number):
         i, j = operands
         k, l = sides_shared(ts[i], ts[j])
         met[f"flip of sides {k} {l}" + (" back" if i > j else "")] += 1
+    if what == "side_split" and number == 0:
+        i, p = operands[0], tuple(operands[1:])
+        k, made = side_of(ts[i], p), side_split(ts, i, p)
+        other = [j for j, t in enumerate(ts) if j != i and made[j] != t]
+        l = sides_shared(turned(ts[i], k), ts[other[0]])[1] if other else "alone"
+        met[f"side split of sides {k} {l}" + (" back" if other and other[0] < i else "")] += 1
 
 
 def event_fact(ts, event):
@@ -208,6 +236,7 @@ def event_fact(ts, event):
         "split": lambda: f"split {e[0]} (at {e[1]} {e[2]})",
         "take_out": lambda: f"takeOut (at {e[0]} {e[1]})",
         "flip": lambda: f"flip {e[0]} {e[1]}",
+        "side_split": lambda: f"sideSplit {e[0]} (at {e[1]} {e[2]})",
     }[what]()
     return f"outcomeNumbers (eventOn ({written}) (givenTable {numbers(flat(ts))}))", numbers(want)
 
@@ -223,9 +252,25 @@ def event_case(rng):
     return event_fact(ts, rng.choice([*take_outs, ("flip", i, j), ("split", t, *point(rng, ts)), ("load", *other)]))
 
 
+def side_split_case(rng):
+    """A side split at a point of the side, of one of two triangles that share it, among others: copies of it, triangles on the same
+    ends either way round, and triangles on a part of the side."""
+    while True:
+        kind = rng.choice(["coarse", "any", "fine"])
+        t, u, p = halved(rng, kind)
+        (a, b, c), d = corners(t), corners(u)[2]
+        e = drawn_point(rng, kind)
+        more = [v for v in (t, u, a + b + e, b + a + e, p + a + d, b + p + d, a + p + c) if orientation(v) > 0]
+        ts = [turned(v, rng.randrange(3)) for v in [t, *rng.sample(more, rng.randint(0, 3))]]
+        rng.shuffle(ts)
+        i = rng.randrange(len(ts))
+        if few(ts, 60) is not None and side_split_few(ts, i, p, 150):
+            return event_fact(ts, ("side_split", i, *p))
+
+
 def fixed_events(rng):
     """Take-outs with the point at each corner of each of the three triangles, flips in the nine pairs of rotations, both ways,
-    on a table of few entries."""
+    side splits in the nine pairs of rotations, both ways, on each side alone, and refused ones, on a table of few entries."""
     while True:
         (p, three), rest = around(rng, "coarse"), [triangle(rng, "coarse"), triangle(rng, "coarse")]
         if few(three + rest, 60) is not None:
@@ -243,6 +288,18 @@ def fixed_events(rng):
             ts = [rest[0], turned(two[0], k), turned(two[1], l)]
             yield event_fact(ts, ("flip", 1, 2))
             yield event_fact(ts, ("flip", 2, 1))
+    while True:
+        t, u, p = halved(rng, "coarse")
+        if few(rest[:1] + side_split([t, u], 0, p), 90) is not None:
+            break
+    for k in range(3):
+        for l in range(3):
+            ts = [rest[0], turned(t, k), turned(u, l)]
+            yield event_fact(ts, ("side_split", 1, *p))
+            yield event_fact(ts, ("side_split", 2, *p))
+        yield event_fact([turned(t, k), rest[0]], ("side_split", 0, *p))
+        yield event_fact([turned(t, k), u], ("side_split", 0, *corners(t)[k]))
+        yield event_fact([turned(t, k), u], ("side_split", k + 2, *p))
 
 
 def overlay_fact(ss, ts):
@@ -334,16 +391,18 @@ def calls_case(rng):
     q = point(rng, ts)
     t = rng.randrange(len(ts))
     r = point(rng, [ts[t]])
+    z = next(z for z in [*side_points(rng, ts[t]), r, corners(ts[t])[0]] if side_split_few(ts, t, z, 150))
     i, j = rng.sample(two, 2)
     pairs = first.length["pairs"]
     script = [*first.script(0), *second.script(1), "len pairs 0", f"len pairs {pairs} 9"]
     script += [f"locate 0 {q[0]} {q[1]}", f"listing 0 {q[0]} {q[1]}", "sound 0", "area 0", "overlay 0 1", "dump pairs 0 12", "overlay 1 0", "dump pairs 0 12"]
-    changes = [f"split 1 {t} {r[0]} {r[1]}", f"take_out 1 {p[0]} {p[1]}", f"flip 1 {i} {j}", f"load 1 {' '.join(map(str, ts[0]))}"]
+    changes = [f"split 1 {t} {r[0]} {r[1]}", f"take_out 1 {p[0]} {p[1]}", f"flip 1 {i} {j}", f"side_split 1 {t} {z[0]} {z[1]}"]
+    changes.append(f"load 1 {' '.join(map(str, ts[0]))}")
     for change in changes:
         script += ["copy 0 1", change, "dump table1 0 44", "dump keys1 0 30", "dump levels1 0 30", "dump items1 0 30"]
     given = (
         f"callNumbers {first.written()} {second.written()}"
-        f" (replicate {pairs} 9) (at {q[0]} {q[1]}) {t} (at {r[0]} {r[1]}) (at {p[0]} {p[1]}) {i} {j} {numbers(ts[0])}"
+        f" (replicate {pairs} 9) (at {q[0]} {q[1]}) {t} (at {r[0]} {r[1]}) (at {z[0]} {z[1]}) (at {p[0]} {p[1]}) {i} {j} {numbers(ts[0])}"
     )
     return given, numbers(answered(calls_of(script)))
 
@@ -403,9 +462,9 @@ use lib.ListN.{length, take, replicate}
 use Rattle.spec_plane.specs.declared.Point.{Point}
 use Rattle.spec_plane.specs.Position.{positionNumber}
 use Rattle.spec_charts.specs.Cells.{entriesOf}
-use Rattle.spec_charts.specs.Edits.{triangle, givenTable, load, split, takeOut, flip, eventOn}
+use Rattle.spec_charts.specs.Edits.{triangle, givenTable, load, split, takeOut, flip, sideSplit, eventOn}
 use Rattle.spec_calls.specs.Buffers.{Chart, padded}
-use Rattle.spec_calls.specs.Calls.{Changed, Located, Soundness, Area, Overlaid, loadCall, splitCall, takeOutCall, flipCall, locateCall, listingCall, soundCall, areaCall, overlayCall}
+use Rattle.spec_calls.specs.Calls.{Changed, Located, Soundness, Area, Overlaid, loadCall, splitCall, takeOutCall, flipCall, sideSplitCall, locateCall, listingCall, soundCall, areaCall, overlayCall}
 use Rattle.spec_log.specs.Log.{logOf}
 use Rattle.spec_calls.proofs.Evaluate.{evaluate}
 use Rattle.spec_log.proofs.Evaluate.{evaluate as logging}
@@ -433,13 +492,14 @@ changed r =
 abbrev pairing : Overlaid → List ℕ
 pairing o = (o .number ∷ o .pairCount ∷ o .meets ∷ []) ++ take 12 (o .pairs)
 
-abbrev callNumbers : Chart → Chart → List ℕ → Point → ℕ → Point → Point → ℕ → ℕ → List ℕ → List ℕ
-callNumbers c d pairs q t r p i j ns =
+abbrev callNumbers : Chart → Chart → List ℕ → Point → ℕ → Point → Point → Point → ℕ → ℕ → List ℕ → List ℕ
+callNumbers c d pairs q t r z p i j ns =
     let o = overlayCall c d pairs in
     located (locateCall c q) ++ listingCall c q
     ++ (soundCall c .number ∷ yes-no (soundCall c .isSound) ∷ areaCall c .number ∷ areaCall c .area ∷ [])
     ++ pairing o ++ pairing (overlayCall d c (o .pairs))
-    ++ changed (splitCall t r c) ++ changed (takeOutCall p c) ++ changed (flipCall i j c) ++ changed (loadCall ns c)
+    ++ changed (splitCall t r c) ++ changed (takeOutCall p c) ++ changed (flipCall i j c)
+    ++ changed (sideSplitCall t z c) ++ changed (loadCall ns c)
 """
 
 
@@ -455,6 +515,8 @@ FIXED_OVERLAY = (
 # what every run must meet
 EXPECTED = [f"take-out at corner {c}" for c in "abc"]
 EXPECTED += [f"flip of sides {k} {l}{way}" for k in range(3) for l in range(3) for way in ("", " back")]
+EXPECTED += [f"side split of sides {k} {l}{way}" for k in range(3) for l in range(3) for way in ("", " back")]
+EXPECTED += [f"side split of sides {k} alone" for k in range(3)] + ["side_split 6", "side_split 13"]
 EXPECTED += [f"locate 0 position {place}" for place in range(8)] + ["locate 1 position 7", "locate 2 position 7"]
 EXPECTED += ["overlay pairs with i and j different", "worked streams"]
 
@@ -467,6 +529,7 @@ def main():
         "log": [log_case(rng) for _ in range(count)],
         "calls": [calls_case(rng) for _ in range(count)],
         "event": [event_case(rng) for _ in range(count)],
+        "sided": [side_split_case(rng) for _ in range(count)],
         "overlay": [overlay_case(rng) for _ in range(count)],
         "fixed": [*fixed_events(rng), *fixed_locates(), overlay_fact(*FIXED_OVERLAY)],
         "worked": list(worked_cases()),

@@ -5,13 +5,13 @@ use mathlib.Core.Bool.{true, false}
 use mathlib.Core.List.{List, [], _∷_, _++_, map}
 use mathlib.Core.Option.{none, some}
 use Prim.Native.Nat.{ℕ}
-use lib.ListN.{set, take, replicate}
+use lib.ListN.{set, take, drop, replicate}
 use Rattle.spec_plane.specs.declared.Position.the-variants.{Inside, Outside}
 use Rattle.spec_charts.specs.Refusals.{Outcome}
 use Rattle.spec_charts.specs.Overlay.{OverlayAnswer, withinPairs}
 use Rattle.spec_charts.proofs.Written.{at}
 use Rattle.spec_calls.specs.Buffers.{Chart}
-use Rattle.spec_calls.specs.Calls.{loadCall, splitCall, takeOutCall, flipCall, locateCall, listingCall, soundCall, areaCall, overlaidBy, overlayCall}
+use Rattle.spec_calls.specs.Calls.{Changed, loadCall, splitCall, takeOutCall, flipCall, sideSplitCall, locateCall, listingCall, soundCall, areaCall, overlaidBy, overlayCall}
 use Rattle.spec_calls.proofs.Evaluate.{evaluate}
 
 -- two triangles with a corner in common
@@ -105,6 +105,34 @@ edits-example :
     ≡ 1 ∷ 2 ∷ 3 ∷ 6 ∷ 7 ∷ 8 ∷ 9 ∷ 0 ∷ []
 unfolding evaluate
 edits-example = refl
+
+-- the same of a side split, with 13 at a corner, inside and outside; accepted it writes the new table and zeros, and leaves the places beyond
+side-splits-example :
+    map (λ r. r .number)
+    (sideSplitCall 9 (at 42500 5000) (withTable (take 3071 (indexedA .table)))
+    ∷ sideSplitCall 9 (at 42500 5000) cut
+    ∷ sideSplitCall 9 (at 42500 5000) (withTable (set (indexedA .table) 0 20000))
+    ∷ sideSplitCall 2 (at 42500 5000) indexedA
+    ∷ sideSplitCall 0 (at 45000 5000) indexedA
+    ∷ sideSplitCall 1 (at 50000 50000) indexedA
+    ∷ sideSplitCall 1 (at 42500 5000) indexedA
+    ∷ [])
+    ≡ 1 ∷ 2 ∷ 3 ∷ 6 ∷ 13 ∷ 13 ∷ 13 ∷ []
+unfolding evaluate
+side-splits-example = refl
+
+abbrev sideSplitA : Changed
+unfolding evaluate
+sideSplitA = sideSplitCall 0 (at 42500 5000) indexedA
+
+side-split-example : sideSplitA .number ∷ sideSplitA .value ∷ sideSplitA .chart .triangleCount ∷ sideSplitA .chart .table
+    ≡ 0 ∷ 0 ∷ 3 ∷ 40000 ∷ 5000 ∷ 42500 ∷ 5000 ∷ 60000 ∷ 45000 ∷ 65535 ∷ 65535 ∷ 0 ∷ 40000 ∷ 60000 ∷ 45000 ∷ 42500 ∷ 5000 ∷ 45000 ∷ 5000 ∷ 60000 ∷ 45000 ∷ replicate 3054 0 ++ (7 ∷ [])
+unfolding evaluate
+side-split-example = refl
+
+side-split-beyond-example : drop 16383 (sideSplitA .chart .keys) ∷ drop 16383 (sideSplitA .chart .levels) ∷ drop 16383 (sideSplitA .chart .items) ∷ [] ≡ replicate 3 (0 ∷ 7 ∷ [])
+unfolding evaluate
+side-split-beyond-example = refl
 
 -- readers on a chart, on one that is short, and on one whose chain is broken
 readers-example :
