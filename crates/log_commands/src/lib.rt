@@ -9,7 +9,8 @@ ghost use lib.ListN.{length};
 ghost use Rattle.spec_calls.specs.Buffers.{pairsLength};
 ghost use Rattle.log_waiting.specs.Waiting.{Whole, waitingLength};
 ghost use Rattle.log_readers.specs.Readers.{overlayRoom};
-ghost use Rattle.log_commands.specs.Commands.{lentBoth, RanLent};
+ghost use Rattle.log_edits.specs.Edits.{lentBoth};
+ghost use Rattle.log_commands.specs.Commands.{RanLent};
 
 // The counts and how many numbers wait after a command, and the place after what it printed.
 pub struct Done {

@@ -5,10 +5,9 @@ use log_events::BothCounts;
 use log_events::Printed;
 ghost use Prim.Native.Nat.{_+_, _≤_};
 ghost use lib.ListN.{length, getD};
-ghost use Rattle.log_events.specs.Both.{bothGiven, bothLeft};
 ghost use Rattle.log_events.specs.Events.{lineRoom};
 ghost use Rattle.log_waiting.specs.Waiting.{Whole, waitingLength};
-ghost use Rattle.log_edits.specs.Edits.{RanLoad, RanEdit};
+ghost use Rattle.log_edits.specs.Edits.{lentBoth, RanLoad, RanEdit};
 
 // Command 2: what waits is loaded into chart c.
 pub fn load_command(
@@ -28,7 +27,7 @@ pub fn load_command(
     at: usize,
 ) -> Printed
     requires { ⌜ Whole waits × ((waitingLength ≤ length (now waiting)) × (at + lineRoom ≤ length (now out))) ⌝ }
-    ensures { λ r. ⌜ RanLoad c (bothGiven table0 keys0 levels0 items0 table1 keys1 levels1 items1 counts) (now (waiting .entry)) waits (bothLeft table0 keys0 levels0 items0 table1 keys1 levels1 items1 (r .counts)) at (r .at) (now (out .entry)) (now (out .exit)) ⌝ }
+    ensures { λ r. ⌜ RanLoad c (lentBoth table0 keys0 levels0 items0 table1 keys1 levels1 items1) counts (r .counts) (now (waiting .entry)) waits out at (r .at) ⌝ }
     ensures { λ r. ⌜ r .at ≤ length (now (out .exit)) ⌝ }
 {
     waiting[0] = replay_calls::LOAD;
@@ -67,7 +66,7 @@ pub fn edit_command(
     at: usize,
 ) -> Printed
     requires { ⌜ ((3 ≤ getD (now held) 0 0) × (getD (now held) 0 0 ≤ 5)) × (at + lineRoom ≤ length (now out)) ⌝ }
-    ensures { λ r. ⌜ RanEdit (now (held .entry)) (bothGiven table0 keys0 levels0 items0 table1 keys1 levels1 items1 counts) (bothLeft table0 keys0 levels0 items0 table1 keys1 levels1 items1 (r .counts)) at (r .at) (now (out .entry)) (now (out .exit)) ⌝ }
+    ensures { λ r. ⌜ RanEdit (now (held .entry)) (lentBoth table0 keys0 levels0 items0 table1 keys1 levels1 items1) counts (r .counts) out at (r .at) ⌝ }
     ensures { λ r. ⌜ r .at ≤ length (now (out .exit)) ⌝ }
 {
     let numbers = words::edit_numbers(held);
