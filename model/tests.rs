@@ -491,6 +491,15 @@ fn side_splits_of_drawn_tables() {
     assert!(met.iter().all(|&times| times > 100), "{met:?}");
 }
 
+#[test]
+fn side_split_is_no_command() {
+    // 8 t x y is how tests/replay.py writes one; the command program has no such byte, whatever follows.
+    for rest in [&[][..], &[0], &[0, 0, 0, 1, 0, 0, 0]] {
+        let s = [&[2, 0, 8][..], rest, &[7]].concat();
+        assert_eq!(run_log(&s), "overlay log\n2 0 1\nbad 2\n");
+    }
+}
+
 /// One thing that a side split may do wrong.
 #[derive(Clone, Copy, PartialEq, Debug)]
 enum Wrong {

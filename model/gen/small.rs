@@ -203,7 +203,7 @@ impl Stream {
     fn noise(&mut self) {
         let most = self.rng.pick(&[0, 1, 2, 13, 60]);
         for _ in 0..self.rng.range(0, most) {
-            let b = if self.rng.chance(80) { self.rng.pick(&[0, 0, 1, 2, 3, 4, 5, 6, 7]) } else { self.rng.below(256) as u8 };
+            let b = if self.rng.chance(80) { self.rng.pick(&[0, 0, 1, 2, 3, 4, 5, 6, 7, 8]) } else { self.rng.below(256) as u8 };
             self.bytes.push(b);
         }
     }

@@ -368,7 +368,7 @@ def on_side(rng, table):
     beyond = side_point(t, k, rng.choice([-1, parts + 1]))
     others = [side_point(t, k, 0), tables.near(rng, p, 1), tuple(sum(c) // 3 for c in zip(*corners(t))), tables.near(rng, beyond, 0)]
     p = rng.choice([p] * 12 + others)
-    return rng.choice([i] * 15 + [rng.randrange(len(table)), len(table)]), p
+    return rng.choice([i] * 8 + [rng.randrange(len(table)), len(table)]), p
 
 
 def start(rng, name):

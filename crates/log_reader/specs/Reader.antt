@@ -12,7 +12,9 @@ use Rattle.log_lines.specs.Bytes.{Wrote}
 use Rattle.log_events.specs.declared.BothCounts.{BothCounts}
 use Rattle.log_events.specs.Both.{Both}
 use Rattle.log_readers.specs.Readers.{overlayRoom}
-use Rattle.log_commands.specs.Commands.{Whole, Running, BothLent}
+use Rattle.log_waiting.specs.Waiting.{Whole}
+use Rattle.log_edits.specs.Edits.{Running}
+use Rattle.log_commands.specs.Commands.{BothLent}
 use Rattle.log_reader.specs.declared.Reader.{Reader}
 
 -- there are 13 places for bytes and one of them is free, and whole triangles wait

@@ -12,7 +12,8 @@ ghost use Rattle.log_lines.specs.Bytes.{Wrote};
 ghost use Rattle.log_events.specs.Both.{bothGiven, bothLeft};
 ghost use Rattle.log_events.specs.Events.{lineRoom};
 ghost use Rattle.log_readers.specs.Readers.{overlayRoom};
-ghost use Rattle.log_commands.specs.Commands.{waitingLength, lentBoth};
+ghost use Rattle.log_waiting.specs.Waiting.{waitingLength};
+ghost use Rattle.log_commands.specs.Commands.{lentBoth};
 ghost use Rattle.log_reader.specs.Reader.{Ready, FedLent, noCounts, Begun, ReadOn};
 
 // What is kept between two bytes: the bytes of a command that is not whole and how many they are, the offset of the next command

@@ -12,7 +12,7 @@ ghost use Prim.Native.Nat.{_+_, _^_, _≤_, _<_};
 ghost use lib.ListN.{length};
 ghost use Rattle.spec_calls.specs.Buffers.{pairsLength};
 ghost use Rattle.log_readers.specs.Readers.{overlayRoom};
-ghost use Rattle.log_commands.specs.Commands.{waitingLength};
+ghost use Rattle.log_waiting.specs.Waiting.{waitingLength};
 ghost use Rattle.log_reader.specs.Reader.{Ready};
 
 // The reader after a portion, and whether there is more to do: `bad` was not printed, and the output is taken.

@@ -10,7 +10,9 @@ use Rattle.spec_calls.specs.Lent.{held}
 use Rattle.spec_log.specs.Log.{State, stepOf}
 use Rattle.replay_lists.specs.declared.Counts.{Counts}
 use Rattle.log_commands.specs.declared.Done.{Done}
-use Rattle.log_commands.specs.Commands.{Whole, Running, RanCommand}
+use Rattle.log_waiting.specs.Waiting.{Whole}
+use Rattle.log_edits.specs.Edits.{Running}
+use Rattle.log_commands.specs.Commands.{RanCommand}
 use Rattle.log_commands.proofs.CommandLaws.{as-wait, as-load, as-edit, as-locate, as-overlay, both-bounds, no-bounds}
 use Rattle.log_commands.proofs.run_command.Statement.{statement}
 use Rattle.log_commands.proofs.run_command.Tie as tie

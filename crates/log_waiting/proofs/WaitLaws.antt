@@ -15,7 +15,7 @@ use Rattle.spec_log.specs.Log.{State, line, withWaiting, waitStep}
 use Rattle.log_lines.specs.Bytes.{Wrote}
 use Rattle.log_lines.proofs.LineLaws.{wrote-none}
 use Rattle.log_state.specs.State.{Charts}
-use Rattle.log_commands.specs.Commands.{Whole, callHead, waitingLength, waitingIn, Waited}
+use Rattle.log_waiting.specs.Waiting.{Whole, callHead, waitingLength, waitingIn, Waited}
 
 -- what is stored after the first k places is stored in the rest of the list
 drop-sets : (k : ℕ) (l : List ℕ) (i : ℕ) (vs : List ℕ) → drop k (sets l (k + i) vs) ≡ sets (drop k l) i vs

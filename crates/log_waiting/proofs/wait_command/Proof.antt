@@ -5,9 +5,9 @@ use lib.ListN.{drop}
 use Rattle.spec_log.specs.Log.{wordsOf}
 use Rattle.log_events.proofs.EventLaws.{room-two}
 use Rattle.log_bytes.proofs.WordLaws.{words-length}
-use Rattle.log_commands.proofs.WaitLaws.{wait-more, wait-full}
-use Rattle.log_commands.proofs.wait_command.Statement.{statement}
-use Rattle.log_commands.proofs.wait_command.Tie as tie
+use Rattle.log_waiting.proofs.WaitLaws.{wait-more, wait-full}
+use Rattle.log_waiting.proofs.wait_command.Statement.{statement}
+use Rattle.log_waiting.proofs.wait_command.Tie as tie
 
 put-six-requires : tie.Need-put-six-requires
 put-six-requires c κs =

@@ -8,10 +8,10 @@ use lib.ListN.{take, set, length-set}
 use lib.Seq.{length-take-le}
 use Rattle.spec_log.specs.Log.{withWaiting}
 use Rattle.replay_calls.specs.Encoding.{IsCall}
-use Rattle.log_commands.specs.Commands.{callHead, waitingIn}
-use Rattle.log_commands.proofs.CommandLaws.{load-numbers, load-call, charts-emptied, load-ran}
-use Rattle.log_commands.proofs.load_command.Statement.{statement}
-use Rattle.log_commands.proofs.load_command.Tie as tie
+use Rattle.log_waiting.specs.Waiting.{callHead, waitingIn}
+use Rattle.log_edits.proofs.EditLaws.{load-numbers, load-call, charts-emptied, load-ran}
+use Rattle.log_edits.proofs.load_command.Statement.{statement}
+use Rattle.log_edits.proofs.load_command.Tie as tie
 
 -- an earlier place, found from a later one
 abbrev start : tie.After-event-command-arg → tie.Start

@@ -6,9 +6,9 @@ use lib.ListN.{length, getD, take}
 use lib.Seq.{length-take-le}
 use Rattle.replay_calls.specs.Encoding.{IsCall}
 use Rattle.log_bytes.specs.Words.{editNumbers, editLength}
-use Rattle.log_commands.proofs.CommandLaws.{edit-call, edit-ran}
-use Rattle.log_commands.proofs.edit_command.Statement.{statement}
-use Rattle.log_commands.proofs.edit_command.Tie as tie
+use Rattle.log_edits.proofs.EditLaws.{edit-call, edit-ran}
+use Rattle.log_edits.proofs.edit_command.Statement.{statement}
+use Rattle.log_edits.proofs.edit_command.Tie as tie
 
 -- an earlier place, found from a later one
 abbrev start : tie.After-edit-length → tie.Start
