@@ -1,10 +1,12 @@
 -- Examples of Encoding.antt.
 -- Assumes nothing.
 use mathlib.Core.Path.{_≡_, refl}
-use mathlib.Core.Bool.{true, false, false≢true}
-use mathlib.Core.List.{[], _∷_, _++_, map, flatMap}
+use mathlib.Core.Bool.{true, false, _||_, false≢true}
+use mathlib.Core.List.{List, [], _∷_, _++_, map, flatMap}
+use Prim.Native.Nat.{ℕ}
 use native.Mathlib.Omega.{arith}
-use lib.ListN.{replicate}
+use lib.Dec.{eqb}
+use lib.ListN.{length, getD, replicate}
 use Rattle.theory_lists.specs.Lists.{all}
 use Rattle.spec_charts.specs.Table.{pointAt, sixteenBit}
 use Rattle.spec_charts.specs.Edits.{load, split, takeOut, flip, sideSplit}
@@ -38,11 +40,15 @@ cut-example = refl
 isSplit-example : IsSplit (3 ∷ 8 ∷ 6 ∷ 7 ∷ []) × IsSplit (8 ∷ 3 ∷ 6 ∷ 7 ∷ [])
 isSplit-example = (record { four = refl; command = refl }, record { four = refl; command = refl })
 
-no-split-example : (IsSplit (4 ∷ 3 ∷ 8 ∷ 3 ∷ []) → ⊥) × (IsSplit (4294967304 ∷ 3 ∷ 8 ∷ 3 ∷ []) → ⊥)
-no-split-example = (λ h. false≢true (h .command), λ h. false≢true (h .command))
+no-split-example : (IsSplit (4 ∷ 3 ∷ 8 ∷ 3 ∷ []) → ⊥) × ((IsSplit (4294967299 ∷ 3 ∷ 8 ∷ 3 ∷ []) → ⊥) × (IsSplit (4294967304 ∷ 3 ∷ 8 ∷ 3 ∷ []) → ⊥))
+no-split-example = (λ h. false≢true (h .command), (λ h. false≢true (h .command), λ h. false≢true (h .command)))
 
 not-four-example : (IsSplit (8 ∷ 6 ∷ 7 ∷ []) → ⊥) × (IsSplit (3 ∷ 6 ∷ 7 ∷ 8 ∷ 9 ∷ []) → ⊥)
 not-four-example = (λ h. omega (arith, h .four), λ h. omega (arith, h .four))
+
+-- however many numbers there are, and whatever the first is
+split-numbers-example : (ns : List ℕ) → IsSplit ns → (length ns ≡ 4) × (eqb (getD ns 0 0) 3 || eqb (getD ns 0 0) 8 ≡ true)
+split-numbers-example ns h = (h .four, h .command)
 
 -- the numbers of a call, whole; any command but 2, 3, 4 and 8 is a flip here
 callEvent-example :
