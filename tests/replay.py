@@ -174,7 +174,7 @@ def drawn(rng):
         edits.drawn_edits(s, rng.choice(list(edits.STARTS)))
     codes = {name: code for code, name in COMMANDS.items()}
     made = [(step[0], step[2]) for step in s.steps if step[0] in codes]
-    numbers = [n for name, ops in made for n in [codes[name]] + [len(ops)] * (name == "load") + ops][:LONGEST]
+    numbers = [n for name, ops in made for n in [codes[name]] + [len(ops)] * (name == "load") + ops][: LONGEST - 1]
     if rng.random() < 0.2:
         return numbers[: rng.randrange(len(numbers))]
     if rng.random() < 0.2:
