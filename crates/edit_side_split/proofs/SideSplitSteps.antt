@@ -18,7 +18,8 @@ use Rattle.spec_charts.specs.declared.Refusal.the-variants.{NoSuchTriangle, Tab
 use Rattle.spec_charts.specs.Refusals.{refused, done, refuseIf}
 use Rattle.spec_charts.specs.Edits.{triangle, Neighbour, neighbourFrom, sideFirst, sideSplitAt, sideSplitBoth, withinTable, sideSplitRow, sideSplitFirst, sideSplitTable}
 use Rattle.laws_charts.proofs.TableLaws.{tableOf-length, numbered-at}
-use Rattle.laws_charts.proofs.SideSplitLaws.{neighbour-found, sideSplitAt-length}
+use Rattle.laws_charts.proofs.NeighbourLaws.{neighbour-found}
+use Rattle.laws_charts.proofs.SideSplitLaws.{sideSplitAt-length}
 use Rattle.edit_rows.proofs.RowLaws.{withRow, withRow-length, rows-append, rows-set}
 use Rattle.edit_rows.proofs.CopyLaws.{triangle-read}
 use Rattle.edit_sides.specs.Sharing.{RotationFound}

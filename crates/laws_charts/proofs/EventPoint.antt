@@ -15,7 +15,8 @@ use Rattle.spec_charts.specs.Edits.{Event, load, split, takeOut, flip, sideSpli
 use Rattle.laws_charts.proofs.RotationLaws.{rotations-every, endingIn-rotation}
 use Rattle.laws_charts.proofs.GridLaws.{IsTriangle, table-triangles, held-grid, inside-grid}
 use Rattle.laws_charts.proofs.EditLaws.{split-done, takeOut-done}
-use Rattle.laws_charts.proofs.SideSplitLaws.{side-held, sideSplit-done}
+use Rattle.laws_charts.proofs.SideFirstLaws.{side-held}
+use Rattle.laws_charts.proofs.SideSplitLaws.{sideSplit-done}
 use Rattle.laws_charts.proofs.EventTable.{event-proposed}
 
 -- the point of a split, side split or take-out is on the grid

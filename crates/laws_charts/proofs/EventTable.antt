@@ -30,7 +30,8 @@ use Rattle.laws_charts.proofs.OutcomeLaws.{refused-done}
 use Rattle.laws_charts.proofs.CountedLaws.{counted-done}
 use Rattle.laws_charts.proofs.EditLaws.{Split, split-done, mergedTriangle, TakenOut, takeOut-done}
 use Rattle.laws_charts.proofs.FlipLaws.{Flipped, flip-done}
-use Rattle.laws_charts.proofs.SideSplitLaws.{SideSplit, side-held, sideSplit-done, sideSplit-every, sideSplit-parts}
+use Rattle.laws_charts.proofs.SideFirstLaws.{side-held}
+use Rattle.laws_charts.proofs.SideSplitLaws.{SideSplit, sideSplit-done, sideSplit-every, sideSplit-parts}
 
 -- ---- triangles that edits make
 

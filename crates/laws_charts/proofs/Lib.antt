@@ -10,6 +10,8 @@ pub mod GridLaws
 pub mod EditLaws
 pub mod FlipLaws
 pub mod SideLaws
+pub mod SideFirstLaws
+pub mod NeighbourLaws
 pub mod SideSplitLaws
 pub mod LoadTable
 pub mod MergeLaws

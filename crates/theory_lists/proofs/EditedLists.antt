@@ -108,6 +108,14 @@ module _ {A : Type 0} where
 
   -- ---- searches
 
+  -- to find nothing is not to find something
+  pub none-some : {x : A} → none ≡ some x → ⊥
+  none-some e = let z : _≡_ {A = ℕ} 0 1 = cc in omega arith
+
+  -- and what is found is one thing
+  pub some-same : {x y : A} → some x ≡ some y → x ≡ y
+  some-same e = cc
+
   module _ (f : A → Bool) (k : ℕ) (x : A) (l : List A) where
     -- the places that pass a test, where the first element passes it
     pub placesFrom-pass : f x ≡ true → placesFrom f k (x ∷ l) ≡ k ∷ placesFrom f (suc k) l
@@ -158,12 +166,12 @@ module _ {A : Type 0} where
   -- the first element that passes a test is an element, and passes it
   pub first-found : (f : A → Bool) (l : List A) {x : A} → first f l ≡ some x → List·Memᴰ x l × T (f x)
   unfolding first
-  first-found f [] e = let z : _≡_ {A = ℕ} 0 1 = cc in absurd (omega arith)
+  first-found f [] e = absurd (none-some e)
   first-found f (y ∷ l) e = first-choice f y l (f y) refl (λ q. first-found f l q) e
 
   missed-choice : (f : A → Bool) (y : A) (l : List A) (b : Bool) → f y ≡ b → (first f l ≡ none → Every (λ x. f x ≡ false) l)
       → _≡_ {A = Option A} (elim b [ true ↦ some y | false ↦ first f l ]) none → Every (λ x. f x ≡ false) (y ∷ l)
-  missed-choice f y l true p r q = let z : _≡_ {A = ℕ} 0 1 = cc in absurd (omega arith)
+  missed-choice f y l true p r q = absurd (none-some (sym q))
   missed-choice f y l false p r q = every-cons (p, r q)
 
   -- where the search for a first element finds none, no element passes

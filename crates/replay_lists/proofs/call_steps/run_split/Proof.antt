@@ -1,7 +1,5 @@
 -- The first number says which of the two it is, and each is the call of its event.
 use mathlib.Core.Path.{_∙_}
-use mathlib.Core.List.{List}
-use Prim.Native.Nat.{ℕ}
 use native.Mathlib.Omega.{arith}
 use borrow.Author.Needs.{needs}
 use Rattle.spec_calls.specs.Buffers.{Chart}
@@ -33,5 +31,9 @@ returns-2 c =
 
 pub run-split-spec : {M : Type 1} → statement M
 run-split-spec =
-    tie.close (tie.spec (λ c. let top : tie.Start = search needs in omega (arith, top .pre .four)) (λ c κs. search needs) (λ c. let top : tie.Start = search needs in omega (arith, top .pre .four)) (λ c. let top : tie.Start = search needs in omega (arith, top .pre .four)) (λ c. let top : tie.Start = search needs in omega (arith, top .pre .four)) (λ c κs. search needs) (λ c. search needs) (λ c. search needs)
-    (λ c. search needs) (λ c. search needs) returns (λ c κs. search needs) (λ c. search needs) (λ c. search needs) (λ c. search needs) (λ c. search needs) returns-2)
+    tie.close (tie.spec (λ c. let top : tie.Start = search needs in omega (arith, top .pre .four)) (λ c κs. search needs)
+    (λ c. let top : tie.Start = search needs in omega (arith, top .pre .four))
+    (λ c. let top : tie.Start = search needs in omega (arith, top .pre .four))
+    (λ c. let top : tie.Start = search needs in omega (arith, top .pre .four)) (λ c κs. search needs)
+    (λ c. search needs) (λ c. search needs) (λ c. search needs) (λ c. search needs) returns (λ c κs. search needs) (λ c. search needs)
+    (λ c. search needs) (λ c. search needs) (λ c. search needs) returns-2)
