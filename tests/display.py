@@ -44,6 +44,9 @@ STREAM = os.path.join(EXAMPLES, "turning-basin.bin")
 PICTURES = os.path.join(ROOT, "docs", "pictures")
 CHARTS = ("bed", "design")
 POSITIONS = list(range(8))
+# U in both charts, and a head at each position by it: inside, on ab, bc and ca, at a, b and c, outside
+BOTH_U = b"".join(map(streams.command, streams.parts("1 U; 2 0; 1 U; 2 1")))
+HEADS_OF_U = [[1, 1], [7, 0], [32768, 32767], [0, 7], [0, 0], [65535, 0], [0, 65535], [65535, 65535]]
 SEED = 7
 DRAWN = 60
 SMALL = ["--size", "320x200"]
@@ -311,9 +314,11 @@ def drawn_head(rng, data, log):
 def test_reports():
     """Every stream by the display and by the model."""
     rng, given = random.Random(SEED), list(all_streams())
+    heads = [None] * len(given) + HEADS_OF_U
+    given += [("U at {},{}".format(*head), BOTH_U) for head in HEADS_OF_U]
     logs, seen = model_logs([data for _, data in given]), []
     for k, (name, data) in enumerate(given):
-        head = drawn_head(rng, data, logs[k]) if k % 2 else None
+        head = heads[k] or (drawn_head(rng, data, logs[k]) if k % 2 else None)
         view = VIEWS[k % len(VIEWS)]
         report, status = report_of("--bytes", *view, *(["--head", "{},{}".format(*head)] if head else []), given=data)
         if report is None:
