@@ -2,22 +2,18 @@
 -- The idea: a triangle holds the point at which it or its side is split, and one that is taken out is a corner.
 -- Assumes nothing.
 use mathlib.Core.Path.{_≡_, refl, subst}
-use Prim.Native.Nat.{ℕ, _<_}
 use lib.Dec.{T}
-use lib.ListN.{length}
-use Rattle.theory_lists.proofs.ListsLaws.{getD-member}
 use Rattle.spec_plane.specs.declared.Point.{Point}
 use Rattle.spec_plane.specs.Triangle.{Triangle}
 use Rattle.spec_plane.proofs.ExtremeLaws.{OnGrid, CornersOnGrid}
-use Rattle.spec_charts.specs.Table.{Table, IsTable, numbered, noTriangle}
+use Rattle.spec_charts.specs.Table.{Table, IsTable, numbered}
 use Rattle.spec_charts.specs.Refusals.{Outcome, refused, done, doneOr}
 use Rattle.spec_charts.specs.Edits.{Event, load, split, takeOut, flip, sideSplit, triangle, hasCorner, endingIn, proposed, eventOn, afterEvent}
 use Rattle.laws_charts.proofs.RotationLaws.{rotations-every, endingIn-rotation}
-use Rattle.laws_charts.proofs.GridLaws.{IsTriangle, table-triangles, held-grid, inside-grid}
+use Rattle.laws_charts.proofs.GridLaws.{IsTriangle, numbered-triangle, inside-grid}
 use Rattle.laws_charts.proofs.EditLaws.{split-done, takeOut-done}
-use Rattle.laws_charts.proofs.SideFirstLaws.{side-held}
 use Rattle.laws_charts.proofs.SideSplitLaws.{sideSplit-done}
-use Rattle.laws_charts.proofs.EventTable.{event-proposed}
+use Rattle.laws_charts.proofs.EventTable.{sideSplit-point, event-proposed}
 
 -- the point of a split, side split or take-out is on the grid
 abbrev pub PointOnGrid : Event → Type 0
@@ -36,20 +32,15 @@ corner-grid p t h c =
     subst OnGrid (e .1) (turned (endingIn p t) (e .0) .c)
 
 module _ {table : Table} (h : IsTable table) where
-  at : (i : ℕ) → i < length table → IsTriangle (numbered table i)
-  unfolding numbered
-  at i l = table-triangles h _ (getD-member table i noTriangle l)
-
   proposed-point : (e : Event) (next : Table) → proposed e table ≡ done next → PointOnGrid e
   unfolding proposed
   proposed-point (load ns) next d = tt
   proposed-point (split t p) next d =
-      let s = split-done t p table next d in inside-grid (numbered table t) p (at t (s .below)) (s .inside)
+      let s = split-done t p table next d in inside-grid (numbered table t) p (numbered-triangle h t (s .below)) (s .inside)
   proposed-point (takeOut p) next d =
-      let s = takeOut-done p table next d in corner-grid p (numbered table (s .k)) (at (s .k) (s .below)) (s .cornerK)
+      let s = takeOut-done p table next d in corner-grid p (numbered table (s .k)) (numbered-triangle h (s .k) (s .below)) (s .cornerK)
   proposed-point (flip i j) next d = tt
-  proposed-point (sideSplit i p) next d =
-      let s = sideSplit-done i p table next d in held-grid (numbered table i) p (at i (s .below)) (side-held (numbered table i) p (s .found))
+  proposed-point (sideSplit i p) next d = sideSplit-point h i p (sideSplit-done i p table next d)
 
   -- an accepted event has its point on the grid
   pub event-point : (e : Event) (next : Table) → eventOn e table ≡ done next → PointOnGrid e

@@ -12,20 +12,20 @@ use lib.Dec.{T}
 use lib.ListN.{length, set, length-append, length-set}
 use Rattle.theory_lists.specs.Lists.{all}
 use Rattle.theory_lists.proofs.Reflects.{reflects-test}
-use Rattle.theory_lists.proofs.ListsLaws.{Every, every-cons, every-uncons, all-reflects, getD-member}
+use Rattle.theory_lists.proofs.ListsLaws.{Every, every-cons, every-uncons, all-reflects}
 use Rattle.theory_lists.proofs.EveryLaws.{every-nil, every-append}
 use Rattle.theory_lists.proofs.EditedLists.{every-set}
 use Rattle.spec_plane.specs.declared.Point.{Point}
 use Rattle.spec_plane.specs.Triangle.{Triangle, proper}
 use Rattle.spec_plane.proofs.ExtremeLaws.{OnGrid}
-use Rattle.spec_charts.specs.Table.{Table, IsTable, numbered, noTriangle}
+use Rattle.spec_charts.specs.Table.{Table, IsTable, numbered}
 use Rattle.spec_charts.specs.Refusals.{Outcome, refused, done, andThen, doneOr}
 use Rattle.spec_charts.specs.Edits.{Event, load, split, takeOut, flip, sideSplit, triangle, rotations, hasCorner, splitAt, endingIn, sixteenBitEvent, proposed, counted, eventOn, afterEvent, afterEvents, plainTable}
 use Rattle.laws_charts.proofs.TriangleLaws.{proper-rotate, inside-parts}
 use Rattle.laws_charts.proofs.RotationLaws.{rotations-every, endingIn-rotation}
 use Rattle.laws_charts.proofs.LoadTable.{load-table}
 use Rattle.laws_charts.proofs.MergeLaws.{taken-sum, merge-length, merge-every}
-use Rattle.laws_charts.proofs.GridLaws.{IsTriangle, table-proper, table-triangles, triangles-table, held-grid, inside-grid}
+use Rattle.laws_charts.proofs.GridLaws.{IsTriangle, table-proper, table-triangles, numbered-triangle, triangles-table, held-grid, inside-grid}
 use Rattle.laws_charts.proofs.OutcomeLaws.{refused-done}
 use Rattle.laws_charts.proofs.CountedLaws.{counted-done}
 use Rattle.laws_charts.proofs.EditLaws.{Split, split-done, mergedTriangle, TakenOut, takeOut-done}
@@ -52,8 +52,7 @@ module _ {table : Table} (h : IsTable table) where
   good = table-triangles h
 
   at : (i : ℕ) → i < length table → IsTriangle (numbered table i)
-  unfolding numbered
-  at i l = good _ (getD-member table i noTriangle l)
+  at = numbered-triangle h
 
   split-table : {next : Table} (t : ℕ) (p : Point) → Split t p table next → IsTable next
   unfolding splitAt
@@ -92,9 +91,13 @@ module _ {table : Table} (h : IsTable table) where
       (every-set (set table i _) j (every-set table i good (made _ _ _ (s .properI) (t .a) (u .c) (t .c)))
       (made _ _ _ (s .properJ) (u .c) (t .b) (t .c))))
 
+  -- a triangle holds the point of a side split, so it is on the grid
+  pub sideSplit-point : {next : Table} (i : ℕ) (p : Point) → SideSplit i p table next → OnGrid p
+  sideSplit-point i p s = held-grid (numbered table i) p (at i (s .below)) (side-held (numbered table i) p (s .found))
+
   sideSplit-table : {next : Table} (i : ℕ) (p : Point) → SideSplit i p table next → IsTable next
   sideSplit-table i p s =
-      let on = held-grid (numbered table i) p (at i (s .below)) (side-held (numbered table i) p (s .found)) in
+      let on = sideSplit-point i p s in
       triangles-table (s .few) (sideSplit-every s (table-proper h) good (λ j b r f.
       let g = rotation (numbered table j) (at j b) r (f .rotation) in
       let d = sideSplit-parts s (table-proper h) j b f in

@@ -13,7 +13,7 @@ use lib.ListN.{length}
 use lib.Signed.{ltZ, leZ}
 use Rattle.theory_lists.specs.Lists.{all}
 use Rattle.theory_lists.proofs.Reflects.{Reflects, reflects-ltb, reflects-le, reflects-test, reflects-and₃}
-use Rattle.theory_lists.proofs.ListsLaws.{Every, every-cons, all-reflects}
+use Rattle.theory_lists.proofs.ListsLaws.{Every, every-cons, all-reflects, getD-member}
 use Rattle.theory_lists.proofs.EveryLaws.{every-nil, every-imp, every-flatMap}
 use Rattle.theory_lists.proofs.EditedLists.{flatMap-every}
 use Rattle.spec_plane.specs.declared.Point.{Point}
@@ -23,7 +23,7 @@ use Rattle.spec_plane.specs.Box.{Box, apart, triangleBox, triangleMeets, allOut
 use Rattle.spec_plane.proofs.OrientLaws.{orientLow, orientHigh, orient-positive, orient-nonneg}
 use Rattle.spec_plane.proofs.ExtremeLaws.{OnGrid}
 use Rattle.laws_separation.proofs.Meets.{holds-meets}
-use Rattle.spec_charts.specs.Table.{Table, IsTable, maxTriangles, sixteenBit, triangleNumbers, tableNumbers}
+use Rattle.spec_charts.specs.Table.{Table, IsTable, numbered, noTriangle, maxTriangles, sixteenBit, triangleNumbers, tableNumbers}
 
 -- a triangle of a table
 pub record IsTriangle (t : Triangle) : Type 0 where
@@ -85,6 +85,11 @@ unfolding tableNumbers
 table-triangles {table} h t m =
     numbers-grid t (table-proper h t m)
     (flatMap-every (λ t. triangleNumbers t) table (sixteenBit-reflects (tableNumbers table) .to (h .words)) t m)
+
+-- so is each that a number below the count stands for
+pub numbered-triangle : {table : Table} → IsTable table → (i : ℕ) → i < length table → IsTriangle (numbered table i)
+unfolding numbered
+numbered-triangle {table} h i l = table-triangles h _ (getD-member table i noTriangle l)
 
 -- and few such triangles are a table
 pub triangles-table : {table : Table} → length table ≤ maxTriangles → Every IsTriangle table → IsTable table

@@ -1,7 +1,7 @@
 -- One call by its numbers: how many they are, and which call of a chart they make.
 -- Assumes nothing.
-use mathlib.Core.Path.{_≡_, refl, sym, _∙_}
-use mathlib.Core.Bool.{Bool, true, false, true≢false, _||_}
+use mathlib.Core.Path.{_≡_, sym, _∙_}
+use mathlib.Core.Bool.{Bool, true, false, _||_}
 use mathlib.Core.List.{List}
 use Prim.Native.Nat.{ℕ, _-_, _≤_}
 use native.Mathlib.Omega.{arith}
@@ -9,17 +9,13 @@ use borrow.Author.Tests.{eq-eqb, ne-eqb, eqb-true}
 use lib.Dec.{eqb}
 use lib.ListN.{length, getD, take, drop, length-drop}
 use lib.Seq.{take-all}
+use Rattle.theory_lists.proofs.Reflects.{or-neither}
 use Rattle.spec_charts.specs.Table.{pointAt}
 use Rattle.spec_calls.specs.Buffers.{Chart}
 use Rattle.spec_calls.specs.Calls.{loadCall, splitCall, takeOutCall, flipCall, sideSplitCall}
 use Rattle.spec_calls.specs.History.{eventCall}
 use Rattle.replay_calls.specs.Encoding.{IsCall, IsSplit, callEvent}
 use Rattle.replay_calls.proofs.EncodingLaws.{length-load, length-split, length-three}
-
--- a command that is none of two
-neither : (a b : Bool) → a || b ≡ false → (a ≡ false) × (b ≡ false)
-neither true b e = absurd (true≢false e)
-neither false b e = (refl, e)
 
 -- one that is not the first of two is the second
 second : (a b : Bool) → a || b ≡ true → a ≡ false → b ≡ true
@@ -70,9 +66,9 @@ module _ (ns : List ℕ) where
       module _ (s : eqb command 3 || eqb command 8 ≡ false) where
         pub takeOut-event : command ≡ 4 → takeOutCall (record { x = getD ns 1 0; y = getD ns 2 0 }) c ≡ eventCall (callEvent ns) c
         unfolding callEvent eventCall pointAt
-        takeOut-event e = let n = neither (eqb command 3) (eqb command 8) s in rw (ne-eqb command 2 l, n .0, n .1, eq-eqb command 4 e)
+        takeOut-event e = let n = or-neither (eqb command 3) (eqb command 8) s in rw (ne-eqb command 2 l, n .0, n .1, eq-eqb command 4 e)
 
         pub flip-event : {i j : ℕ} → (command ≡ 4 → ⊥) → i ≡ getD ns 1 0 → j ≡ getD ns 2 0 → flipCall i j c ≡ eventCall (callEvent ns) c
         unfolding callEvent eventCall
         flip-event t i j =
-            let n = neither (eqb command 3) (eqb command 8) s in rw (ne-eqb command 2 l, n .0, n .1, ne-eqb command 4 t, i, j)
+            let n = or-neither (eqb command 3) (eqb command 8) s in rw (ne-eqb command 2 l, n .0, n .1, ne-eqb command 4 t, i, j)

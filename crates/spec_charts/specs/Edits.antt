@@ -177,7 +177,7 @@ neighbourFrom t k (u ∷ us) = neighbourOr k (first (λ r. sharesSide t r) (rota
 unfoldable pub sideSplitAt : Table → ℕ → Triangle → Point → Table
 sideSplitAt table i t p = set table i (madeFrom t (t .a) p (t .c)) ++ (madeFrom t p (t .b) (t .c) ∷ [])
 
--- the triangles on both sides of ab, where there is one on the other
+-- the table with t split at p, and with the triangle on the other side of ab split too, where there is one
 unfoldable pub sideSplitBoth : Table → ℕ → Triangle → Point → Option Neighbour → Table
 sideSplitBoth table i t p none = sideSplitAt table i t p
 sideSplitBoth table i t p (some u) = sideSplitAt (sideSplitAt table i t p) (u .number) (u .rotation) p
@@ -186,7 +186,7 @@ sideSplitBoth table i t p (some u) = sideSplitAt (sideSplitAt table i t p) (u .n
 unfoldable pub withinTable : Table → Outcome Table
 withinTable next = refuseIf (ltb maxTriangles (length next)) TableFull (done next)
 
--- triangle i, of which t is the rotation (a,b,c) with p on ab
+-- the side split of triangle i, of which t is the rotation (a,b,c) with p on ab
 unfoldable pub sideSplitRow : ℕ → Triangle → Point → Table → Outcome Table
 sideSplitRow i t p table = withinTable (sideSplitBoth table i t p (neighbourFrom t 0 table))
 
