@@ -1,19 +1,22 @@
-/* Time per call: the library's calls beside the hand-written ones of engine.c, on the same charts in one run.
+/* Time per call: the library's calls beside the hand-written ones of engine.c, on the same charts in one run, and, where it is built with
+   BEFORE, beside those of an earlier archive (before.c), by turns.
    Each number is the best of the rounds, in processor time of this thread, so that other work on the machine counts little. Answers and
-   buffers are compared; it ends with status 1 where they differ. */
+   buffers are compared; it ends with status 1 where they differ.
+   usage: bench [CALL CHARTS ENGINE]: that call once, by one engine, on one pair of charts, to count its instructions (count.py) */
 #include "engine.h"
 #include <stdio.h>
 #include <stdlib.h>
 #include <string.h>
 #include <time.h>
 
-enum { ROUNDS = 40, MOST = 3, POINTS = 64 };
+enum { ROUNDS = 40, MOST = 4, POINTS = 64 };
 
 static uint16_t table[JIRD_TABLE_LENGTH];
 static jird_chart charts[MOST], bed, design;
 static uint16_t pairs[MOST][JIRD_PAIRS_LENGTH];
 static jird_located places[MOST][POINTS];
 static jird_overlaid overlaid[MOST];
+static jird_sounded sounded[MOST];
 static size_t length;
 
 static double microseconds(void) {
@@ -49,16 +52,75 @@ static void make(unsigned g, unsigned uneven) {
             }
 }
 
-/* ---- the calls; engine 0 is the library */
+/* An uneven grid of g times g squares, each halved along one of its diagonals, as drawn, its corners and its triangles in drawn order. */
+static void scatter(unsigned g, unsigned seed) {
+    static const unsigned halves[2][6][2] = {{{0, 0}, {1, 0}, {0, 1}, {1, 1}, {0, 1}, {1, 0}}, {{0, 0}, {1, 0}, {1, 1}, {1, 1}, {0, 1}, {0, 0}}};
+    static uint16_t x[17][17], y[17][17];
+    unsigned step = 65535 / g;
+    size_t count = 2 * (size_t)g * g;
+    state = seed;
+    for (unsigned j = 0; j <= g; j++)
+        for (unsigned i = 0; i <= g; i++) {
+            x[j][i] = (uint16_t)(i * 65535 / g + (i > 0 && i < g ? below(step / 2) - step / 4 : 0));
+            y[j][i] = (uint16_t)(j * 65535 / g + (j > 0 && j < g ? below(step / 2) - step / 4 : 0));
+        }
+    length = 0;
+    for (unsigned j = 0; j < g; j++)
+        for (unsigned i = 0; i < g; i++) {
+            unsigned way = below(2);
+            for (unsigned h = 0; h < 2; h++) {
+                unsigned turn = below(3);
+                for (unsigned k = 0; k < 3; k++) {
+                    const unsigned *corner = halves[way][3 * h + (k + turn) % 3];
+                    table[length++] = x[j + corner[1]][i + corner[0]];
+                    table[length++] = y[j + corner[1]][i + corner[0]];
+                }
+            }
+        }
+    for (size_t n = count; n > 1; n--) {
+        size_t m = below((unsigned)n);
+        uint16_t row[6];
+        memcpy(row, table + 6 * m, sizeof row);
+        memcpy(table + 6 * m, table + 6 * (n - 1), sizeof row);
+        memcpy(table + 6 * (n - 1), row, sizeof row);
+    }
+}
+
+/* The pairs of charts: an even grid and an uneven one, each under and over the other, and two that are drawn without order. */
+typedef struct { const char *name; unsigned g; } Charts;
+static const Charts all_charts[] = {{"even", 1}, {"even", 4}, {"even", 8}, {"even", 16}, {"uneven", 1}, {"uneven", 4}, {"uneven", 8},
+                                    {"uneven", 16}, {"drawn", 4}, {"drawn", 8}, {"drawn", 16}};
+enum { CHARTS = sizeof all_charts / sizeof all_charts[0] };
+
+static void prepare(const Charts *c) {
+    int uneven = c->name[0] == 'u';
+    if (c->name[0] == 'd') scatter(c->g, 21);
+    else make(c->g, !uneven);
+    jird_chart_load(&design, table, length);
+    if (c->name[0] == 'd') scatter(c->g, 20);
+    else make(c->g, (unsigned)uneven);
+    jird_chart_load(&bed, table, length);
+}
+
+/* ---- the calls; engine 0 is the library, the last one an earlier archive of it, if there is one */
+
+#ifdef BEFORE
+#define EARLIER(call) , call
+#else
+#define EARLIER(call)
+#endif
+
+static jird_changed (*const loads[])(jird_chart *, const uint16_t *, size_t) = {jird_chart_load, culled_load, plain_load EARLIER(before_load)};
+static jird_located (*const locates[])(const jird_chart *, uint16_t, uint16_t) = {jird_chart_locate, plain_locate EARLIER(before_locate)};
+static jird_sounded (*const soundnesses[])(const jird_chart *) = {jird_chart_soundness, plain_soundness EARLIER(before_soundness)};
+static jird_overlaid (*const overlays[])(const jird_chart *, const jird_chart *, uint16_t *) = {jird_chart_overlay,
+                                                                                              plain_overlay EARLIER(before_overlay)};
 
 static void load(int engine) {
-    static jird_changed (*const calls[MOST])(jird_chart *, const uint16_t *, size_t) = {jird_chart_load, culled_load, plain_load};
-    if (calls[engine](&charts[engine], table, length).number != JIRD_DONE) exit(1);
+    if (loads[engine](&charts[engine], table, length).number != JIRD_DONE) exit(1);
 }
 
-static jird_located located(int engine, uint16_t x, uint16_t y) {
-    return engine == 0 ? jird_chart_locate(&bed, x, y) : plain_locate(&bed, x, y);
-}
+static jird_located located(int engine, uint16_t x, uint16_t y) { return locates[engine](&bed, x, y); }
 
 static void locate(int engine) {
     state = 99;
@@ -68,9 +130,9 @@ static void locate(int engine) {
     }
 }
 
-static void overlay(int engine) {
-    overlaid[engine] = engine == 0 ? jird_chart_overlay(&bed, &design, pairs[0]) : plain_overlay(&bed, &design, pairs[engine]);
-}
+static void soundness(int engine) { sounded[engine] = soundnesses[engine](&bed); }
+
+static void overlay(int engine) { overlaid[engine] = overlays[engine](&bed, &design, pairs[engine]); }
 
 /* Whether an engine finds what the library finds at the corners and in the middle of the sides of the bed; no drawn point is there. */
 static int agrees_on_sides(int e) {
@@ -87,11 +149,15 @@ static int agrees_on_sides(int e) {
 static int agrees(void (*call)(int), int e) {
     if (call == load) return memcmp(&charts[0], &charts[e], sizeof charts[0]) == 0;
     if (call == locate) return memcmp(places[0], places[e], sizeof places[0]) == 0 && agrees_on_sides(e);
+    if (call == soundness) return sounded[0].number == sounded[e].number && sounded[0].sound == sounded[e].sound;
     jird_overlaid a = overlaid[0], b = overlaid[e];
     return a.number == b.number && a.pairs == b.pairs && a.meetings == b.meetings && memcmp(pairs[0], pairs[e], sizeof pairs[0]) == 0;
 }
 
 /* ---- measuring */
+
+/* A call whose instructions are counted: count.py asks for this function and what it calls. */
+__attribute__((noinline)) static void counted(void (*call)(int), int engine) { call(engine); }
 
 /* Prints the best time of each engine per call, and the library's as ratios to the others. */
 static void measure(void (*call)(int), int engines, int turns, int per_turn) {
@@ -115,23 +181,52 @@ static void measure(void (*call)(int), int engines, int turns, int per_turn) {
     fflush(stdout);
 }
 
-static void each(void (*call)(int), const char *heading, int engines, int per_turn) {
-    static const unsigned sizes[] = {1, 4, 8, 16};
-    puts(heading);
-    for (unsigned uneven = 0; uneven < 2; uneven++)
-        for (int k = 0; k < 4; k++) {
-            make(sizes[k], !uneven);
-            jird_chart_load(&design, table, length);
-            make(sizes[k], uneven);
-            jird_chart_load(&bed, table, length);
-            printf("%9zu  %-6s  %7zu", bed.triangles, uneven ? "uneven" : "even", bed.entries);
-            measure(call, engines, sizes[k] > 10 ? 10 / (per_turn > 1 ? 5 : 1) : 100 / (per_turn > 1 ? 10 : 1), per_turn);
-        }
+typedef struct {
+    const char *name;
+    void (*call)(int);
+    const char *const *others; /* the engines beside the library */
+    int per_turn;
+} Job;
+static const char *const three[] = {"culled", "plain" EARLIER("before"), NULL};
+static const char *const two[] = {"plain" EARLIER("before"), NULL};
+static const Job jobs[] = {{"load", load, three, 1}, {"locate", locate, two, POINTS}, {"soundness", soundness, two, 1}, {"overlay", overlay, two, 1}};
+enum { JOBS = sizeof jobs / sizeof jobs[0] };
+
+static int engines_of(const Job *j) {
+    int n = 1;
+    while (j->others[n - 1]) n++;
+    return n;
 }
 
-int main(void) {
-    each(load, "load\ntriangles  grid    entries   proved us  culled us   plain us  / culled   / plain", 3, 1);
-    each(locate, "locate\ntriangles  grid    entries   proved us   plain us   / plain", 2, POINTS);
-    each(overlay, "overlay, the grid over the other of the same size\ntriangles  grid    entries   proved us   plain us   / plain", 2, 1);
+static void each(const Job *j) {
+    printf("%s\ntriangles  charts  entries   proved us", j->name);
+    for (int e = 1; e < engines_of(j); e++) printf("  %6s us", j->others[e - 1]);
+    for (int e = 1; e < engines_of(j); e++) printf("  / %-6s", j->others[e - 1]);
+    puts("");
+    for (const Charts *c = all_charts; c < all_charts + CHARTS; c++) {
+        prepare(c);
+        printf("%9zu  %-6s  %7zu", bed.triangles, c->name, bed.entries);
+        measure(j->call, engines_of(j), c->g > 10 ? 10 / (j->per_turn > 1 ? 5 : 1) : 100 / (j->per_turn > 1 ? 10 : 1), j->per_turn);
+    }
+}
+
+/* One call by name, on the charts by name and number of triangles, by an engine's number. */
+static int once(const char *name, const char *charts_name, int engine) {
+    char word[32];
+    for (const Job *j = jobs; j < jobs + JOBS; j++)
+        for (const Charts *c = all_charts; c < all_charts + CHARTS; c++) {
+            snprintf(word, sizeof word, "%s%u", c->name, 2 * c->g * c->g);
+            if (strcmp(j->name, name) != 0 || strcmp(word, charts_name) != 0 || engine < 0 || engine >= engines_of(j)) continue;
+            prepare(c);
+            counted(j->call, engine);
+            return 0;
+        }
+    fprintf(stderr, "bench: no call %s on charts %s by engine %d\n", name, charts_name, engine);
+    return 2;
+}
+
+int main(int count, char **words) {
+    if (count == 4) return once(words[1], words[2], atoi(words[3]));
+    for (const Job *j = jobs; j < jobs + JOBS; j++) each(j);
     return 0;
 }

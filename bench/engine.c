@@ -6,6 +6,7 @@
                    side, and the stopping test is one pass
    plain_locate    checks the chain rule as document 01 words it, finds the cell by halving, and tries its triangles: the three D
                    values tell whether one holds the point, and their zeros where
+   plain_soundness checks the chart and tries every two triangles: bounding boxes, worked out once, then the six sides
    plain_overlay   checks both charts, walks both lists of cells side by side and marks the pairs that are listed together, then tries
                    each marked pair once: bounding boxes, then the six sides */
 #include "engine.h"
@@ -357,6 +358,18 @@ static int separates(const uint16_t *table, size_t i, const uint16_t *other, siz
 
 static int shares(const jird_chart *c, size_t i, Box box, const jird_chart *d, size_t j) {
     return !apart(box, box_around(d->table, j)) && !separates(c->table, i, d->table, j) && !separates(d->table, j, c->table, i);
+}
+
+jird_sounded plain_soundness(const jird_chart *c) {
+    static Box boxes[TRIANGLES];
+    if (!chained(c)) return (jird_sounded){JIRD_BROKEN_CHAIN, 0};
+    for (size_t i = 0; i < c->triangles; i++) {
+        boxes[i] = box_around(c->table, i);
+        for (size_t j = 0; j < i; j++)
+            if (!apart(boxes[i], boxes[j]) && !separates(c->table, i, c->table, j) && !separates(c->table, j, c->table, i))
+                return (jird_sounded){JIRD_DONE, 0};
+    }
+    return (jird_sounded){JIRD_DONE, 1};
 }
 
 jird_overlaid plain_overlay(const jird_chart *bed, const jird_chart *design, uint16_t *pairs) {

@@ -26,7 +26,7 @@
 extern "C" {
 #endif
 
-#define JIRD_VERSION "1.2.0" /* base.request.fix: 1.4.0 has requests 1 to 4 */
+#define JIRD_VERSION "1.3.0" /* base.request.fix: 1.4.0 has requests 1 to 4 */
 #define JIRD_ABI 3           /* rises with every change of a type, a prototype or a constant but the stack */
 
 enum {

@@ -41,6 +41,7 @@ def fixed(s):
     s.on(1)
     on_charts(s)
     overlays.deep(s)
+    overlays.every_two(s)
 
 
 def on_charts(s):

@@ -41,8 +41,10 @@ KIT = ["io", "libc", "os", "check", "bytes"]  # the kit's libraries
 # what a crate lists and does not name: the crate that it comes through, and the type of the values that pass; C functions have none
 PASSING = {
     "call_edits": {"edit_rows": ("edit_steps", "Edited")},
+    "call_soundness": {"base_geometry": ("base_boxes", "Bounds")},
     "export_charts": {"read_cells": ("call_locate", "Part")},
     "log_readers": {"replay_lists": ("log_events", "Counts")},
+    "overlay_pairs": {"base_geometry": ("base_boxes", "Bounds")},
     "overlay_log": {"log_events": ("log_reader", "BothCounts"), "replay_lists": ("log_events", "Counts")},
     "test_calls": {"spec_plane": ("test_changes", "Point")},
     "test_readers": {"io": ("test_support", None), "libc": ("test_support", None)},

@@ -50,6 +50,25 @@ def touching(s):
     s.overlay(1, 1, "touching", 0)
 
 
+def every_two(s):
+    """Every triangle on nine points of the grid, its four corners among them, with every other, as first and as second of a pair, and
+    some of them as a table of two whose soundness is asked: the largest and the smallest D, and every way to touch and to cross."""
+    points = [(x, y) for x in (0, 40000, 65535) for y in (0, 3, 65535)]
+    found = [p + q + r for p in points for q in points for r in points if min(p, q, r) == p]
+    found = [turned(t, k % 3) for k, t in enumerate(t for t in found if tables.orientation(t) > 0)]
+    s.on(1)
+    s.table(found, number=0)
+    for k, t in enumerate(found):
+        s.on(0)
+        s.table([t], number=0)
+        s.overlay(shows="every two", number=0)
+        s.overlay(1, 0, "every two", 0)
+        s.on(0)
+        for other in (found[(k + 1) % len(found)], found[(3 * k + 7) % len(found)], found[(11 * k + 5) % len(found)]):
+            s.table([t, other], number=0)
+            s.measure(number=0)
+
+
 def overlay_refusals(s):
     """Each buffer of each chart and the pairs short, each chart's chain broken, and their order."""
     s.both([U, V], [V, U])

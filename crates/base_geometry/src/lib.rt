@@ -1,7 +1,6 @@
-// Numbers, D, triangles, bounding boxes, common interior points.
+// Numbers, D, triangles, bounding boxes.
 
 pub mod bounds;
 pub mod geometry;
-pub mod interiors;
 pub mod numbers;
 pub mod orientation;

@@ -4,7 +4,7 @@
 
 use base_boxes::boxes;
 use base_boxes::near_boxes;
-use base_geometry::interiors;
+use base_interiors::differences;
 ghost use mathlib.Core.Path.{_≡_};
 ghost use mathlib.Core.Bool.{not};
 ghost use Prim.Native.Nat.{_+_, _*_, _≤_};
@@ -24,10 +24,10 @@ fn near_disjoint(table: &[u16], near: &[usize], i: usize, c: usize) -> bool
     requires { ⌜ ListedRows (now table) (now near) i c ⌝ }
     ensures { λ o. ⌜ o ≡ all (λ k. not (interiorsMeet (triangleAt (now (table .entry)) i) (triangleAt (now (table .entry)) (getD (now (near .entry)) k 0)))) (upTo c) ⌝ }
 {
-    let s = base_tables::triangle_at(table, i);
+    let sides = differences::differences_of(base_tables::triangle_at(table, i));
     let mut k = 0;
     while k < c {
-        if interiors::interiors_meet(s, base_tables::triangle_at(table, near[k])) {
+        if base_interiors::interiors_meet(sides, base_tables::triangle_at(table, near[k])) {
             return false;
         }
         k += 1;
@@ -82,10 +82,10 @@ fn each_disjoint(table: &[u16], i: usize) -> bool
     requires { ⌜ numbersPerTriangle * (i + 1) ≤ length (now table) ⌝ }
     ensures { λ o. ⌜ o ≡ all (λ k. not (interiorsMeet (triangleAt (now (table .entry)) i) (triangleAt (now (table .entry)) k))) (upTo i) ⌝ }
 {
-    let s = base_tables::triangle_at(table, i);
+    let sides = differences::differences_of(base_tables::triangle_at(table, i));
     let mut k = 0;
     while k < i {
-        if interiors::interiors_meet(s, base_tables::triangle_at(table, k)) {
+        if base_interiors::interiors_meet(sides, base_tables::triangle_at(table, k)) {
             return false;
         }
         k += 1;

@@ -39,15 +39,15 @@ pub record Reached (arity depth : ℕ) (es fs : List Entry) (a b : ℕ) (rows : 
   pub before : Overlapping arity depth (take a es) (take b fs) rows count
 
 module _ (arity depth : ℕ) (pos : 0 < arity) where
-  -- a run of a cut list, from the first place on, starts below the key at which the larger cell ends
+  -- a run of a cut list starts below the key at which the larger cell ends, and so do the keys of its first cell
   run-below : (c : ℕ) {es : List Entry} → T (chain arity depth c es) → {ks : List ℕ} {n : ℕ} → KeysOf ks n es → {a p e r : ℕ} → a < n → CellEnd ks n a p
-      → keyFrom ks n (span arity depth 0) p ≤ e → RunEnd ks n (a + 1) e r → RunEnd ks n a e r
+      → keyFrom ks n (span arity depth 0) p ≤ e → RunEnd ks n p e r → RunEnd ks n a e r
   run-below c {es} rule {ks} {n} x {a} {p} {e} h cell w run = record {
-    from = omega (arith, run .from);
+    from = omega (arith, run .from, cell .after);
     within = run .within;
-    below = λ i l g. elim (decLt a i) [
-      | yes s ↦ run .below i (omega arith) g
-      | no s ↦ let q : i ≡ a = omega arith in omega (arith, ap (λ k. getD ks k 0) q, keys-at x noEntry a h, starts-before arity depth pos (getD es a noEntry), cell-ends arity depth pos c es rule noEntry x a p cell)
+    below = λ i l g. elim (decLt i p) [
+      | yes s ↦ omega (arith, cell .same i l s, keys-at x noEntry a h, starts-before arity depth pos (getD es a noEntry), cell-ends arity depth pos c es rule noEntry x a p cell)
+      | no s ↦ run .below i (omega arith) g
     ];
     reached = run .reached;
   }
@@ -117,11 +117,10 @@ pub run-cells : (ks : List ℕ) (a r : ℕ) → keyCells (take (r - a) (drop a k
 run-cells ks a r = omega (arith, keyCells-few (take (r - a) (drop a ks)), length-take (r - a) (drop a ks))
 
 -- a product of cells of two runs fits into 64 bits
-pub cells-fit : {ks : List ℕ} {n a e r cells : ℕ} {ls : List ℕ} {m b f s cells₂ : ℕ} → RunOf ks n a e r cells → RunOf ls m b f s cells₂
-    → n ≤ maxEntries → m ≤ maxEntries → cells * cells₂ ≤ maxEntries * maxEntries
-cells-fit {ks} {a = a} {r = r} {ls = ls} {b = b} {s = s} x y h l =
-    mul-le-mul {n₂ = maxEntries} {m₂ = maxEntries} (omega (arith, x .count, run-cells ks a r, x .ends .within))
-    (omega (arith, y .count, run-cells ls b s, y .ends .within))
+pub cells-fit : {ks : List ℕ} {n p e r cells : ℕ} {ls : List ℕ} {m q f s cells₂ : ℕ} → RunOf ks n p e r cells → RunOf ls m q f s cells₂
+    → 1 ≤ p → 1 ≤ q → n ≤ maxEntries → m ≤ maxEntries → cells * cells₂ ≤ maxEntries * maxEntries
+cells-fit x y h l g k =
+    mul-le-mul {n₂ = maxEntries} {m₂ = maxEntries} (omega (arith, x .few, x .ends .within)) (omega (arith, y .few, y .ends .within))
 
 -- a number of pairs fits into 64 bits
 pub pairs-fit : {count p q : ℕ} → count ≤ p * q → p ≤ maxEntries → q ≤ maxEntries → count ≤ maxEntries * maxEntries
@@ -162,8 +161,8 @@ module _ (treeEnd : ℕ) (s t : KeyedItems) where
       merging-few =
           let p = m .first in
           let q = m .second in
-          let x : a + (p - a) ≡ p = omega (arith, marked .first .from) in
-          let y : b + (q - b) ≡ q = omega (arith, marked .second .from) in
+          let x : a + (p - a) ≡ p = omega (arith, marked .first .from, marked .ends .first .after) in
+          let y : b + (q - b) ≡ q = omega (arith, marked .second .from, marked .ends .second .after) in
           let u = mul-le-mul (run-cells (s .keys) a p) (run-cells (t .keys) b q) in
           rw (x, y) at (pairs-more a b (p - a) (q - b) count (m .pairs) (g .few) (omega (arith, marked .count)))
 

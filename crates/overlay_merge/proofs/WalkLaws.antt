@@ -1,11 +1,12 @@
 -- Keys passed from left to right: to the end of a cell, and to the end of a run with its cells counted.
 -- Assumes nothing.
-use mathlib.Core.Path.{_≡_, refl, sym, _∙_, ap}
+use mathlib.Core.Path.{_≡_, refl, sym, _∙_, ap, ap₂}
 use mathlib.Core.Bool.{Bool, true, false, cond}
 use mathlib.Core.List.{List, [], _∷_}
-use Prim.Native.Nat.{ℕ, suc, _+_, _-_, _≤_, _<_}
+use Prim.Native.Nat.{ℕ, zero, suc, _+_, _-_, _≤_, _<_}
 use native.Mathlib.Decide.{ℕ-discrete}
 use native.Mathlib.Omega.{arith}
+use borrow.Author.Tests.{eq-eqb}
 use lib.Dec.{eqb}
 use lib.ListN.{length, getD, take, drop, length-take}
 use Rattle.theory_orthtree.specs.KeyCells.{CellEnd, changesAfter, keyCells}
@@ -73,55 +74,65 @@ change-few k l = few (eqb k l)
     few true = omega arith
     few false = omega arith
 
--- the keys after a and up to r are below the end, and those from a on have so many cells
-pub record RunPassed (ks : List ℕ) (n a end r cells : ℕ) : Type 0 where
-  pub after : a < r
-  pub within : r ≤ n
-  pub below : (i : ℕ) → a + 1 ≤ i → i < r → getD ks i 0 < end
-  pub count : cells ≡ keyCells (take (r - a) (drop a ks))
+-- the keys of one cell
+cell-keys : (ks : List ℕ) (a j : ℕ) → a + j < length ks → ((i : ℕ) → a ≤ i → i ≤ a + j → getD ks i 0 ≡ getD ks a 0) → keyCells (take (suc (a + j) - a) (drop a ks)) ≡ 1
+cell-keys ks a zero h same = ap (λ k. keyCells (take (suc k - a) (drop a ks))) (omega arith) ∙ keyCells-one ks a (omega arith)
+cell-keys ks a (suc j) h same =
+    let e : getD ks (a + j) 0 ≡ getD ks (suc (a + j)) 0 = same (a + j) (omega arith) (omega arith) ∙ sym (same (suc (a + j)) (omega arith) (omega arith)) in
+    ap (λ k. keyCells (take (suc k - a) (drop a ks))) (omega arith)
+    ∙ keyCells-grow ks a (a + j) (omega arith) (omega arith)
+    ∙ ap₂ (λ m b. m + cond b 0 1) (cell-keys ks a j (omega arith) (λ i l g. same i l (omega arith))) (eq-eqb (getD ks (a + j) 0) (getD ks (suc (a + j)) 0) e)
 
-module _ (ks : List ℕ) (n a end : ℕ) where
-  pub run-start : a < n → n ≤ length ks → RunPassed ks n a end (a + 1) 1
+-- are those of one cell
+pub cell-one : (ks : List ℕ) (n : ℕ) → n ≤ length ks → {a p : ℕ} → CellEnd ks n a p → keyCells (take (p - a) (drop a ks)) ≡ 1
+cell-one ks n w {a} {p} c =
+    let e : suc (a + (p - a - 1)) ≡ p = omega (arith, c .after) in
+    rw e at (cell-keys ks a (p - a - 1) (omega (arith, c .after, c .within)) (λ i l g. c .same i l (omega (arith, c .after))))
+
+-- the keys from p up to r are below the end, and with the cell before them they have so many cells
+pub record RunPassed (ks : List ℕ) (n p end r cells : ℕ) : Type 0 where
+  pub from : p ≤ r
+  pub within : r ≤ n
+  pub below : (i : ℕ) → p ≤ i → i < r → getD ks i 0 < end
+  pub few : cells + p ≤ r + 1
+  pub count : (a : ℕ) → CellEnd ks n a p → cells ≡ keyCells (take (r - a) (drop a ks))
+
+module _ (ks : List ℕ) (n p end : ℕ) where
+  pub run-start : p ≤ n → n ≤ length ks → RunPassed ks n p end p 1
   run-start h w = record {
-    after = omega arith;
-    within = omega arith;
+    from = omega arith;
+    within = h;
     below = λ i l g. absurd (omega arith);
-    count = sym (keyCells-one ks a (omega arith)) ∙ ap (λ k. keyCells (take (k - a) (drop a ks))) (omega arith);
+    few = omega arith;
+    count = λ a c. sym (cell-one ks n w c);
   }
 
-  module _ {r cells : ℕ} (p : RunPassed ks n a end r cells) where
-    -- its cells are no more than its keys
-    pub run-few : cells ≤ r - a
-    run-few = omega (arith, p .count, keyCells-few (take (r - a) (drop a ks)), length-take (r - a) (drop a ks))
-
+  module _ {r cells : ℕ} (g : RunPassed ks n p end r cells) where
     -- one more key
     pub run-more : r < n → n ≤ length ks → getD ks r 0 < end → {c : ℕ} → c ≡ cond (eqb (getD ks (r - 1) 0) (getD ks r 0)) 0 1
-        → RunPassed ks n a end (r + 1) (cells + c)
+        → RunPassed ks n p end (r + 1) (cells + c)
     run-more h w l {c} e = record {
-      after = omega (arith, p .after);
+      from = omega (arith, g .from);
       within = omega arith;
-      below = λ i g s. elim (ℕ-discrete i r) [
+      below = λ i s t. elim (ℕ-discrete i r) [
         | yes q ↦ omega (arith, ap (λ k. getD ks k 0) q)
-        | no q ↦ p .below i g (omega arith)
+        | no q ↦ g .below i s (omega arith)
       ];
-      count = counted;
+      few = omega (arith, g .few, change-few (getD ks (r - 1) 0) (getD ks r 0));
+      count = λ a cell. omega (arith, g .count a cell, grown a (omega (arith, cell .after, g .from)));
     }
       where
-        back : suc (r - 1) ≡ r
-        back = omega (arith, p .after)
-
-        grown : keyCells (take (r + 1 - a) (drop a ks)) ≡ keyCells (take (r - a) (drop a ks)) + cond (eqb (getD ks (r - 1) 0) (getD ks r 0)) 0 1
-        grown =
-            ap (λ k. keyCells (take (k - a) (drop a ks))) (omega (arith, p .after))
-            ∙ keyCells-grow ks a (r - 1) (omega (arith, p .after)) (omega arith)
+        grown : (a : ℕ) → a < r → keyCells (take (r + 1 - a) (drop a ks)) ≡ keyCells (take (r - a) (drop a ks)) + cond (eqb (getD ks (r - 1) 0) (getD ks r 0)) 0 1
+        grown a s =
+            let back : suc (r - 1) ≡ r = omega arith in
+            ap (λ k. keyCells (take (k - a) (drop a ks))) (omega arith)
+            ∙ keyCells-grow ks a (r - 1) (omega arith) (omega arith)
             ∙ ap (λ k. keyCells (take (k - a) (drop a ks)) + cond (eqb (getD ks (r - 1) 0) (getD ks k 0)) 0 1) back
 
-        counted : cells + c ≡ keyCells (take (r + 1 - a) (drop a ks))
-        counted = omega (arith, p .count, e, grown)
-
     -- the end is reached, or there is no key any more
-    pub run-met : (r < n → end ≤ getD ks r 0) → RunOf ks n a end r cells
+    pub run-met : (r < n → end ≤ getD ks r 0) → RunOf ks n p end r cells
     run-met h = record {
-      ends = record { from = omega (arith, p .after); within = p .within; below = p .below; reached = h };
-      count = p .count;
+      ends = record { from = g .from; within = g .within; below = g .below; reached = h };
+      few = g .few;
+      count = g .count;
     }

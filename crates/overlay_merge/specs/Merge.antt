@@ -50,8 +50,8 @@ pub record EmptyRows (rows : List ℕ) : Type 0 where
 pub record BlockMarked (treeEnd : ℕ) (s : KeyedItems) (a : ℕ) (t : KeyedItems) (b : ℕ) (r : Marked) (before after : List ℕ) : Type 0 where
   pub end : ℕ
   pub ends : BlockEnd treeEnd (s .keys) (s .count) a (t .keys) (t .count) b end
-  pub first : RunEnd (s .keys) (s .count) (a + 1) end (r .first)
-  pub second : RunEnd (t .keys) (t .count) (b + 1) end (r .second)
+  pub first : RunEnd (s .keys) (s .count) (ends .p) end (r .first)
+  pub second : RunEnd (t .keys) (t .count) (ends .q) end (r .second)
   pub count : r .pairs ≡ keyCells (take (r .first - a) (drop a (s .keys))) * keyCells (take (r .second - b) (drop b (t .keys)))
   pub marks : PartsMarked before (s .items) a (r .first) (t .items) b (r .second) after
 

@@ -11,6 +11,12 @@ pub record KeyAt (ks : List ℕ) (n a : ℕ) : Type 0 where
   pub below : a < n
   pub room : n ≤ length ks
 
+-- there are n keys, and place p comes after one of theirs
+pub record KeyBefore (ks : List ℕ) (n p : ℕ) : Type 0 where
+  pub after : 1 ≤ p
+  pub within : p ≤ n
+  pub room : n ≤ length ks
+
 -- the key at which the larger of the cells at places a and b ends, where the tree's keys end at treeEnd
 pub record BlockEnd (treeEnd : ℕ) (ks : List ℕ) (n a : ℕ) (ls : List ℕ) (m b e : ℕ) : Type 0 where
   pub p : ℕ
@@ -19,7 +25,8 @@ pub record BlockEnd (treeEnd : ℕ) (ks : List ℕ) (n a : ℕ) (ls : List ℕ) 
   pub second : CellEnd ls m b q
   pub end : e ≡ max (keyFrom ks n treeEnd p) (keyFrom ls m treeEnd q)
 
--- the run from place a on up to the key e, and its cells: the entry at a belongs to it, so its length is not 0
-pub record RunOf (ks : List ℕ) (n a e r cells : ℕ) : Type 0 where
-  pub ends : RunEnd ks n (a + 1) e r
-  pub count : cells ≡ keyCells (take (r - a) (drop a ks))
+-- the run that goes on at place p, where its first cell ends, up to the key e, and its cells, the first among them
+pub record RunOf (ks : List ℕ) (n p e r cells : ℕ) : Type 0 where
+  pub ends : RunEnd ks n p e r
+  pub few : cells + p ≤ r + 1
+  pub count : (a : ℕ) → CellEnd ks n a p → cells ≡ keyCells (take (r - a) (drop a ks))

@@ -35,17 +35,19 @@ fn mark_block(
     requires { ⌜ rowsLength ≤ length (now rows) ⌝ }
     ensures { λ r. ⌜ BlockMarked «tree_end» (lent «first_keys» «first_items» «first_entries») «first_at» (lent «second_keys» «second_items» «second_entries») «second_at» r (now (rows .entry)) (now (rows .exit)) ⌝ }
 {
+    let p = runs::cell_end(first_keys, first_entries, first_at);
+    let q = runs::cell_end(second_keys, second_entries, second_at);
     let end = runs::block_end(
         first_keys,
         first_entries,
-        first_at,
+        p,
         second_keys,
         second_entries,
-        second_at,
+        q,
         tree_end,
     );
-    let s = runs::run_end(first_keys, first_entries, first_at, end);
-    let t = runs::run_end(second_keys, second_entries, second_at, end);
+    let s = runs::run_end(first_keys, first_entries, p, end);
+    let t = runs::run_end(second_keys, second_entries, q, end);
     overlay_marks::mark_parts(
         first_items,
         first_at,

@@ -7,10 +7,10 @@ ghost use Prim.Native.Nat.{_≤_, max};
 ghost use lib.Dec.{eqb};
 ghost use lib.ListN.{length};
 ghost use Rattle.theory_orthtree.specs.KeyCells.{CellEnd, keyFrom};
-ghost use Rattle.overlay_merge.specs.Runs.{KeyAt, BlockEnd, RunOf};
+ghost use Rattle.overlay_merge.specs.Runs.{KeyAt, KeyBefore, RunOf};
 
 // Where the entries end that have the key of place `at`.
-fn cell_end(keys: &[u32], entries: usize, at: usize) -> usize
+pub fn cell_end(keys: &[u32], entries: usize, at: usize) -> usize
     requires { ⌜ KeyAt (now keys) entries at ⌝ }
     ensures { λ r. ⌜ CellEnd (now (keys .entry)) entries at r ⌝ }
 {
@@ -44,22 +44,19 @@ fn larger_end(a: u64, b: u64) -> u64
     if a < b { b } else { a }
 }
 
-// Where the larger of the cells at two places ends.
+// Where the larger of two cells ends, which end at places p and q.
 pub fn block_end(
     first_keys: &[u32],
     first_entries: usize,
-    first_at: usize,
+    p: usize,
     second_keys: &[u32],
     second_entries: usize,
-    second_at: usize,
+    q: usize,
     tree_end: u64,
 ) -> u64
-    requires { ⌜ KeyAt (now «first_keys») «first_entries» «first_at» ⌝ }
-    requires { ⌜ KeyAt (now «second_keys») «second_entries» «second_at» ⌝ }
-    ensures { λ r. ⌜ BlockEnd «tree_end» (now («first_keys» .entry)) «first_entries» «first_at» (now («second_keys» .entry)) «second_entries» «second_at» r ⌝ }
+    requires { ⌜ («first_entries» ≤ length (now «first_keys»)) × («second_entries» ≤ length (now «second_keys»)) ⌝ }
+    ensures { λ r. ⌜ r ≡ max (keyFrom (now («first_keys» .entry)) «first_entries» «tree_end» p) (keyFrom (now («second_keys» .entry)) «second_entries» «tree_end» q) ⌝ }
 {
-    let p = cell_end(first_keys, first_entries, first_at);
-    let q = cell_end(second_keys, second_entries, second_at);
     larger_end(
         key_from(first_keys, first_entries, p, tree_end),
         key_from(second_keys, second_entries, q, tree_end),
@@ -79,13 +76,13 @@ pub struct Run {
     pub cells: usize,
 }
 
-// The run from place `at` on up to the key `end`.
-pub fn run_end(keys: &[u32], entries: usize, at: usize, end: u64) -> Run
-    requires { ⌜ KeyAt (now keys) entries at ⌝ }
-    ensures { λ r. ⌜ RunOf (now (keys .entry)) entries at end (r .end) (r .cells) ⌝ }
+// The run whose first cell ends at place p, up to the key `end`: the keys of that cell are not looked at again.
+pub fn run_end(keys: &[u32], entries: usize, p: usize, end: u64) -> Run
+    requires { ⌜ KeyBefore (now keys) entries p ⌝ }
+    ensures { λ r. ⌜ RunOf (now (keys .entry)) entries p end (r .end) (r .cells) ⌝ }
 {
     let mut cells = 1;
-    let mut r = at + 1;
+    let mut r = p;
     while r < entries {
         if end <= keys[r] as u64 {
             return Run { end: r, cells };

@@ -19,11 +19,12 @@ use Rattle.theory_lists.proofs.FlatMapLaws.{flatMap-append}
 use Rattle.theory_lists.proofs.MemberLaws.{filter-to}
 use Rattle.theory_lists.proofs.IndexLaws.{upTo-suc}
 use Rattle.theory_lists.proofs.CompactLaws.{filter-skip}
-use Rattle.spec_plane.specs.declared.Point.{Point}
-use Rattle.spec_plane.specs.Triangle.{proper, corners}
+use Rattle.spec_plane.specs.Triangle.{proper}
 use Rattle.spec_plane.specs.Box.{Box, triangleBox}
 use Rattle.spec_charts.specs.Table.{maxTriangles, triangleAt}
 use Rattle.spec_charts.specs.Overlay.{maxPairs}
+use Rattle.base_interiors.specs.declared.differences.Differences.{Differences}
+use Rattle.base_interiors.specs.Differences.{Handed}
 use Rattle.base_boxes.specs.Boxes.{separate, boxAt, boxesOverlap, BoxedTable}
 use Rattle.base_boxes.proofs.BoxesLaws.{boxes-disjoint}
 use Rattle.overlay_pairs.specs.Pairs.{meetsAt, pairIf, nearPairs, rowPairs, markedPairs, Wrote, TriangleIn, NearTriangles}
@@ -144,10 +145,10 @@ rows-more first second m rows i {r = r} {l = l} {l″ = l″} u v = subst (λ ps
 
 -- ---- what the loops have done
 
--- the pairs of triangle i, whose corners are s, with the first k of d candidates are written
-pub record NearDone (first second : List ℕ) (i : ℕ) (near : List ℕ) (d : ℕ) (s : List Point) (found k c : ℕ) (before after : List ℕ) : Type 0 where
+-- the pairs of triangle i, of which the test is handed the differences of its sides, with the first k of d candidates are written
+pub record NearDone (first second : List ℕ) (i : ℕ) (near : List ℕ) (d : ℕ) (sides : Differences) (found k c : ℕ) (before after : List ℕ) : Type 0 where
   pub within : k ≤ d
-  pub corners : s ≡ corners (triangleAt first i)
+  pub handed : Handed (triangleAt first i) sides
   pub wrote : Wrote (nearPairs first second i (take k near)) found c before after
 
 -- the pairs of the first i of n triangles are written

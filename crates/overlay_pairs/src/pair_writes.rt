@@ -1,6 +1,6 @@
 // Pairs of triangles written into a list, while there is room: one pair, and those of a triangle with its candidates.
 
-use base_geometry::interiors;
+use base_interiors::differences;
 ghost use lib.ListN.{take};
 ghost use Rattle.overlay_pairs.specs.Pairs.{pairIf, nearPairs, Wrote, TriangleIn, NearTriangles, PairsRoom};
 
@@ -37,12 +37,12 @@ pub fn put_near(
     requires { ⌜ PairsRoom found (now pairs) ⌝ }
     ensures { λ r. ⌜ Wrote (nearPairs (now (first .entry)) (now (second .entry)) i (take d (now (near .entry)))) found r (now (pairs .entry)) (now (pairs .exit)) ⌝ }
 {
-    let s = base_tables::triangle_at(first, i);
+    let sides = differences::differences_of(base_tables::triangle_at(first, i));
     let mut c = found;
     let mut k = 0;
     while k < d {
         let j = near[k];
-        let meet = interiors::interiors_meet(s, base_tables::triangle_at(second, j));
+        let meet = base_interiors::interiors_meet(sides, base_tables::triangle_at(second, j));
         c = put_pair(meet, i as u16, j as u16, pairs, c);
         k += 1;
     }

@@ -11,14 +11,38 @@ use Rattle.overlay_merge.proofs.mark_block.Tie as tie
 abbrev run-end-to-top : tie.After-run-end → tie.Start
 run-end-to-top c = search needs
 
-mul-t17 : tie.Need-mul-t17
-mul-t17 c =
+abbrev run-end-to-first : tie.After-run-end → tie.After-cell-end
+run-end-to-first c = search needs
+
+abbrev run-end-to-second : tie.After-run-end → tie.After-cell-end2
+run-end-to-second c = search needs
+
+mark-parts-requires : tie.Need-mark-parts-requires
+mark-parts-requires c κs =
+    let run-end2 : tie.After-run-end2 = search needs in
+    let run-end : tie.After-run-end = search needs in
+    let top = run-end-to-top run-end in
+    let s = run-end .run-end .ensures .ends in
+    let t = run-end2 .run-end2 .ensures .ends in
+    let p = run-end-to-first run-end .cell-end .ensures in
+    let q = run-end-to-second run-end .cell-end2 .ensures in (
+      (
+        record { ordered = omega (arith, p .after, s .from); within = omega (arith, s .within, top .pre .0 .0 .forItems) },
+        record { ordered = omega (arith, q .after, t .from); within = omega (arith, t .within, top .pre .1 .0 .0 .forItems) },
+      ),
+      top .pre .1 .1,
+    )
+
+mul-t19 : tie.Need-mul-t19
+mul-t19 c =
     let run-end2 : tie.After-run-end2 = search needs in
     let run-end : tie.After-run-end = search needs in
     let top = run-end-to-top run-end in
     let s = run-end .run-end in
     let t = run-end2 .run-end2 in
-    omega (arith, cells-fit (s .ensures) (t .ensures) (top .pre .0 .0 .few) (top .pre .1 .0 .0 .few))
+    let p = run-end-to-first run-end .cell-end .ensures in
+    let q = run-end-to-second run-end .cell-end2 .ensures in
+    omega (arith, cells-fit (s .ensures) (t .ensures) (omega (arith, p .after)) (omega (arith, q .after)) (top .pre .0 .0 .few) (top .pre .1 .0 .0 .few))
 
 returns : tie.Need-returns
 returns c =
@@ -26,18 +50,22 @@ returns c =
     let run-end2 : tie.After-run-end2 = search needs in
     let run-end : tie.After-run-end = search needs in
     let block-end : tie.After-block-end = search needs in
+    let first : tie.After-cell-end = search needs in
+    let second : tie.After-cell-end2 = search needs in
+    let p = first .cell-end in
+    let q = second .cell-end2 in
     let s = run-end .run-end .ensures in
     let t = run-end2 .run-end2 .ensures in
     record {
       end = block-end .block-end .result;
-      ends = block-end .block-end .ensures;
+      ends = record { p = p .result; q = q .result; first = p .ensures; second = q .ensures; end = block-end .block-end .ensures };
       first = s .ends;
       second = t .ends;
-      count = ap₂ _*_ (s .count) (t .count);
+      count = ap₂ _*_ (s .count _ (p .ensures)) (t .count _ (q .ensures));
       marks = mark-parts .mark-parts .ensures;
     }
 
 pub mark-block-spec : {M : Type 1} → statement M
 mark-block-spec =
-    tie.close (tie.spec (λ c κs. search needs) (λ c κs. search needs) (λ c κs. search needs) (λ c κs. search needs) mul-t17 (λ c. search needs)
-    returns)
+    tie.close (tie.spec (λ c κs. search needs) (λ c κs. search needs) (λ c κs. search needs) (λ c κs. search needs) (λ c κs. search needs)
+    mark-parts-requires mul-t19 (λ c. search needs) returns)

@@ -1,4 +1,4 @@
--- Both cells are passed, and each ends at the next key or where the tree does.
+-- Each cell ends at the next key or where the tree does.
 use mathlib.Core.Path.{_∙_, ap₂}
 use Prim.Native.Nat.{max}
 use borrow.Author.Needs.{needs}
@@ -9,16 +9,7 @@ returns : tie.Need-returns
 returns c =
     let key-from2 : tie.After-key-from2 = search needs in
     let key-from : tie.After-key-from = search needs in
-    let cell-end2 : tie.After-cell-end2 = search needs in
-    let cell-end : tie.After-cell-end = search needs in
-    record {
-      p = cell-end .cell-end .result;
-      q = cell-end2 .cell-end2 .result;
-      first = cell-end .cell-end .ensures;
-      second = cell-end2 .cell-end2 .ensures;
-      end = c .larger-end .ensures ∙ ap₂ max (key-from .key-from .ensures) (key-from2 .key-from2 .ensures);
-    }
+    c .larger-end .ensures ∙ ap₂ max (key-from .key-from .ensures) (key-from2 .key-from2 .ensures)
 
 pub block-end-spec : {M : Type 1} → statement M
-block-end-spec =
-    tie.close (tie.spec (λ c κs. search needs) (λ c κs. search needs) (λ c κs. search needs) (λ c κs. search needs) (λ c κs. search needs) returns)
+block-end-spec = tie.close (tie.spec (λ c κs. search needs) (λ c κs. search needs) (λ c κs. search needs) returns)

@@ -1,0 +1,4 @@
+pub mod HighLaws
+pub mod RaisedLaws
+pub mod InteriorsLaws
+pub mod DifferencesExamples
