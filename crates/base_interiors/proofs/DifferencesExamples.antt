@@ -2,14 +2,11 @@
 -- that is its y.
 -- Assumes nothing.
 use mathlib.Core.Path.{_≡_, refl}
-use Prim.Native.Nat.{ℕ}
 use native.Mathlib.Omega.{arith}
-use Rattle.spec_plane.specs.declared.Point.{Point}
 use Rattle.spec_plane.specs.Point.{orient}
 use Rattle.spec_plane.specs.Triangle.{Triangle}
 use Rattle.base_interiors.specs.declared.differences.SideDifferences.{SideDifferences}
 use Rattle.base_interiors.specs.declared.differences.Differences.{Differences}
-use Rattle.base_interiors.specs.declared.differences.Offset.{Offset}
 use Rattle.base_interiors.specs.declared.corners.Offsets.{Offsets}
 use Rattle.base_interiors.specs.declared.corners.Raised.{Raised}
 use Rattle.base_interiors.specs.Differences.{high, twiceHigh, SideOf, OffsetOf, RaisedAt, SmallSide, SmallOffset, Near, ThirdSmall, DifferencesOf, SmallDifferences, Handed}

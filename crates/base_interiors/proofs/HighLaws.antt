@@ -1,14 +1,14 @@
 -- Numbers that say something by being 2^40 or more, joined by "or" and by "and".
 -- Assumes nothing.
-use mathlib.Core.Path.{_≡_, refl, sym, _∙_, ap, ap₂}
-use mathlib.Core.Bool.{Bool, true, false, _&&_, _||_}
+use mathlib.Core.Path.{_≡_, _∙_, ap₂}
+use mathlib.Core.Bool.{_&&_, _||_}
 use mathlib.Core.Logic.{_⊎_, inl, inr}
 use Prim.Native.Nat.{ℕ, _+_, _*_, _-_, _^_, _≤_, _<_}
 use native.Mathlib.Omega.{arith}
-use lib.Bits.{bitAnd, bitOr, and-le-l, and-le-r, or-lt, or-add-and, and-block, and-self}
+use lib.Bits.{bitAnd, bitOr, and-le-l, and-le-r, or-lt, or-add-and, and-block}
 use lib.Dec.{leb}
 use native.Mathlib.Decide.{decLe}
-use Rattle.theory_lists.proofs.Reflects.{Reflects, reflects-leb, reflects-and, reflects-or, reflects-iff}
+use Rattle.theory_lists.proofs.Reflects.{reflects-leb, reflects-and, reflects-or, reflects-iff}
 use Rattle.theory_lists.proofs.IndexLaws.{reflects-same}
 use Rattle.base_interiors.specs.Differences.{high, twiceHigh}
 

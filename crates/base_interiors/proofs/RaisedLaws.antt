@@ -2,12 +2,12 @@
 -- The idea: D is linear in each of its points. So D of a side is a sum of two products of differences; D of bc is what D of ab and of ca
 -- leave of the doubled area; and D of another triangle's side changes from corner a to b by what D of ab has at the ends of that side.
 -- Assumes nothing.
-use mathlib.Core.Path.{_≡_, refl, sym, _∙_, ap, ap₂}
-use mathlib.Core.Bool.{Bool, _&&_, _||_}
-use Prim.Native.Nat.{ℕ, suc, _+_, _*_, _≤_, _<_}
+use mathlib.Core.Path.{_≡_, sym, _∙_, ap, ap₂}
+use mathlib.Core.Bool.{_||_}
+use Prim.Native.Nat.{ℕ, suc, _+_, _*_}
 use native.Mathlib.Omega.{arith}
 use lib.Bits.{bitOr}
-use lib.Dec.{leb, ltb}
+use lib.Dec.{leb}
 use lib.IntN.{ℤ, pos, negsuc, _-ℤ_}
 use lib.Signed.{ltZ}
 use Rattle.theory_lists.proofs.Reflects.{reflects-leb, reflects-ltb, reflects-iff}

@@ -8,7 +8,7 @@ use native.Mathlib.Decide.{ℕ-discrete}
 use native.Mathlib.Omega.{arith}
 use borrow.Author.Tests.{eq-eqb}
 use lib.Dec.{eqb}
-use lib.ListN.{length, getD, take, drop, length-take}
+use lib.ListN.{length, getD, take, drop}
 use Rattle.theory_orthtree.specs.KeyCells.{CellEnd, changesAfter, keyCells}
 use Rattle.theory_orthtree.proofs.KeyCellsLaws.{changes-same, changes-other, keyCells-one, keyCells-grow}
 use Rattle.overlay_merge.specs.Runs.{RunOf}

@@ -17,12 +17,18 @@ both : {t : Triangle} {d : Differences} {o : Bool} → ((s : Triangle) → Diffe
     × ((s : Triangle) → DifferencesOf s d → T (proper s) → T (proper t) → CommonInterior s t ↔ T o)
 both k = (λ s of. k s of .computed, λ s of. k s of .exact)
 
+-- earlier places, found from a later one
+abbrev to-seen : tie.After-of-first → tie.After-offsets-by
+to-seen c = search needs
+
+abbrev to-first : tie.After-of-first2 → tie.After-of-first
+to-first c = search needs
+
 returns : tie.Need-returns
 returns c =
     let joined : tie.After-joined = search needs in
     let first : tie.After-of-first = search needs in
-    let seen : tie.After-offsets-by = search needs in
-    both (λ s of. first-told of (seen .offsets-by .ensures .0) (first .of-first .ensures .0) (joined .joined .ensures) (c .if1 .taken))
+    both (λ s of. first-told of (to-seen first .offsets-by .ensures .0) (first .of-first .ensures .0) (joined .joined .ensures) (c .if1 .taken))
 
 returns-2 : tie.Need-returns-2
 returns-2 c =
@@ -30,30 +36,23 @@ returns-2 c =
     let joined2 : tie.After-joined2 = search needs in
     let third : tie.After-of-third = search needs in
     let first2 : tie.After-of-first2 = search needs in
-    let first : tie.After-of-first = search needs in
-    let seen : tie.After-offsets-by = search needs in
-    both (λ s of. others-told of (seen .offsets-by .ensures .0) (first .of-first .ensures .0) (first2 .of-first2 .ensures .0) (third .of-third .ensures .0)
+    let first = to-first first2 in
+    both (λ s of. others-told of (to-seen first .offsets-by .ensures .0) (first .of-first .ensures .0) (first2 .of-first2 .ensures .0) (third .of-third .ensures .0)
     (joined2 .joined2 .ensures) (joined3 .joined3 .ensures) (c .if2 .taken))
 
 of-second-requires-2 : tie.Need-of-second-requires-2
 of-second-requires-2 c κs =
     let first2 : tie.After-of-first2 = search needs in
-    let first : tie.After-of-first = search needs in
-    let seen : tie.After-offsets-by = search needs in
-    let r = seen .offsets-by .ensures .1 in
-    let u = first .of-first .ensures .1 in
-    let w = first2 .of-first2 .ensures .1 in
-    ((r .b, r .c), ((u .b, u .c), (w .b, w .c)))
+    let r = to-seen (to-first first2) .offsets-by .ensures .1 in
+    let u = to-first first2 .of-first .ensures .1 in
+    let w = first2 .of-first2 .ensures .1 in ((r .b, r .c), ((u .b, u .c), (w .b, w .c)))
 
 of-second-requires-3 : tie.Need-of-second-requires-3
 of-second-requires-3 c κs =
     let first2 : tie.After-of-first2 = search needs in
-    let first : tie.After-of-first = search needs in
-    let seen : tie.After-offsets-by = search needs in
-    let r = seen .offsets-by .ensures .1 in
-    let u = first .of-first .ensures .1 in
-    let w = first2 .of-first2 .ensures .1 in
-    ((r .c, r .a), ((u .c, u .a), (w .c, w .a)))
+    let r = to-seen (to-first first2) .offsets-by .ensures .1 in
+    let u = to-first first2 .of-first .ensures .1 in
+    let w = first2 .of-first2 .ensures .1 in ((r .c, r .a), ((u .c, u .a), (w .c, w .a)))
 
 returns-3 : tie.Need-returns-3
 returns-3 c =
@@ -69,9 +68,8 @@ returns-3 c =
     let first2 : tie.After-of-first2 = search needs in
     let else1 : tie.Else1 = search needs in
     let joined : tie.After-joined = search needs in
-    let first : tie.After-of-first = search needs in
-    let seen : tie.After-offsets-by = search needs in
-    both (λ s of. second-told of (seen .offsets-by .ensures .0) (first .of-first .ensures .0) (first2 .of-first2 .ensures .0) (third .of-third .ensures .0)
+    let first = to-first first2 in
+    both (λ s of. second-told of (to-seen first .offsets-by .ensures .0) (first .of-first .ensures .0) (first2 .of-first2 .ensures .0) (third .of-third .ensures .0)
     (joined .joined .ensures) (joined2 .joined2 .ensures) (joined3 .joined3 .ensures) (else1 .if1 .left) (else2 .if2 .left)
     (second .of-second .ensures .0) (second2 .of-second2 .ensures .0) (second3 .of-second3 .ensures .0)
     (joined4 .joined4 .ensures) (joined5 .joined5 .ensures) (c .joined6 .ensures))
