@@ -50,21 +50,19 @@ def touching(s):
     s.overlay(1, 1, "touching", 0)
 
 
-def every_two(s):
-    """Every triangle on nine points of the grid, its four corners among them, with every other, as first and as second of a pair, and
-    some of them as a table of two whose soundness is asked: the largest and the smallest D, and every way to touch and to cross."""
-    points = [(x, y) for x in (0, 40000, 65535) for y in (0, 3, 65535)]
+def every_two(s, step=26):
+    """Triangles on nine points of the grid, its four corners among them, two at a time, each as first and as second of an overlay and both as
+    a table whose soundness is asked: the largest and the smallest D, and every way to touch and to cross. Of the others each is tried
+    with one of `step`; with 1 every two are."""
+    points = [(x, y) for x in (0, 40000, 65535) for y in (0, 30000, 65535)]
     found = [p + q + r for p in points for q in points for r in points if min(p, q, r) == p]
     found = [turned(t, k % 3) for k, t in enumerate(t for t in found if tables.orientation(t) > 0)]
-    s.on(1)
-    s.table(found, number=0)
     for k, t in enumerate(found):
-        s.on(0)
-        s.table([t], number=0)
-        s.overlay(shows="every two", number=0)
-        s.overlay(1, 0, "every two", 0)
-        s.on(0)
-        for other in (found[(k + 1) % len(found)], found[(3 * k + 7) % len(found)], found[(11 * k + 5) % len(found)]):
+        for other in found[k % step :: step]:
+            s.both([t], [turned(other, k % 3)])
+            s.overlay(shows="two alone", number=0)
+            s.overlay(1, 0, "two alone", 0)
+            s.on(0)
             s.table([t, other], number=0)
             s.measure(number=0)
 
