@@ -37,14 +37,9 @@ fn mark_block(
 {
     let p = runs::cell_end(first_keys, first_entries, first_at);
     let q = runs::cell_end(second_keys, second_entries, second_at);
-    let end = runs::block_end(
-        first_keys,
-        first_entries,
-        p,
-        second_keys,
-        second_entries,
-        q,
-        tree_end,
+    let end = runs::larger_end(
+        runs::key_from(first_keys, first_entries, p, tree_end),
+        runs::key_from(second_keys, second_entries, q, tree_end),
     );
     let s = runs::run_end(first_keys, first_entries, p, end);
     let t = runs::run_end(second_keys, second_entries, q, end);

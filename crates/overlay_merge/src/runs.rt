@@ -26,7 +26,7 @@ pub fn cell_end(keys: &[u32], entries: usize, at: usize) -> usize
 }
 
 // The key at place i of so many entries, or the end of the tree's keys.
-fn key_from(keys: &[u32], entries: usize, i: usize, tree_end: u64) -> u64
+pub fn key_from(keys: &[u32], entries: usize, i: usize, tree_end: u64) -> u64
     requires { ⌜ entries ≤ length (now keys) ⌝ }
     ensures { λ r. ⌜ r ≡ keyFrom (now (keys .entry)) entries «tree_end» i ⌝ }
 {
@@ -38,29 +38,10 @@ fn key_from(keys: &[u32], entries: usize, i: usize, tree_end: u64) -> u64
 }
 
 // The larger of two ends.
-fn larger_end(a: u64, b: u64) -> u64
+pub fn larger_end(a: u64, b: u64) -> u64
     ensures { λ r. ⌜ r ≡ max a b ⌝ }
 {
     if a < b { b } else { a }
-}
-
-// Where the larger of two cells ends, which end at places p and q.
-pub fn block_end(
-    first_keys: &[u32],
-    first_entries: usize,
-    p: usize,
-    second_keys: &[u32],
-    second_entries: usize,
-    q: usize,
-    tree_end: u64,
-) -> u64
-    requires { ⌜ («first_entries» ≤ length (now «first_keys»)) × («second_entries» ≤ length (now «second_keys»)) ⌝ }
-    ensures { λ r. ⌜ r ≡ max (keyFrom (now («first_keys» .entry)) «first_entries» «tree_end» p) (keyFrom (now («second_keys» .entry)) «second_entries» «tree_end» q) ⌝ }
-{
-    larger_end(
-        key_from(first_keys, first_entries, p, tree_end),
-        key_from(second_keys, second_entries, q, tree_end),
-    )
 }
 
 // 1 where a new cell starts.

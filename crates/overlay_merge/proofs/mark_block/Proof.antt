@@ -1,6 +1,6 @@
 -- Both runs go up to where the larger of the two cells ends, and each item of the one is marked with each of the other.
-use mathlib.Core.Path.{ap₂}
-use Prim.Native.Nat.{_*_}
+use mathlib.Core.Path.{_∙_, ap₂}
+use Prim.Native.Nat.{_*_, max}
 use native.Mathlib.Omega.{arith}
 use Rattle.overlay_merge.proofs.StepLaws.{cells-fit}
 use borrow.Author.Needs.{needs}
@@ -33,8 +33,8 @@ mark-parts-requires c κs =
       top .pre .1 .1,
     )
 
-mul-t19 : tie.Need-mul-t19
-mul-t19 c =
+mul-t21 : tie.Need-mul-t21
+mul-t21 c =
     let run-end2 : tie.After-run-end2 = search needs in
     let run-end : tie.After-run-end = search needs in
     let top = run-end-to-top run-end in
@@ -49,7 +49,9 @@ returns c =
     let mark-parts : tie.After-mark-parts = search needs in
     let run-end2 : tie.After-run-end2 = search needs in
     let run-end : tie.After-run-end = search needs in
-    let block-end : tie.After-block-end = search needs in
+    let larger : tie.After-larger-end = search needs in
+    let second-key : tie.After-key-from2 = search needs in
+    let first-key : tie.After-key-from = search needs in
     let first : tie.After-cell-end = search needs in
     let second : tie.After-cell-end2 = search needs in
     let p = first .cell-end in
@@ -57,8 +59,14 @@ returns c =
     let s = run-end .run-end .ensures in
     let t = run-end2 .run-end2 .ensures in
     record {
-      end = block-end .block-end .result;
-      ends = record { p = p .result; q = q .result; first = p .ensures; second = q .ensures; end = block-end .block-end .ensures };
+      end = larger .larger-end .result;
+      ends = record {
+        p = p .result;
+        q = q .result;
+        first = p .ensures;
+        second = q .ensures;
+        end = larger .larger-end .ensures ∙ ap₂ max (first-key .key-from .ensures) (second-key .key-from2 .ensures);
+      };
       first = s .ends;
       second = t .ends;
       count = ap₂ _*_ (s .count _ (p .ensures)) (t .count _ (q .ensures));
@@ -68,4 +76,4 @@ returns c =
 pub mark-block-spec : {M : Type 1} → statement M
 mark-block-spec =
     tie.close (tie.spec (λ c κs. search needs) (λ c κs. search needs) (λ c κs. search needs) (λ c κs. search needs) (λ c κs. search needs)
-    mark-parts-requires mul-t19 (λ c. search needs) returns)
+    (λ c κs. search needs) (λ c κs. search needs) mark-parts-requires mul-t21 (λ c. search needs) returns)
