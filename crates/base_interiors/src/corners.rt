@@ -63,7 +63,7 @@ pub fn of_third(third: u64, ab: Raised, ca: Raised) -> Raised
     }
 }
 
-// 65536 times x less y.
+// 65536 times x less y, with 65536 times 131072 added.
 fn slope(p: Offset) -> u64
     requires { ⌜ SmallOffset p ⌝ }
     ensures { λ n. ⌜ (n + 65536 * p .y ≡ 65536 * p .x + 8589934592) × (n ≤ 17179803648) ⌝ }
@@ -71,7 +71,7 @@ fn slope(p: Offset) -> u64
     65536 * (p.x + 131072 - p.y)
 }
 
-// D of the side from p to q at a: two products.
+// D of the side from p to q at a: two products. 1099511627775 is 2^40 - 1.
 fn at_a(p: Offset, q: Offset) -> u64
     requires { ⌜ SmallOffset p × SmallOffset q ⌝ }
     ensures { λ n. ⌜ AtA p q n × Near n ⌝ }

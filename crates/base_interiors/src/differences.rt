@@ -43,7 +43,7 @@ fn below(p: u16) -> u64
     65536 - (p as u64)
 }
 
-// The product of two differences.
+// The product of two differences, each below 2^17.
 pub fn product(a: u64, b: u64) -> u64
     requires { ⌜ (a ≤ 131071) × (b ≤ 131071) ⌝ }
     ensures { λ r. ⌜ (r ≡ a * b) × (r ≤ 17179607041) ⌝ }
@@ -51,7 +51,8 @@ pub fn product(a: u64, b: u64) -> u64
     a * b
 }
 
-// The differences of the side from p to q.
+// The differences of the side from p to q. 1108101562367 is 2^40 - 1 and twice 65536 times 65536: what is raised, and what the two
+// 65536 that are added bring into the two products.
 fn side(p: Point, q: Point) -> SideDifferences
     ensures { λ d. ⌜ SideOf p q d × SmallSide d ⌝ }
 {
@@ -83,7 +84,7 @@ pub fn raised_at(d: SideDifferences, r: Offset) -> u64
     product(d.dx, r.y) + product(d.dy, r.x) + d.base - 65536 * (r.x + r.y)
 }
 
-// What the test of a pair is handed of its first triangle.
+// What the test of a pair is handed of its first triangle. 2199023255550 is twice 2^40 - 1, which raises the doubled area twice more.
 pub fn differences_of(s: [Point; 3]) -> Differences
     ensures { λ d. ⌜ Handed (triangleOf s) d ⌝ }
 {
