@@ -32,52 +32,48 @@ static unsigned below(unsigned n) {
     return (state >> 8) % n;
 }
 
-/* A grid of g times g squares over the whole chart, each halved; where it is uneven, inner points move by up to a quarter. */
-static void make(unsigned g, unsigned uneven) {
-    static const unsigned corners[6][2] = {{0, 0}, {1, 0}, {0, 1}, {1, 1}, {0, 1}, {1, 0}};
-    static uint16_t x[17][17], y[17][17];
+/* The points of a grid of g times g squares over the whole chart; where it is uneven, inner points move by up to a quarter. */
+static uint16_t x[17][17], y[17][17];
+static void place(unsigned g, unsigned uneven) {
     unsigned step = 65535 / g;
-    state = 6 + uneven;
     for (unsigned j = 0; j <= g; j++)
         for (unsigned i = 0; i <= g; i++) {
             x[j][i] = (uint16_t)(i * 65535 / g + (uneven && i > 0 && i < g ? below(step / 2) - step / 4 : 0));
             y[j][i] = (uint16_t)(j * 65535 / g + (uneven && j > 0 && j < g ? below(step / 2) - step / 4 : 0));
         }
     length = 0;
-    for (unsigned j = 0; j < g; j++)
-        for (unsigned i = 0; i < g; i++)
-            for (unsigned k = 0; k < 6; k++) {
-                table[length++] = x[j + corners[k][1]][i + corners[k][0]];
-                table[length++] = y[j + corners[k][1]][i + corners[k][0]];
-            }
 }
 
-/* An uneven grid of g times g squares, each halved along one of its diagonals, as drawn, its corners and its triangles in drawn order. */
+/* The two halves of a square, along either diagonal. */
+static const unsigned halves[2][6][2] = {{{0, 0}, {1, 0}, {0, 1}, {1, 1}, {0, 1}, {1, 0}}, {{0, 0}, {1, 0}, {1, 1}, {1, 1}, {0, 1}, {0, 0}}};
+
+static void put_corner(unsigned i, unsigned j, const unsigned *corner) {
+    table[length++] = x[j + corner[1]][i + corner[0]];
+    table[length++] = y[j + corner[1]][i + corner[0]];
+}
+
+/* A grid, each square halved in the same way. */
+static void make(unsigned g, unsigned uneven) {
+    state = 6 + uneven;
+    place(g, uneven);
+    for (unsigned j = 0; j < g; j++)
+        for (unsigned i = 0; i < g; i++)
+            for (unsigned k = 0; k < 6; k++) put_corner(i, j, halves[0][k]);
+}
+
+/* An uneven grid, each square halved along the diagonal that is drawn, each triangle with its corners turned and all of them in drawn order. */
 static void scatter(unsigned g, unsigned seed) {
-    static const unsigned halves[2][6][2] = {{{0, 0}, {1, 0}, {0, 1}, {1, 1}, {0, 1}, {1, 0}}, {{0, 0}, {1, 0}, {1, 1}, {1, 1}, {0, 1}, {0, 0}}};
-    static uint16_t x[17][17], y[17][17];
-    unsigned step = 65535 / g;
-    size_t count = 2 * (size_t)g * g;
     state = seed;
-    for (unsigned j = 0; j <= g; j++)
-        for (unsigned i = 0; i <= g; i++) {
-            x[j][i] = (uint16_t)(i * 65535 / g + (i > 0 && i < g ? below(step / 2) - step / 4 : 0));
-            y[j][i] = (uint16_t)(j * 65535 / g + (j > 0 && j < g ? below(step / 2) - step / 4 : 0));
-        }
-    length = 0;
+    place(g, 1);
     for (unsigned j = 0; j < g; j++)
         for (unsigned i = 0; i < g; i++) {
             unsigned way = below(2);
             for (unsigned h = 0; h < 2; h++) {
                 unsigned turn = below(3);
-                for (unsigned k = 0; k < 3; k++) {
-                    const unsigned *corner = halves[way][3 * h + (k + turn) % 3];
-                    table[length++] = x[j + corner[1]][i + corner[0]];
-                    table[length++] = y[j + corner[1]][i + corner[0]];
-                }
+                for (unsigned k = 0; k < 3; k++) put_corner(i, j, halves[way][3 * h + (k + turn) % 3]);
             }
         }
-    for (size_t n = count; n > 1; n--) {
+    for (size_t n = 2 * (size_t)g * g; n > 1; n--) {
         size_t m = below((unsigned)n);
         uint16_t row[6];
         memcpy(row, table + 6 * m, sizeof row);

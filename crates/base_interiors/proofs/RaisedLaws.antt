@@ -52,20 +52,23 @@ side-sums : (px py qx qy ox oy rx ry dx dy x y base n : ℕ) → dx + px ≡ qx 
 side-sums px py qx qy ox oy rx ry dx dy x y base n e f g h b k =
     omega (arith, ap (λ m. m * y) e, ap (λ m. px * m) h, ap (λ m. qx * m) h, ap (λ m. m * x) f, ap (λ m. qy * m) g, ap (λ m. py * m) g)
 
--- seen from an end of the side, D at that end is 0
-pub raised-from-start : {p q r : Point} {d : SideDifferences} {o : Offset} {n : ℕ} → SideOf p q d → OffsetOf p r o → RaisedAt d o n → IsRaised p q r n
-raised-from-start {p} {q} {r} {d} {o} {n} s f k = record {
-  at = omega (arith, side-sums (p .x) (p .y) (q .x) (q .y) (p .x) (p .y) (r .x) (r .y) (d .dx) (d .dy) (o .x) (o .y) (d .base) n (s .dx) (s .dy) (f .x) (f .y) (s .base) (k .at));
+-- so where o is on the line of the side, D at o being 0, they are D at r
+raised-from : {p q o r : Point} {d : SideDifferences} {f : Offset} {n : ℕ} → orientHigh p q o ≡ orientLow p q o
+    → SideOf p q d → OffsetOf o r f → RaisedAt d f n → IsRaised p q r n
+raised-from {p} {q} {o} {r} {d} {f} {n} e s g k = record {
+  at = omega (arith, e, side-sums (p .x) (p .y) (q .x) (q .y) (o .x) (o .y) (r .x) (r .y) (d .dx) (d .dy) (f .x) (f .y) (d .base) n (s .dx) (s .dy) (g .x) (g .y) (s .base) (k .at));
 }
 
+-- as from either end
+pub raised-from-start : {p q r : Point} {d : SideDifferences} {o : Offset} {n : ℕ} → SideOf p q d → OffsetOf p r o → RaisedAt d o n → IsRaised p q r n
+raised-from-start = raised-from (omega arith)
+
 pub raised-from-end : {p q r : Point} {d : SideDifferences} {o : Offset} {n : ℕ} → SideOf p q d → OffsetOf q r o → RaisedAt d o n → IsRaised p q r n
-raised-from-end {p} {q} {r} {d} {o} {n} s f k = record {
-  at = omega (arith, side-sums (p .x) (p .y) (q .x) (q .y) (q .x) (q .y) (r .x) (r .y) (d .dx) (d .dy) (o .x) (o .y) (d .base) n (s .dx) (s .dy) (f .x) (f .y) (s .base) (k .at));
-}
+raised-from-end = raised-from (omega arith)
 
 -- ---- D of bc
 
--- an integer is one difference only
+-- two differences that are one integer
 same-difference : {z : ℤ} {h l k m : ℕ} → Diff z h l → Diff z k m → h + m ≡ k + l
 same-difference {z = pos n} d e = omega (arith, d .at, e .at)
 same-difference {z = negsuc n} d e = omega (arith, d .at, e .at)

@@ -35,7 +35,7 @@ pub record OffsetOf (a r : Point) (o : Offset) : Type 0 where
 pub record RaisedAt (d : SideDifferences) (r : Offset) (n : ℕ) : Type 0 where
   pub at : n + 65536 * (r .x + r .y) ≡ d .dx * r .y + d .dy * r .x + d .base
 
--- differences of coordinates below 65,536
+-- differences of coordinates below 65,536, and the base that goes with them
 pub record SmallSide (d : SideDifferences) : Type 0 where
   pub dx : d .dx ≤ 131071
   pub dy : d .dy ≤ 131071
@@ -47,12 +47,12 @@ pub record SmallOffset (o : Offset) : Type 0 where
   pub x : o .x ≤ 131071
   pub y : o .y ≤ 131071
 
--- a raised number is less than 2^36 away from 2^40
+-- a number is at most 2^36 away from 2^40, as every raised D of the grid is
 pub record Near (n : ℕ) : Type 0 where
   pub low : 1030792151040 ≤ n
   pub high : n ≤ 1168231104512
 
--- a doubled area, raised three times, is so near to three times 2^40
+-- a number is at most 2^36 away from three times 2^40 less 2, as every doubled area of the grid is that is raised three times
 pub record ThirdSmall (n : ℕ) : Type 0 where
   pub low : 3229815406590 ≤ n
   pub high : n ≤ 3367254360062
