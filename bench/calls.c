@@ -1,7 +1,7 @@
 /* Time per call: the library's calls beside the hand-written ones of engine.c, on the same charts in one run, and, where it is built with
    BEFORE, beside those of an earlier archive (before.c), by turns.
    Each number is the best of the rounds, in processor time of this thread, so that other work on the machine counts little. Answers and
-   buffers are compared; it ends with status 1 where they differ.
+   buffers are compared; it ends with status 1 where they differ. No earlier archive has inserts.
    usage: bench [CALL CHARTS ENGINE]: that call once, by one engine, on one pair of charts, to count its instructions (count.py) */
 #include "engine.h"
 #include <stdio.h>
@@ -9,7 +9,7 @@
 #include <string.h>
 #include <time.h>
 
-enum { ROUNDS = 40, MOST = 4, POINTS = 64 };
+enum { ROUNDS = 40, MOST = 4, POINTS = 64, INSERTS = 8 };
 
 static uint16_t table[JIRD_TABLE_LENGTH];
 static jird_chart charts[MOST], bed, design;
@@ -18,6 +18,8 @@ static jird_located places[MOST][POINTS];
 static jird_overlaid overlaid[MOST];
 static jird_sounded sounded[MOST];
 static size_t length;
+static uint16_t inserted[INSERTS][2];
+static double untimed;
 
 static double microseconds(void) {
     struct timespec t;
@@ -88,14 +90,31 @@ static const Charts all_charts[] = {{"even", 1}, {"even", 4}, {"even", 8}, {"eve
                                     {"uneven", 16}, {"drawn", 4}, {"drawn", 8}, {"drawn", 16}};
 enum { CHARTS = sizeof all_charts / sizeof all_charts[0] };
 
-static void prepare(const Charts *c) {
+/* Points of the bed: the middles of drawn triangles, and of sides of drawn ones where those are points of the grid, by turns. */
+static void choose(void) {
+    state = 98;
+    for (unsigned k = 0; k < INSERTS;) {
+        const uint16_t *t = table + 6 * below((unsigned)bed.triangles);
+        unsigned a = 2 * below(3), b = (a + 2) % 6, on_side = k % 2;
+        uint16_t x = (uint16_t)(on_side ? (t[a] + t[b]) / 2 : (t[0] + t[2] + t[4]) / 3);
+        uint16_t y = (uint16_t)(on_side ? (t[a + 1] + t[b + 1]) / 2 : (t[1] + t[3] + t[5]) / 3);
+        uint32_t at = jird_chart_locate(&bed, x, y).position;
+        if (at > JIRD_ON_CA || (at != JIRD_INSIDE) != on_side) continue;
+        inserted[k][0] = x, inserted[k][1] = y, k++;
+    }
+}
+
+/* Both charts, the bed of so many numbers at most. */
+static void prepare(const Charts *c, size_t most) {
     int uneven = c->name[0] == 'u';
     if (c->name[0] == 'd') scatter(c->g, 21);
     else make(c->g, !uneven);
     jird_chart_load(&design, table, length);
     if (c->name[0] == 'd') scatter(c->g, 20);
     else make(c->g, (unsigned)uneven);
+    if (length > most) length = most;
     jird_chart_load(&bed, table, length);
+    choose();
 }
 
 /* ---- the calls; engine 0 is the library, the last one an earlier archive of it, if there is one */
@@ -107,6 +126,7 @@ static void prepare(const Charts *c) {
 #endif
 
 static jird_changed (*const loads[])(jird_chart *, const uint16_t *, size_t) = {jird_chart_load, culled_load, plain_load EARLIER(before_load)};
+static jird_changed (*const inserts[])(jird_chart *, uint16_t, uint16_t) = {jird_chart_insert, culled_insert, plain_insert};
 static jird_located (*const locates[])(const jird_chart *, uint16_t, uint16_t) = {jird_chart_locate, plain_locate EARLIER(before_locate)};
 static jird_sounded (*const soundnesses[])(const jird_chart *) = {jird_chart_soundness, plain_soundness EARLIER(before_soundness)};
 static jird_overlaid (*const overlays[])(const jird_chart *, const jird_chart *, uint16_t *) = {jird_chart_overlay,
@@ -114,6 +134,18 @@ static jird_overlaid (*const overlays[])(const jird_chart *, const jird_chart *,
 
 static void load(int engine) {
     if (loads[engine](&charts[engine], table, length).number != JIRD_DONE) exit(1);
+}
+
+/* The bed with a point inserted; that it is copied is not timed. */
+static void insert_one(int engine, int k) {
+    double start = microseconds();
+    charts[engine] = bed;
+    untimed += microseconds() - start;
+    if (inserts[engine](&charts[engine], inserted[k][0], inserted[k][1]).number != JIRD_DONE) exit(1);
+}
+
+static void insert(int engine) {
+    for (int k = 0; k < INSERTS; k++) insert_one(engine, k);
 }
 
 static jird_located located(int engine, uint16_t x, uint16_t y) { return locates[engine](&bed, x, y); }
@@ -141,9 +173,21 @@ static int agrees_on_sides(int e) {
     return 1;
 }
 
+static int same_charts(int e) { return memcmp(&charts[0], &charts[e], sizeof charts[0]) == 0; }
+
+static int agrees_on_inserts(int e) {
+    for (int k = 0; k < INSERTS; k++) {
+        insert_one(0, k);
+        insert_one(e, k);
+        if (!same_charts(e)) return 0;
+    }
+    return 1;
+}
+
 /* Whether an engine answered as the library did, and left the same buffers. */
 static int agrees(void (*call)(int), int e) {
-    if (call == load) return memcmp(&charts[0], &charts[e], sizeof charts[0]) == 0;
+    if (call == load) return same_charts(e);
+    if (call == insert) return agrees_on_inserts(e);
     if (call == locate) return memcmp(places[0], places[e], sizeof places[0]) == 0 && agrees_on_sides(e);
     if (call == soundness) return sounded[0].number == sounded[e].number && sounded[0].sound == sounded[e].sound;
     jird_overlaid a = overlaid[0], b = overlaid[e];
@@ -161,9 +205,10 @@ static void measure(void (*call)(int), int engines, int turns, int per_turn) {
     for (int e = 0; e < engines; e++) best[e] = 1e30;
     for (int r = 0; r < ROUNDS; r++)
         for (int e = 0; e < engines; e++) {
+            untimed = 0;
             double start = microseconds();
             for (int k = 0; k < turns; k++) call(e);
-            double time = (microseconds() - start) / turns / per_turn;
+            double time = (microseconds() - start - untimed) / turns / per_turn;
             if (time < best[e]) best[e] = time;
         }
     for (int e = 1; e < engines; e++)
@@ -182,10 +227,17 @@ typedef struct {
     void (*call)(int);
     const char *const *others; /* the engines beside the library */
     int per_turn;
+    size_t most; /* numbers of the bed */
 } Job;
 static const char *const three[] = {"culled", "plain" EARLIER("before"), NULL};
 static const char *const two[] = {"plain" EARLIER("before"), NULL};
-static const Job jobs[] = {{"load", load, three, 1}, {"locate", locate, two, POINTS}, {"soundness", soundness, two, 1}, {"overlay", overlay, two, 1}};
+static const char *const no_earlier[] = {"culled", "plain", NULL};
+enum { ALL = JIRD_TABLE_LENGTH, ROOM_FOR_TWO = JIRD_TABLE_LENGTH - 12 };
+static const Job jobs[] = {{"load", load, three, 1, ALL},
+                           {"insert", insert, no_earlier, INSERTS, ROOM_FOR_TWO},
+                           {"locate", locate, two, POINTS, ALL},
+                           {"soundness", soundness, two, 1, ALL},
+                           {"overlay", overlay, two, 1, ALL}};
 enum { JOBS = sizeof jobs / sizeof jobs[0] };
 
 static int engines_of(const Job *j) {
@@ -200,7 +252,7 @@ static void each(const Job *j) {
     for (int e = 1; e < engines_of(j); e++) printf("  / %-6s", j->others[e - 1]);
     puts("");
     for (const Charts *c = all_charts; c < all_charts + CHARTS; c++) {
-        prepare(c);
+        prepare(c, j->most);
         printf("%9zu  %-6s  %7zu", bed.triangles, c->name, bed.entries);
         measure(j->call, engines_of(j), c->g > 10 ? 10 / (j->per_turn > 1 ? 5 : 1) : 100 / (j->per_turn > 1 ? 10 : 1), j->per_turn);
     }
@@ -213,7 +265,7 @@ static int once(const char *name, const char *charts_name, int engine) {
         for (const Charts *c = all_charts; c < all_charts + CHARTS; c++) {
             snprintf(word, sizeof word, "%s%u", c->name, 2 * c->g * c->g);
             if (strcmp(j->name, name) != 0 || strcmp(word, charts_name) != 0 || engine < 0 || engine >= engines_of(j)) continue;
-            prepare(c);
+            prepare(c, j->most);
             counted(j->call, engine);
             return 0;
         }

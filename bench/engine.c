@@ -4,6 +4,9 @@
                    it, at the four corners of the square
    culled_load     works as the proved engine does: what depends on a triangle alone is prepared once, one corner decides for each
                    side, and the stopping test is one pass
+   plain_insert    checks the chain rule, builds the entries of the table as plain_load does and compares them, tries the triangles one
+                   after the other for the first that holds the point, makes the new table in scratch, builds its entries and stores both
+   culled_insert   the same, building as culled_load does
    plain_locate    checks the chain rule as document 01 words it, finds the cell by halving, and tries its triangles: the three D
                    values tell whether one holds the point, and their zeros where
    plain_soundness checks the chart and tries every two triangles: bounding boxes, worked out once, then the six sides
@@ -227,31 +230,42 @@ static jird_changed judged(const jird_chart *c, const uint16_t *numbers, size_t 
     return r;
 }
 
-/* Squares from the whole one on; then the chart, or the refusal. */
-static jird_changed load_by(int (*square)(const uint16_t *, size_t, uint16_t *, Square, uint32_t), jird_chart *c, const uint16_t *numbers,
-                            size_t length) {
+/* Squares from the whole one on: the entries of n triangles are found, unless they are too many. */
+static int build_by(int (*square)(const uint16_t *, size_t, uint16_t *, Square, uint32_t), size_t n) {
     Square whole = {0, 0, 0};
-    jird_changed r = {JIRD_TOO_MANY_ENTRIES, 0, c->triangles, c->entries};
-    for (size_t i = 0; i < length / 6; i++) stack[i] = (uint16_t)i;
+    for (size_t i = 0; i < n; i++) stack[i] = (uint16_t)i;
     found.count = 0;
-    if (!square(stack, length / 6, stack + length / 6, whole, 0)) return r;
-    give(c, numbers, length);
+    return square(stack, n, stack + n, whole, 0);
+}
+
+typedef int (*Build)(const uint16_t *table, size_t n);
+
+static int plain_build(const uint16_t *table, size_t n) {
+    given = table;
+    return build_by(plain_square, n);
+}
+
+static int culled_build(const uint16_t *table, size_t n) {
+    prepare(table, n);
+    return build_by(culled_square, n);
+}
+
+static jird_changed refused(const jird_chart *c, uint32_t number) { return (jird_changed){number, 0, c->triangles, c->entries}; }
+
+/* The table and its entries become the chart; else the refusal. */
+static jird_changed stored(Build build, jird_chart *c, const uint16_t *table, size_t length) {
+    if (!build(table, length / 6)) return refused(c, JIRD_TOO_MANY_ENTRIES);
+    give(c, table, length);
     return (jird_changed){JIRD_DONE, 0, c->triangles, c->entries};
 }
 
-jird_changed plain_load(jird_chart *c, const uint16_t *numbers, size_t length) {
+static jird_changed load_by(Build build, jird_chart *c, const uint16_t *numbers, size_t length) {
     jird_changed r = judged(c, numbers, length);
-    if (r.number != JIRD_DONE) return r;
-    given = numbers;
-    return load_by(plain_square, c, numbers, length);
+    return r.number == JIRD_DONE ? stored(build, c, numbers, length) : r;
 }
 
-jird_changed culled_load(jird_chart *c, const uint16_t *numbers, size_t length) {
-    jird_changed r = judged(c, numbers, length);
-    if (r.number != JIRD_DONE) return r;
-    prepare(numbers, length / 6);
-    return load_by(culled_square, c, numbers, length);
-}
+jird_changed plain_load(jird_chart *c, const uint16_t *numbers, size_t length) { return load_by(plain_build, c, numbers, length); }
+jird_changed culled_load(jird_chart *c, const uint16_t *numbers, size_t length) { return load_by(culled_build, c, numbers, length); }
 
 /* ---- the chain rule */
 
@@ -312,6 +326,70 @@ jird_located plain_locate(const jird_chart *c, uint16_t x, uint16_t y) {
     }
     return (jird_located){JIRD_DONE, JIRD_NOWHERE, JIRD_OUTSIDE};
 }
+
+/* ---- insert */
+
+/* Whether the entries are those of the table. */
+static int indexed(Build build, const jird_chart *c) {
+    size_t m = c->entries;
+    return build(c->table, c->triangles) && found.count == m && memcmp(found.keys, c->keys, m * sizeof *c->keys) == 0 &&
+           memcmp(found.levels, c->levels, m * sizeof *c->levels) == 0 && memcmp(found.items, c->items, m * sizeof *c->items) == 0;
+}
+
+static void put_row(uint16_t *table, size_t i, Point a, Point b, Point c) {
+    uint16_t row[6] = {(uint16_t)a.x, (uint16_t)a.y, (uint16_t)b.x, (uint16_t)b.y, (uint16_t)c.x, (uint16_t)c.y};
+    memcpy(table + 6 * i, row, sizeof row);
+}
+
+/* The lowest numbered triangle with a side from p to q, and the corner at which that starts; n if there is none. */
+static size_t beside(const uint16_t *table, size_t n, Point p, Point q, size_t *k) {
+    for (size_t i = 0; i < n; i++)
+        for (*k = 0; *k < 3; ++*k)
+            if (same(corner(table, i, *k), p) && same(corner(table, i, (*k + 1) % 3), q)) return i;
+    return n;
+}
+
+/* Triangle i, (a, b, c) from its corner k on, is split at p on ab; its second half becomes triangle n. */
+static void halve(uint16_t *table, size_t n, size_t i, size_t k, Point p) {
+    Point a = corner(table, i, k), b = corner(table, i, (k + 1) % 3), c = corner(table, i, (k + 2) % 3);
+    put_row(table, i, a, p, c);
+    put_row(table, n, p, b, c);
+}
+
+/* Triangle i, in or on which p is, is split there; how many triangles there are then. */
+static size_t split(uint16_t *table, size_t n, size_t i, uint32_t at, Point p) {
+    Point a = corner(table, i, 0), b = corner(table, i, 1), c = corner(table, i, 2);
+    size_t k = at - JIRD_ON_AB, j, m;
+    if (at == JIRD_INSIDE) {
+        put_row(table, i, a, b, p);
+        put_row(table, n, b, c, p);
+        put_row(table, n + 1, c, a, p);
+        return n + 2;
+    }
+    j = beside(table, n, corner(table, i, (k + 1) % 3), corner(table, i, k), &m);
+    halve(table, n, i, k, p);
+    if (j == n) return n + 1;
+    halve(table, n + 1, j, m, p);
+    return n + 2;
+}
+
+static jird_changed insert_by(Build build, jird_chart *c, uint16_t x, uint16_t y) {
+    static uint16_t table[6 * (TRIANGLES + 2)];
+    Point p = {x, y};
+    size_t i = 0, n = c->triangles;
+    uint32_t at = JIRD_OUTSIDE;
+    if (!chained(c)) return refused(c, JIRD_BROKEN_CHAIN);
+    if (!indexed(build, c)) return refused(c, JIRD_STALE_ENTRIES);
+    while (i < n && (at = position(c->table, i, p)) == JIRD_OUTSIDE) i++;
+    if (i == n) return refused(c, JIRD_NO_HOLDER);
+    if (at >= JIRD_AT_A) return refused(c, JIRD_AT_CORNER);
+    memcpy(table, c->table, 6 * n * sizeof *table);
+    n = split(table, n, i, at, p);
+    return n > TRIANGLES ? refused(c, JIRD_TABLE_FULL) : stored(build, c, table, 6 * n);
+}
+
+jird_changed plain_insert(jird_chart *c, uint16_t x, uint16_t y) { return insert_by(plain_build, c, x, y); }
+jird_changed culled_insert(jird_chart *c, uint16_t x, uint16_t y) { return insert_by(culled_build, c, x, y); }
 
 /* ---- overlay */
 

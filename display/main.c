@@ -24,7 +24,7 @@ static void keep_standard_files(void) {
 }
 
 static void tell_refusal(const refusal *was) {
-    static const char *const commands[] = { "", "triangle", "load", "split", "take-out", "flip", "locate", "overlay" };
+    static const char *const commands[] = { "", "triangle", "load", "insert", "take-out", "flip", "locate", "overlay" };
     static const char *const charts[] = { [BED] = " bed", [DESIGN] = " design", [CHARTS] = "" };
     bool dropped = was->number == JIRD_BAD_LENGTH;
     say("%s%s at byte %zu: refused %u: %s", commands[was->command], charts[was->chart], was->offset, (unsigned)was->number,

@@ -3,12 +3,12 @@
 #include <errno.h>
 #include <string.h>
 
-enum { TRIANGLE = 1, LOAD, SPLIT, TAKE_OUT, FLIP, LOCATE, OVERLAY };
+enum { TRIANGLE = 1, LOAD, INSERT, TAKE_OUT, FLIP, LOCATE, OVERLAY };
 enum { MOST_OPERANDS = 12 };
 
 /* How many bytes the operands of each command are. */
 static const unsigned char operand_bytes[] = {
-    [TRIANGLE] = 12, [LOAD] = 1, [SPLIT] = 7, [TAKE_OUT] = 5, [FLIP] = 5, [LOCATE] = 5, [OVERLAY] = 0,
+    [TRIANGLE] = 12, [LOAD] = 1, [INSERT] = 5, [TAKE_OUT] = 5, [FLIP] = 5, [LOCATE] = 5, [OVERLAY] = 0,
 };
 
 /* The triangles that wait to be loaded. */
@@ -52,7 +52,7 @@ static jird_changed run_event(const command *c, jird_chart *chart, waiting_table
         waiting->length = 0;
         return jird_chart_load(chart, waiting->numbers, length);
     }
-    case SPLIT: return jird_chart_split(chart, word(c, 0), word(c, 1), word(c, 2));
+    case INSERT: return jird_chart_insert(chart, word(c, 0), word(c, 1));
     case TAKE_OUT: return jird_chart_take_out(chart, word(c, 0), word(c, 1));
     default: return jird_chart_flip(chart, word(c, 0), word(c, 1));
     }

@@ -4,7 +4,7 @@ import os
 import sys
 from collections import namedtuple
 
-from . import VERSION, commands, engine, files, forms, log, numbers, paper, stream
+from . import VERSION, commands, counting, engine, files, forms, log, numbers, paper, stream
 from .faults import FAILED, UNMET, WRONG, Fault, Faults, clean, listed, of_file, plural
 
 VARIABLE = "CHARTKEY_ENGINE"
@@ -25,10 +25,9 @@ class Usage(Exception):
 
 def help_text():
     """Within a screen; the lines of a paper come from the tables."""
-    first, last = numbers.NUMBERS[0].number, numbers.NUMBERS[-1].number
-    head = f"""usage: chartkey [OPTIONS] [PAPER]  the key of a paper (or of standard input)
+    head = """usage: chartkey [OPTIONS] [PAPER]  the key of a paper (or of standard input)
        chartkey check [PAPER]      read it, tell its faults, run nothing
-       chartkey numbers [N]        what the numbers {first} to {last} mean, and what to do
+       chartkey numbers [N]        what the numbers mean, and what to do
   --json --csv --log --bytes       other forms of the answer
   --from-bytes                     PAPER is a stream of commands: print a paper
   -q                               only the key
@@ -84,7 +83,7 @@ def told_numbers(which):
     """The numbers in words."""
     rows = [row for row in numbers.NUMBERS if which is None or str(row.number) == which]
     if not rows:
-        raise Usage(f"the numbers are {numbers.NUMBERS[0].number} to {numbers.NUMBERS[-1].number}, not {clean(which)}")
+        raise Usage(f"there is no number {clean(which)}; they are {commands.choice([str(row.number) for row in numbers.NUMBERS], 'and')}")
     lines = [line for row in rows for line in forms.number_lines(row)]
     return Outcome(0, "".join(line + "\n" for line in lines).encode())
 
@@ -143,9 +142,11 @@ def ran(ask, read, here, environ):
     if trouble:
         return failed(ask, of_file(program[0], trouble), out=out)
     try:
-        answers = forms.Answers(read, *log.read(printed, read.calls))
+        answers = forms.Answers(read, *counting.settled(program, read.calls, printed))
     except log.Misfit as e:
         return failed(ask, Fault("log", e.line, 1, len(e.text), f"{e.message} ({read.name})", e.text), out=out)
+    except counting.Untold as e:
+        return failed(ask, of_file(program[0], f"asked how many triangles came by an insert: {e}"), out=out)
     if ask.form == "--json":
         return Outcome(answers.status, forms.answers_json(answers, version).encode())
     form = {"--csv": forms.csv, "-q": forms.only_key}.get(ask.form, forms.people)

@@ -11,8 +11,8 @@ MOST = 65535  # the largest 16-bit number, and the mark for nowhere
 MOST_WAITING = 512
 HEADING = "overlay log"
 
-# ---- operands: kind, name in JSON (None: it has no bytes), how help writes it, what each of its numbers or names is, and the names
-Operand = namedtuple("Operand", "kind name letter what names", defaults=(None, ()))
+# ---- operands: kind, name in JSON (None: of an answer), how help writes it, what each of its numbers or names is, and the names
+Operand = namedtuple("Operand", "kind name letter what names", defaults=((),))
 # how many 16-bit numbers each kind has; a chart is one byte
 WIDTHS = {"number": 1, "point": 2}
 
@@ -23,10 +23,6 @@ def number(name, letter, what="a triangle's number"):
 
 def point(name, letter):
     return Operand("point", name, letter, "a coordinate")
-
-
-def fixed(text):
-    return Operand("fixed", None, text)
 
 
 CHART = Operand("chart", "chart", "CHART", "chart", CHARTS)
@@ -71,19 +67,18 @@ def most_of(field):
     return MOST_WAITING - 1 if field.most == TRIANGLES else field.most
 
 
-# ---- what becomes of the count of triangles: a number is added to the chart's count, None leaves it
+# ---- what becomes of the count of triangles: the least and the most that come to the chart, or None where it changes no chart
 WAITS = "waits"  # one more waits; at MOST_WAITING it is dropped and refused. Nothing is printed when it waits
 LOADS = "loads"  # the chart has what waits, and nothing waits
-UNTOLD = "untold"  # the log does not tell how many came
 
 # lists: the field that counts the lines of pairs below the answer
 Command = namedtuple("Command", "byte word operands prints refusals count lists", defaults=(None, None))
 COMMANDS = (
     Command(1, "triangle", (point("a", "A"), point("b", "B"), point("c", "C")), (), (4,), WAITS),
     Command(2, "load", (CHART,), (ENTRIES,), (5, 11), LOADS),
-    Command(3, "split", (CHART, number("triangle", "T"), fixed("at"), point("point", "P")), (ENTRIES,), (6, 7, 10, 11), 2),
-    Command(4, "take-out", (CHART, point("point", "P")), (ENTRIES,), (8, 11), -2),
-    Command(5, "flip", (CHART, number("i", "I"), number("j", "J")), (ENTRIES,), (6, 9, 11), 0),
+    Command(3, "insert", (CHART, point("point", "P")), (ENTRIES,), (7, 10, 11, 14), (1, 2)),
+    Command(4, "take-out", (CHART, point("point", "P")), (ENTRIES,), (8, 11), (-2, -2)),
+    Command(5, "flip", (CHART, number("i", "I"), number("j", "J")), (ENTRIES,), (6, 9, 11), (0, 0)),
     Command(6, "locate", (CHART, point("point", "P")), (FOUND, POSITION), ()),
     Command(7, "overlay", (), (PAIRS, MEETINGS), (12,), None, PAIRS),
 )
@@ -105,11 +100,6 @@ def waiting_row():
     return next(row for row in COMMANDS if row.count == WAITS)
 
 
-def valued(row):
-    """The operands that have a value."""
-    return [operand for operand in row.operands if operand.name]
-
-
 def form(row):
     """How the command is written, with letters for its operands."""
     return " ".join([row.word] + [operand.letter for operand in row.operands])
@@ -117,16 +107,12 @@ def form(row):
 
 def chart_of(call):
     """The number of the chart that a command names, or None."""
-    return next((v for operand, v in zip(valued(call.row), call.values) if operand.kind == "chart"), None)
+    return next((v for operand, v in zip(call.row.operands, call.values) if operand.kind == "chart"), None)
 
 
 def written(row, values):
     """The command as a line of a paper."""
-    left = iter(values)
-    words = [row.word]
-    for operand in row.operands:
-        words.append(operand.letter if operand.kind == "fixed" else shown(operand, next(left)))
-    return " ".join(words)
+    return " ".join([row.word] + [shown(operand, value) for operand, value in zip(row.operands, values)])
 
 
 def shown(operand, value):

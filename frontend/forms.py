@@ -1,4 +1,4 @@
-"""The forms of answers: for people, CSV, JSON. Every number in them was read from the log, or counts what was read."""
+"""The forms of answers: for people, CSV, JSON. Every number in them was read from a log, or counts what was read."""
 
 import json
 import textwrap
@@ -6,7 +6,7 @@ import textwrap
 from . import commands, numbers
 from .faults import UNMET, plural
 
-FORMAT = "chartkey/1"
+FORMAT = "chartkey/2"
 WIDTH = 80
 REFUSED = 1  # exit status
 
@@ -74,8 +74,7 @@ def answer(step):
     parts += [mark.nothing] if mark else []
     if row.count is None:
         return ", ".join(parts)
-    count = step.counts[commands.chart_of(step.call)]
-    return "accepted: " + ", ".join(([] if count is None else [plural(count, "triangle")]) + parts)
+    return "accepted: " + ", ".join([plural(step.counts[commands.chart_of(step.call)], "triangle")] + parts)
 
 
 def table(answers):
@@ -106,13 +105,12 @@ def key(step):
 
 
 def alone(step):
-    """What is in no pair; a chart whose count is not told is left out."""
+    """What is in no pair."""
     lines = []
     for k, (name, count) in enumerate(zip(commands.CHARTS, step.counts)):
-        if count is not None:
-            paired = {pair[k] for pair in step.pairs}
-            lines.append(f"{name} {' '.join(str(i) for i in range(count) if i not in paired) or '(none)'}")
-    return wrapped("  in no pair: ", ["; ".join(lines)]) if lines else []
+        paired = {pair[k] for pair in step.pairs}
+        lines.append(f"{name} {' '.join(str(i) for i in range(count) if i not in paired) or '(none)'}")
+    return wrapped("  in no pair: ", ["; ".join(lines)])
 
 
 def keys(answers):
@@ -190,7 +188,7 @@ def dumped(value):
 def step_json(step):
     call = step.call
     made = {"line": call.line, **({"from": call.where} if call.where else {}), "command": call.row.word}
-    for operand, value in zip(commands.valued(call.row), call.values):
+    for operand, value in zip(call.row.operands, call.values):
         made[operand.name] = commands.shown(operand, value) if operand.names else value
     made["number"] = step.number
     if step.number:

@@ -1,14 +1,15 @@
 """The reader of the program's log. It matches the log with the paper: heading, each command's number, each count, nothing left over.
 
-It computes no answer. It counts: how many triangles wait, and how many a chart has."""
+It computes no answer. It counts: how many triangles wait, and how many a chart has. The log does not tell whether an insert added one
+triangle or two, so a count has a least and a most; counting.py asks the program until they are the same."""
 
 import re
 from collections import namedtuple
 
 from . import commands, numbers
 
-# the answer of a call: the number, the values beside it by name, the pairs, each chart's count of triangles after it, and for a number
-# that names a triangle the call that wrote it
+# the answer of a call: the number, the values beside it by name, the pairs, the most triangles that each chart has after it, and for a
+# number that names a triangle the call that wrote it
 Step = namedtuple("Step", "call number values pairs counts written", defaults=(None,))
 LINE = re.compile(rb"(?:0|[1-9][0-9]{0,9})(?: (?:0|[1-9][0-9]{0,9}))*")
 
@@ -21,24 +22,27 @@ class Misfit(Exception):
         self.line, self.text, self.message = line, text, message
 
 
-def read(log, calls):
-    """The steps of a log: one for each call that prints, in their order."""
-    reader = Reader(log)
+def read(log, calls, bounds=None):
+    """The steps of a log, one for each call that prints, in their order; how many triangles wait; and the calls after which the chart's
+    count is not told. The bounds are what else is known of counts: the least and the most after a call."""
+    reader = Reader(log, bounds or {})
     reader.heading()
     steps = [step for step in map(reader.step, calls) if step]
     reader.end()
-    return steps, reader.waiting
+    return steps, reader.waiting, reader.untold
 
 
 class Reader:
-    """Reads the log line after line, and keeps the counts of triangles: a count that the log does not tell is None."""
+    """Reads the log line after line, and keeps the counts of triangles."""
 
-    def __init__(self, log):
+    def __init__(self, log, bounds):
         self.lines = log.split(b"\n")
         self.at = 0
         self.waiting = 0
         self.written = []  # where the triangles that wait were written
-        self.counts = [0] * len(commands.CHARTS)
+        self.counts = [(0, 0)] * len(commands.CHARTS)  # the least and the most
+        self.bounds = bounds  # by the call's id
+        self.untold = {}  # by the call's id: the chart, the least and the most
 
     def misfit(self, message):
         text = self.lines[self.at - 1] if self.at <= len(self.lines) else b""
@@ -94,7 +98,7 @@ class Reader:
         written = self.written[rest[0]] if beside else None
         if call.row.count == commands.LOADS:
             self.empty()
-        return Step(call, number, {beside: rest[0]} if beside else {}, None, tuple(self.counts), written)
+        return Step(call, number, {beside: rest[0]} if beside else {}, None, self.most(), written)
 
     def empty(self):
         self.waiting = 0
@@ -102,23 +106,31 @@ class Reader:
 
     def accepted(self, call, rest, of):
         chart = commands.chart_of(call)
-        if chart is not None:
-            self.count(call.row.count, chart)
-        values = self.fields(call.row, rest, None if chart is None else self.counts[chart], of)
-        pairs = self.pairs(values[call.row.lists.name], of) if call.row.lists else None
-        return Step(call, 0, values, pairs, tuple(self.counts))
-
-    def count(self, change, chart):
-        """The chart's count of triangles after an accepted command."""
-        if change == commands.LOADS:
-            self.counts[chart] = self.waiting
+        if call.row.count == commands.LOADS:
+            self.counts[chart] = (self.waiting, self.waiting)
             self.empty()
-        elif change == commands.UNTOLD or self.counts[chart] is None:
-            self.counts[chart] = None
-        else:
-            self.counts[chart] += change or 0
+        elif call.row.count:
+            self.count(call, chart, of)
+        values = self.fields(call.row, rest, chart, of)
+        pairs = self.pairs(values[call.row.lists.name], of) if call.row.lists else None
+        return Step(call, 0, values, pairs, self.most())
 
-    def fields(self, row, rest, count, of):
+    def count(self, call, chart, of):
+        """The chart's count of triangles after an accepted edit."""
+        fewest, many = call.row.count
+        low, high = self.bounds.get(id(call), (0, commands.MOST_WAITING))
+        least, most = self.counts[chart]
+        least, most = max(least + fewest, low), min(most + many, high)
+        if least > most:
+            raise self.misfit(f"no count of triangles fits {of}")
+        if least < most and fewest < many:
+            self.untold[id(call)] = (chart, least, most)
+        self.counts[chart] = (least, most)
+
+    def most(self):
+        return tuple(most for _, most in self.counts)
+
+    def fields(self, row, rest, chart, of):
         """The values that an accepted command prints. A mark is None, as are the fields after it, for which nothing stands there."""
         values = dict.fromkeys(field.name for field in row.prints)
         left = iter(rest)
@@ -128,7 +140,7 @@ class Reader:
                 raise self.misfit(f"another count of numbers than {of} has: its {what} is missing")
             if value == field.mark:
                 break
-            most = field.most if field.most != commands.TRIANGLES else commands.MOST - 1 if count is None else count - 1
+            most = self.most()[chart] - 1 if field.most == commands.TRIANGLES else field.most
             if not field.least <= value <= most:
                 raise self.misfit(f"{of} cannot have {value} as its {what}")
             values[field.name] = value
@@ -138,12 +150,12 @@ class Reader:
 
     def pairs(self, count, of):
         """The lines of pairs: ascending, none twice, of triangles that are there."""
-        pairs = []
+        pairs, charts = [], self.most()
         for k in range(count):
             pair = tuple(self.numbers(f"pair {k + 1} of {count} of {of}"))
-            if len(pair) != len(self.counts):
+            if len(pair) != len(charts):
                 raise self.misfit(f"no pair, where pair {k + 1} of {count} of {of} belongs")
-            if any(n is not None and i >= n for i, n in zip(pair, self.counts)):
+            if any(i >= most for i, most in zip(pair, charts)):
                 raise self.misfit("a pair of a triangle that is not there")
             if pairs and pair <= pairs[-1]:
                 raise self.misfit("a pair that is not after the one before it")

@@ -41,13 +41,14 @@ NUMBERS = (
     ),
     Number(
         7,
-        "the point is not strictly inside that triangle",
-        "it lies outside, on a side or at a corner; locate tells the triangle that holds it",
+        "no triangle holds the point; the chart has {N}",
+        "the point lies off the chart or in a gap of it: look at x and y, and whether the other chart is meant; an insert adds no ground",
+        called="no triangle holds the point",
     ),
     Number(
         8,
         "not exactly three triangles around the point, one after the other",
-        "only a point that a split would add can be taken out",
+        "only a point that an insert inside a triangle would add can be taken out; one on a side has two triangles around it, or four",
     ),
     Number(
         9,
@@ -67,9 +68,9 @@ NUMBERS = (
     ),
     Number(12, "over 4,096 pairs share ground", "overlay a part of the chart"),
     Number(
-        13,
-        "the point is on no side of that triangle, or at an end of one",
-        "it lies outside, at a corner, or inside, where a split takes it; locate tells which; a paper cannot meet it",
+        14,
+        "the point is a corner already, of the lowest numbered triangle that holds it",
+        "the chart has the point: leave the insert out; locate tells the triangle and the corner",
     ),
 )
 

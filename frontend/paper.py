@@ -13,6 +13,8 @@ TOKEN = re.compile(r'#|"[^"]*"?|[^ \t"#]+')
 # blanks of other kinds and marks that nobody sees, which come with text from elsewhere
 UNSEEN = re.compile("[\u00a0\u00ad\u1680\u180e\u2000-\u200f\u202f\u205f-\u2064\u3000\ufeff]")
 POINT = re.compile(r"(\(?)([^,()]*),([^,()]*)(\)?)")
+# how an insert was written before: with a triangle's number
+SPLIT = re.compile(rf"split ({'|'.join(commands.CHARTS)}) [0-9]+ at ([0-9]+,[0-9]+|\([0-9]+,[0-9]+\))")
 # the lines that are no command of the program, and how they are written
 LINES = {
     "title": 'title "TEXT"',
@@ -96,6 +98,16 @@ def close(word, known):
     return f"did you mean `{found[0]}`?" if found else None
 
 
+def unknown(tokens):
+    """What is told of a line that begins with no command, and the hint or None."""
+    word = tokens[0].text
+    if word.lower() == "split":
+        old = SPLIT.fullmatch(" ".join(token.text for token in tokens))
+        hint = "write `insert {} {}`".format(*old.groups()) if old else "the lowest numbered triangle that holds the point is taken"
+        return f"`{word}` is now `insert CHART P`, without a triangle's number", hint
+    return f"unknown command `{short(word)}`", close(word, [row.word for row in commands.COMMANDS] + list(LINES))
+
+
 def number(place, token, what, most=commands.MOST, hint=None):
     """The number of a token, or None after a fault; the hint is for one that is missing."""
     text = token.text
@@ -131,17 +143,10 @@ def one_of(place, token, what, names):
 
 
 def operand(place, wanted, token):
-    """The value of an operand, or None after a fault; a fixed word's value is itself."""
+    """The value of an operand, or None after a fault."""
     if wanted.names:
         return one_of(place, token, wanted.what, wanted.names)
-    if wanted.kind == "point":
-        return point(place, token, wanted.what)
-    if wanted.kind == "number":
-        return number(place, token, wanted.what)
-    if token.text != wanted.letter:
-        place.at(token, f"`{wanted.letter}` belongs here, not `{short(token.text)}`")
-        return None
-    return token.text
+    return (point if wanted.kind == "point" else number)(place, token, wanted.what)
 
 
 def quoted(place, token):
@@ -191,8 +196,7 @@ class Reader:
             getattr(self, head.text)(place, tokens)
         else:
             self.group = False
-            known = [row.word for row in commands.COMMANDS] + list(LINES)
-            place.at(head, f"unknown command `{short(head.text)}`", close(head.text, known))
+            place.at(head, *unknown(tokens))
 
     def fits(self, place, tokens, count, form, hint=None):
         """Whether as many words follow the first as are wanted."""
@@ -215,7 +219,7 @@ class Reader:
                 return None
         if not self.fits(place, tokens, len(row.operands), commands.form(row)) or None in values:
             return None
-        return tuple(v for v, wanted in zip(values, row.operands) if wanted.name)
+        return tuple(values)
 
     def add(self, calls, place, head):
         """Commands of one line of the paper."""
@@ -357,7 +361,7 @@ def table_row(place, fault):
         return place.fault(*fault)
     if not text:
         return None
-    operands = commands.valued(commands.waiting_row())
+    operands = commands.waiting_row().operands
     wanted = [o.what for o in operands for _ in range(commands.WIDTHS[o.kind])]
     found = list(cells(text))
     if unseen(place, found):

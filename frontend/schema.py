@@ -35,7 +35,7 @@ def listed(items, most=None):
 def head(row):
     """The fields that stand in every step of a command."""
     fields = {"line": {"type": "integer", "minimum": 1}, "from": TEXT, "command": {"const": row.word}}
-    return {**fields, **{o.name: SHAPES[o.kind] for o in commands.valued(row)}}
+    return {**fields, **{o.name: SHAPES[o.kind] for o in row.operands}}
 
 
 def field_shape(field):
@@ -49,7 +49,7 @@ def accepted(row, printed):
     """An accepted command that printed so many of its fields; the others are null."""
     fields = {**head(row), "number": {"const": 0}}
     if row.count is not None:
-        fields["triangles"] = {**COUNT, **nullable("integer")} if row.count == commands.UNTOLD else COUNT
+        fields["triangles"] = COUNT
     fields.update({field.name: field_shape(field) if k < printed else {"const": None} for k, field in enumerate(row.prints)})
     if row.lists:
         fields[row.lists.name] = listed(SHAPES["point"], row.lists.most)

@@ -10,7 +10,7 @@ def to_bytes(calls):
 
 def encoded(call):
     parts = [bytes([call.row.byte])]
-    for operand, value in zip(commands.valued(call.row), call.values):
+    for operand, value in zip(call.row.operands, call.values):
         if operand.kind == "chart":
             parts.append(bytes([value]))
         else:
@@ -37,7 +37,7 @@ def from_bytes(data):
         row = commands.by_byte(data[offset])
         at = offset + 1
         values = []
-        for operand in commands.valued(row) if row else []:
+        for operand in row.operands if row else ():
             part = data[at : at + size(operand)]
             values.append(decoded(part, operand) if len(part) == size(operand) else None)
             at += size(operand)

@@ -26,8 +26,8 @@
 extern "C" {
 #endif
 
-#define JIRD_VERSION "1.3.0" /* base.request.fix: 1.4.0 has requests 1 to 4 */
-#define JIRD_ABI 3           /* rises with every change of a type, a prototype or a constant but the stack */
+#define JIRD_VERSION "1.4.0" /* base.request.fix: 1.4.0 has requests 1 to 4 */
+#define JIRD_ABI 4           /* rises with every change of a type, a prototype or a constant but the stack */
 
 enum {
     JIRD_TABLE_LENGTH = 3072,
@@ -40,8 +40,8 @@ enum {
     JIRD_MOST_STACK = 262144 /* bytes: the most that stands above a prototype */
 };
 
-/* The numbers that a call can give: document 01, "Numbers a call can give", and 13 of document 02. They are checked in rising order,
- * but 13 where a split has 7, before 10 and 11. At a refusal (any number but 0) the buffers keep what they held, but for the pairs at
+/* The numbers that a call can give: document 01, "Numbers a call can give", and 14 of document 02. They are checked in rising order,
+ * but 14 after 7, before 10 and 11. At a refusal (any number but 0) the buffers keep what they held, but for the pairs at
  * JIRD_TOO_MANY_PAIRS, and the other fields of the answer are 0 unless the type says otherwise.
  * numbers: written by tests/headers.py --write */
 typedef enum {
@@ -52,13 +52,13 @@ typedef enum {
     JIRD_BAD_LENGTH = 4,        /* the length to be loaded is no multiple of 6, or above 3,072 */
     JIRD_FAULTY_TRIANGLE = 5,   /* a triangle to be loaded has D <= 0 */
     JIRD_NO_SUCH_TRIANGLE = 6,  /* no triangle has that number */
-    JIRD_NOT_INSIDE = 7,        /* the point is not strictly inside that triangle */
+    JIRD_NO_HOLDER = 7,         /* no triangle holds the point */
     JIRD_NOT_THREE_AROUND = 8,  /* not exactly three triangles around the point, one after the other */
     JIRD_NO_FLIP = 9,           /* no side that the two share in opposite directions, or a new triangle with D <= 0 */
     JIRD_TABLE_FULL = 10,       /* the table would have over 512 triangles */
     JIRD_TOO_MANY_ENTRIES = 11, /* the new chart would have over 16,384 entries */
     JIRD_TOO_MANY_PAIRS = 12,   /* over 4,096 pairs share ground */
-    JIRD_NOT_ON_SIDE = 13       /* the point is on no side of that triangle, or at an end of one */
+    JIRD_AT_CORNER = 14         /* the point is a corner already, of the lowest numbered triangle that holds it */
 } jird_number;
 /* numbers: end */
 

@@ -43,21 +43,16 @@ jird_changed jird_load(
     uint8_t *levels, size_t levels_length, uint16_t *items, size_t items_length,
     size_t triangles, size_t entries);
 
-/* Triangle i, (a, b, c), is split at p = (x, y) strictly inside it: (a, b, p) takes its place, (b, c, p) and (c, a, p) come last.
- * Gives 0, 1, 2, 3, 6, 7, 10 or 11. Writes as jird_load. Stack: at most 256 KB. */
-jird_changed jird_split(
-    uint16_t *table, size_t table_length, uint32_t *keys, size_t keys_length,
-    uint8_t *levels, size_t levels_length, uint16_t *items, size_t items_length,
-    size_t triangles, size_t entries, size_t i, uint16_t x, uint16_t y);
-
-/* Triangle i, rotated to (a, b, c) with p = (x, y) on its side ab and not at its ends, is split there: (a, p, c) takes its place and
- * (p, b, c) comes last. If other triangles rotate to (b, a, d), the lowest numbered becomes (b, p, d), and (p, a, d) comes after that.
- * Gives 0, 1, 2, 3, 6, 13, 10 or 11; checked in this order. 10 is over 512 with what is really added, one triangle or two.
+/* The point p = (x, y) is added: the lowest numbered triangle that holds it is taken. If p is strictly inside it, (a, b, c): (a, b, p)
+ * takes its place, (b, c, p) and (c, a, p) come last. If p is on a side of it and not at an end, rotated to (a, b, c) with p on ab:
+ * (a, p, c) takes its place and (p, b, c) comes last; if other triangles rotate to (b, a, d), the lowest numbered becomes (b, p, d),
+ * and (p, a, d) comes after that.
+ * Gives 0, 1, 2, 3, 7, 14, 10 or 11; checked in this order. 10 is over 512 with what is really added, one triangle or two.
  * Writes as jird_load. Stack: at most 256 KB. */
-jird_changed jird_side_split(
+jird_changed jird_insert(
     uint16_t *table, size_t table_length, uint32_t *keys, size_t keys_length,
     uint8_t *levels, size_t levels_length, uint16_t *items, size_t items_length,
-    size_t triangles, size_t entries, size_t i, uint16_t x, uint16_t y);
+    size_t triangles, size_t entries, uint16_t x, uint16_t y);
 
 /* The point p = (x, y) is taken out: of exactly three triangles around it, (a, b, p), (b, c, p) and (c, a, p), the lowest numbered
  * becomes (a, b, c), the other two go, and later ones move down.
@@ -123,19 +118,10 @@ static inline jird_changed jird_chart_load(jird_chart *c, const uint16_t *number
     return r;
 }
 
-static inline jird_changed jird_chart_split(jird_chart *c, size_t i, uint16_t x, uint16_t y) {
-    jird_changed r = jird_split(
+static inline jird_changed jird_chart_insert(jird_chart *c, uint16_t x, uint16_t y) {
+    jird_changed r = jird_insert(
         c->table, JIRD_TABLE_LENGTH, c->keys, JIRD_ENTRIES_LENGTH,
-        c->levels, JIRD_ENTRIES_LENGTH, c->items, JIRD_ENTRIES_LENGTH, c->triangles, c->entries, i, x, y);
-    c->triangles = r.triangles;
-    c->entries = r.entries;
-    return r;
-}
-
-static inline jird_changed jird_chart_side_split(jird_chart *c, size_t i, uint16_t x, uint16_t y) {
-    jird_changed r = jird_side_split(
-        c->table, JIRD_TABLE_LENGTH, c->keys, JIRD_ENTRIES_LENGTH,
-        c->levels, JIRD_ENTRIES_LENGTH, c->items, JIRD_ENTRIES_LENGTH, c->triangles, c->entries, i, x, y);
+        c->levels, JIRD_ENTRIES_LENGTH, c->items, JIRD_ENTRIES_LENGTH, c->triangles, c->entries, x, y);
     c->triangles = r.triangles;
     c->entries = r.entries;
     return r;
@@ -211,8 +197,8 @@ static inline const char *jird_words(uint32_t number) {
         return "a triangle to be loaded has D <= 0";
     case JIRD_NO_SUCH_TRIANGLE:
         return "no triangle has that number";
-    case JIRD_NOT_INSIDE:
-        return "the point is not strictly inside that triangle";
+    case JIRD_NO_HOLDER:
+        return "no triangle holds the point";
     case JIRD_NOT_THREE_AROUND:
         return "not exactly three triangles around the point, one after the other";
     case JIRD_NO_FLIP:
@@ -223,8 +209,8 @@ static inline const char *jird_words(uint32_t number) {
         return "the new chart would have over 16,384 entries";
     case JIRD_TOO_MANY_PAIRS:
         return "over 4,096 pairs share ground";
-    case JIRD_NOT_ON_SIDE:
-        return "the point is on no side of that triangle, or at an end of one";
+    case JIRD_AT_CORNER:
+        return "the point is a corner already, of the lowest numbered triangle that holds it";
     default:
         return "no number that a call gives";
     }

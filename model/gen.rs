@@ -110,10 +110,10 @@ impl Stream {
         self.load(c)
     }
 
-    fn split(&mut self, c: usize, t: i64, p: Point) -> bool {
+    fn insert(&mut self, c: usize, p: Point) -> bool {
         self.head(3, c);
-        self.words(&[t, p.x, p.y]);
-        let o = plain_split(&self.tables[c], t as u64, p);
+        self.words(&[p.x, p.y]);
+        let o = plain_insert(&self.tables[c], p);
         self.follow(c, o)
     }
 
@@ -172,11 +172,11 @@ impl Stream {
         self.rng.pick(&t)
     }
 
-    /// A grid point on a side and at none of its ends, or a corner where no
-    /// side of the chart has one.
-    fn side_point(&mut self, c: usize) -> Point {
+    /// A grid point on a side of one of these and at none of its ends; none
+    /// where no side has one.
+    fn point_on(&mut self, tris: &[Tri]) -> Option<Point> {
         let mut sides = Vec::new();
-        for t in &self.tables[c] {
+        for t in tris {
             for k in 0..3 {
                 let (p, q) = (t[k], t[(k + 1) % 3]);
                 let (dx, dy) = (q.x - p.x, q.y - p.y);
@@ -187,11 +187,21 @@ impl Stream {
             }
         }
         if sides.is_empty() {
-            return self.some_corner(c);
+            return None;
         }
         let (p, dx, dy, parts) = self.rng.pick(&sides);
         let n = self.rng.range(1, parts - 1);
-        point(p.x + n * dx, p.y + n * dy)
+        Some(point(p.x + n * dx, p.y + n * dy))
+    }
+
+    /// Such a point of the chart, or a corner.
+    fn side_point(&mut self, c: usize) -> Point {
+        let table = self.tables[c].clone();
+        self.point_on(&table).unwrap_or_else(|| self.some_corner(c))
+    }
+
+    fn beside(&mut self, p: Point, reach: i64) -> Point {
+        point(p.x + self.rng.range(-reach, reach), p.y + self.rng.range(-reach, reach))
     }
 
     /// A point of a triangle: on a side, at a corner, and less often inside.
@@ -203,6 +213,33 @@ impl Stream {
             }
             1..=3 => self.side_point(c),
             _ => self.some_corner(c),
+        }
+    }
+
+    /// A point to insert: inside a triangle or on a side, and less often beside
+    /// a side, at a corner or anywhere.
+    fn new_point(&mut self, c: usize) -> Point {
+        match self.rng.below(20) {
+            0..=10 if !self.tables[c].is_empty() => {
+                let t = self.rng.pick(&self.tables[c]);
+                self.point_of(&t)
+            }
+            11..=16 => self.side_point(c),
+            17 => {
+                let p = self.side_point(c);
+                self.beside(p, 1)
+            }
+            18 => self.some_corner(c),
+            _ => point(self.rng.below(65_536), self.rng.below(65_536)),
+        }
+    }
+
+    /// A point of one triangle: inside, on a side or at a corner.
+    fn point_by(&mut self, t: &Tri) -> Point {
+        match self.rng.below(8) {
+            0..=2 => self.point_of(t),
+            3..=6 => self.point_on(&[*t]).unwrap_or(t[0]),
+            _ => self.rng.pick(t),
         }
     }
 
@@ -240,7 +277,7 @@ impl Stream {
             0 => point(self.rng.below(65_536), self.rng.below(65_536)),
             1 => {
                 let p = self.some_corner(c);
-                point(p.x + self.rng.range(-2, 2), p.y + self.rng.range(-2, 2))
+                self.beside(p, 2)
             }
             2 | 3 => self.held_point(c),
             4 => {
@@ -261,10 +298,8 @@ impl Stream {
         let n = self.tables[c].len() as i64;
         match self.rng.below(100) {
             0..=39 if n > 0 => {
-                let t = self.rng.below(n);
-                let tri = self.tables[c][t as usize];
-                let p = self.point_of(&tri);
-                self.split(c, t, p);
+                let p = self.new_point(c);
+                self.insert(c, p);
             }
             40..=64 => {
                 let list = self.neighbours(c);
@@ -285,8 +320,8 @@ impl Stream {
                 self.locate(c, p);
             }
             89..=91 => {
-                let (t, p) = (self.rng.range(0, n + 1), self.some_point(c));
-                self.split(c, t, p);
+                let p = self.some_point(c);
+                self.insert(c, p);
             }
             92..=94 => {
                 let (i, j) = (self.rng.range(0, n), self.rng.range(0, n));
@@ -324,6 +359,18 @@ impl Stream {
             }
         }
         [point(0, 0), point(1, 0), point(0, 1)]
+    }
+
+    /// One more triangle: any, or one on a side of those before it, the other way round.
+    fn next_tri(&mut self, before: &[Tri], make: impl Fn(&mut Rng) -> Point) -> Tri {
+        if !before.is_empty() && self.rng.chance(40) {
+            let t = turned(&self.rng.pick(before), self.rng.below(3) as usize);
+            let facing = [t[1], t[0], make(&mut self.rng)];
+            if doubled_area(&facing) > 0 {
+                return turned(&facing, self.rng.below(3) as usize);
+            }
+        }
+        self.some_tri(make)
     }
 
     // ---------------------------------------------------------------- kinds
@@ -415,9 +462,8 @@ impl Stream {
                 let n = self.rng.range(1, 40);
                 let mut table = Vec::new();
                 for _ in 0..n {
-                    table.push(self.some_tri(|r| {
-                        point(ox + step * r.range(0, g), oy + step * r.range(0, g))
-                    }));
+                    let t = self.next_tri(&table, |r| point(ox + step * r.range(0, g), oy + step * r.range(0, g)));
+                    table.push(t);
                 }
                 if self.rng.chance(8) {
                     // A faulty one among them.
@@ -526,10 +572,8 @@ impl Stream {
                 }
                 self.load(0);
                 for _ in 0..10 {
-                    let n = self.tables[0].len() as i64;
-                    let k = self.rng.range(0, n);
-                    let p = self.point_of(&t);
-                    self.split(0, k, p);
+                    let p = self.point_by(&t);
+                    self.insert(0, p);
                 }
                 self.steps(8);
             }
@@ -557,11 +601,9 @@ impl Stream {
                 self.load_all(c, &base);
                 let mut refused = 0;
                 for _ in 0..400 {
-                    let n = self.tables[c].len() as i64;
-                    let t = self.rng.below(n);
-                    let tri = self.tables[c][t as usize];
+                    let tri = self.rng.pick(&self.tables[c]);
                     let p = self.point_of(&tri);
-                    if position(&tri, p) == Position::Inside && !self.split(c, t, p) {
+                    if position(&tri, p) == Position::Inside && !self.insert(c, p) {
                         refused += 1;
                     }
                     if refused > 5 {
@@ -636,17 +678,15 @@ impl Stream {
             self.load_all(c, table);
         }
         self.overlay();
-        // A split or a flip moves the count a little.
+        // An insert moves the count a little.
         for _ in 0..3 {
             let c = self.rng.below(2) as usize;
-            let n = self.tables[c].len() as i64;
-            if n == 0 {
+            if self.tables[c].is_empty() {
                 continue;
             }
-            let t = self.rng.below(n);
-            let tri = self.tables[c][t as usize];
-            let p = self.point_of(&tri);
-            let done = self.split(c, t, p);
+            let tri = self.rng.pick(&self.tables[c]);
+            let p = self.point_by(&tri);
+            let done = self.insert(c, p);
             self.overlay();
             if done && self.rng.chance(60) {
                 self.take_out(c, p);
@@ -679,12 +719,10 @@ impl Stream {
             for _ in 0..self.rng.range(5, 25) {
                 let c = self.rng.below(2) as usize;
                 let p = point(self.rng.pick(&ENDS), self.rng.pick(&ENDS));
-                let n = self.tables[c].len() as i64;
                 match self.rng.below(6) {
                     0 => self.locate(c, p),
                     1 => {
-                        let t = self.rng.pick(&[0, 0, n - 1, n, 65_535]);
-                        self.split(c, t, p);
+                        self.insert(c, p);
                     }
                     2 => {
                         self.take_out(c, p);
@@ -727,7 +765,7 @@ impl Stream {
                 let command = self.rng.range(2, 6) as u8;
                 let c = self.rng.pick(&[2, 3, 48, 255]);
                 self.bytes.extend([command, c]);
-                for _ in 0..self.rng.below(8) {
+                for _ in 0..self.rng.below(6) {
                     self.bytes.push(0);
                 }
             }
@@ -738,9 +776,9 @@ impl Stream {
                 self.bytes.truncate(keep + 13 - cut);
             }
             3 => {
-                self.split(0, 0, point(1, 1));
-                let cut = self.rng.range(1, 7) as usize;
-                self.bytes.truncate(keep + 8 - cut);
+                self.insert(0, point(1, 1));
+                let cut = self.rng.range(1, 5) as usize;
+                self.bytes.truncate(keep + 6 - cut);
             }
             4 => {
                 for _ in 0..self.rng.range(1, 40) {

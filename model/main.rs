@@ -19,8 +19,8 @@
 //!
 //! tests/fuzz.py draws by `streams`, the model's own tests by `gen`. The
 //! streams of tests/vectors are named by the same kinds and by seeds, but they
-//! came with their logs from another program: `gen` of that kind and seed
-//! draws another stream. The model reads them like every other
+//! came from another program, a part of them with their logs: `gen` of that
+//! kind and seed draws another stream. The model reads them like every other
 //! (tests/log_cases.py).
 //!
 //! Script of `model calls`
@@ -45,8 +45,7 @@
 //! Calls. Each prints one line that ends with HASH. Load and edits leave the
 //! counts they give back as the counts of the chart.
 //!   load C n1 n2 ...     load NUMBER REF N M HASH
-//!   split C t x y        split NUMBER REF N M HASH
-//!   side_split C t x y   side_split NUMBER REF N M HASH
+//!   insert C x y         insert NUMBER REF N M HASH
 //!   take_out C x y       take_out NUMBER REF N M HASH
 //!   flip C i j           flip NUMBER REF N M HASH
 //!   locate C x y         locate NUMBER TRIANGLE POSITION HASH   (TRIANGLE or
@@ -71,7 +70,7 @@
 //!
 //! A line that is not of these forms, or a value that does not fit its place,
 //! prints `error LINE` (counted from 1) and ends the run with status 1.
-//! Points are 16-bit; t, i, j and counts are up to 64-bit.
+//! Points are 16-bit; i, j and counts are up to 64-bit.
 
 mod gen;
 mod model;
@@ -418,14 +417,9 @@ impl Bench {
                 let r = chart.load(&given);
                 edited(r, chart)
             }
-            "split" => {
-                exact(5)?;
-                let r = chart.split(num(2)?, pt(coord(3)?, coord(4)?));
-                edited(r, chart)
-            }
-            "side_split" => {
-                exact(5)?;
-                let r = chart.side_split(num(2)?, pt(coord(3)?, coord(4)?));
+            "insert" => {
+                exact(4)?;
+                let r = chart.insert(pt(coord(2)?, coord(3)?));
                 edited(r, chart)
             }
             "take_out" => {

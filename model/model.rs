@@ -1,4 +1,4 @@
-//! Reference model of document 01, with wishes 1 and 2 of document 02: chart
+//! Reference model of document 01, with wishes 1, 2 and 4 of document 02: chart
 //! overlay on a whole-number star-quadtree. Written for clarity; every edit rebuilds
 //! all entries from the table. Nothing here is clever on purpose, save that
 //! the search for cells hands only what met a square on to its quarters.
@@ -345,23 +345,10 @@ pub fn plain_load(given: &[u16]) -> Outcome {
     with_entries(table)
 }
 
-pub fn plain_split(table: &[Tri], t: u64, p: Point) -> Outcome {
-    if t >= table.len() as u64 {
-        return Err(no(6));
-    }
-    let t = t as usize;
-    let [a, b, c] = table[t];
-    if position(&table[t], p) != Position::Inside {
-        return Err(no(7));
-    }
-    if table.len() + 2 > MAX_TRIANGLES {
-        return Err(no(10));
-    }
-    let mut new = table.to_vec();
-    new[t] = [a, b, p];
-    new.push([b, c, p]);
-    new.push([c, a, p]);
-    with_entries(new)
+/// Is p in the triangle, its border counted? Told by areas: those that p makes
+/// with the three sides sum to the triangle's own, and to more from outside.
+pub fn holds(t: &Tri, p: Point) -> bool {
+    (0..3).map(|k| d(t[k], t[(k + 1) % 3], p).abs()).sum::<i64>() == doubled_area(t)
 }
 
 /// Is p on the side from a to b, and at neither end?
@@ -371,13 +358,22 @@ pub fn strictly_between(a: Point, b: Point, p: Point) -> bool {
     to_a.0 * to_b.1 == to_a.1 * to_b.0 && to_a.0 * to_b.0 + to_a.1 * to_b.1 < 0
 }
 
-pub fn plain_side_split(table: &[Tri], t: u64, p: Point) -> Outcome {
-    if t >= table.len() as u64 {
-        return Err(no(6));
-    }
-    let t = t as usize;
-    let first = (0..3).map(|k| turned(&table[t], k)).find(|s| strictly_between(s[0], s[1], p));
-    let Some([a, b, c]) = first else { return Err(no(13)) };
+/// What an insert puts in place of old triangles, and what it adds after all.
+struct Made {
+    replaced: Vec<(usize, Tri)>,
+    added: Vec<Tri>,
+}
+
+/// The parts of triangle t, with p inside.
+fn split(table: &[Tri], t: usize, p: Point) -> Made {
+    let [a, b, c] = table[t];
+    Made { replaced: vec![(t, [a, b, p])], added: vec![[b, c, p], [c, a, p]] }
+}
+
+/// The parts of triangle t, of which (a,b,c) is the rotation with p on ab,
+/// and of its neighbour.
+fn side_split(table: &[Tri], t: usize, [a, b, c]: Tri, p: Point) -> Made {
+    let mut made = Made { replaced: vec![(t, [a, p, c])], added: vec![[p, b, c]] };
     // Every other triangle in every rotation: those with the side b to a.
     let mut beside: Vec<(usize, Point)> = Vec::new();
     for (j, other) in table.iter().enumerate().filter(|(j, _)| *j != t) {
@@ -387,19 +383,30 @@ pub fn plain_side_split(table: &[Tri], t: u64, p: Point) -> Outcome {
             }
         }
     }
-    let neighbour = beside.into_iter().min_by_key(|n| n.0);
-    // What is put in place of old triangles, and what comes after them all.
-    let mut replaced = vec![(t, [a, p, c])];
-    let mut added = vec![[p, b, c]];
-    if let Some((j, d)) = neighbour {
-        replaced.push((j, [b, p, d]));
-        added.push([p, a, d]);
+    if let Some((j, d)) = beside.into_iter().min_by_key(|n| n.0) {
+        made.replaced.push((j, [b, p, d]));
+        made.added.push([p, a, d]);
     }
-    if table.len() + added.len() > MAX_TRIANGLES {
+    made
+}
+
+pub fn plain_insert(table: &[Tri], p: Point) -> Outcome {
+    // All that hold p, however they hold it; then the lowest.
+    let holders: Vec<usize> = (0..table.len()).filter(|&i| holds(&table[i], p)).collect();
+    let Some(&t) = holders.iter().min() else { return Err(no(7)) };
+    if table[t].contains(&p) {
+        return Err(no(14));
+    }
+    let on_ab = (0..3).map(|k| turned(&table[t], k)).find(|s| strictly_between(s[0], s[1], p));
+    let made = match on_ab {
+        Some(rotation) => side_split(table, t, rotation, p),
+        None => split(table, t, p),
+    };
+    if table.len() + made.added.len() > MAX_TRIANGLES {
         return Err(no(10));
     }
-    let kept = (0..table.len()).map(|i| replaced.iter().find(|r| r.0 == i).map_or(table[i], |r| r.1));
-    with_entries(kept.chain(added).collect())
+    let kept = (0..table.len()).map(|i| made.replaced.iter().find(|r| r.0 == i).map_or(table[i], |r| r.1));
+    with_entries(kept.chain(made.added).collect())
 }
 
 pub fn plain_take_out(table: &[Tri], p: Point) -> Outcome {
@@ -601,12 +608,8 @@ impl Chart {
         self.finish(plain_load(given))
     }
 
-    pub fn split(&mut self, t: u64, p: Point) -> Refusal {
-        self.edit(|table| plain_split(table, t, p))
-    }
-
-    pub fn side_split(&mut self, t: u64, p: Point) -> Refusal {
-        self.edit(|table| plain_side_split(table, t, p))
+    pub fn insert(&mut self, p: Point) -> Refusal {
+        self.edit(|table| plain_insert(table, p))
     }
 
     pub fn take_out(&mut self, p: Point) -> Refusal {
@@ -787,8 +790,7 @@ pub fn run_log(input: &[u8]) -> String {
         let (with_chart, words) = match command {
             1 => (false, 6),
             2 => (true, 0),
-            3 => (true, 3),
-            4 | 5 | 6 => (true, 2),
+            3..=6 => (true, 2),
             7 => (false, 0),
             _ => {
                 out += &format!("bad {start}\n");
@@ -818,7 +820,7 @@ pub fn run_log(input: &[u8]) -> String {
             2 | 3 | 4 | 5 => {
                 let r = match command {
                     2 => chart.load(&std::mem::take(&mut waiting)),
-                    3 => chart.split(w[0] as u64, pt(w[1], w[2])),
+                    3 => chart.insert(pt(w[0], w[1])),
                     4 => chart.take_out(pt(w[0], w[1])),
                     _ => chart.flip(w[0] as u64, w[1] as u64),
                 };

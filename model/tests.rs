@@ -1,4 +1,4 @@
-//! Marked cases of document 01, positions of points, side splits, the readings
+//! Marked cases of document 01, positions of points, inserts, the readings
 //! on raw buffers, and the model's means checked against plainer ones.
 
 use crate::gen::{numbered, stream, Rng};
@@ -117,12 +117,12 @@ fn case_8() {
 fn case_9() {
     let mut c = loaded(&U);
     let before = c.clone();
-    assert_eq!(c.split(0, pt(32768, 32767)).number, 7);
-    assert!(c == before);
-    assert_eq!(c.split(0, pt(10000, 10000)).number, 0);
+    assert_eq!(c.insert(pt(10000, 10000)).number, 0);
     assert_eq!(c.n, 3);
     assert_eq!(c.take_out(pt(10000, 10000)).number, 0);
     assert!(c == before);
+    assert_eq!(c.insert(pt(32768, 32767)).number, 0);
+    assert_eq!(numbers(&c), [65535, 0, 32768, 32767, 0, 0, 32768, 32767, 0, 65535, 0, 0]);
 }
 
 #[test]
@@ -179,6 +179,8 @@ fn positions_in_each_rotation() {
         }
         assert_eq!(position(&t, point(inside)), Inside);
         assert_eq!(out.map(|p| position(&t, point(p))), [Outside; 7]);
+        assert!(on.iter().chain(&corners).chain([&inside]).all(|p| holds(&t, point(*p))));
+        assert!(!out.iter().any(|p| holds(&t, point(*p))));
         // V has them all inside, and is told only where it comes first.
         let (before, after) = (loaded(&[numbers_of_tri(&t), V].concat()), loaded(&[V, numbers_of_tri(&t)].concat()));
         for (p, place) in [(on[k], OnAb), (corners[k], AtA), (corners[(k + 1) % 3], AtB)] {
@@ -224,6 +226,7 @@ fn positions_on_tiny_grids() {
             for &p in around.iter().filter(|_| doubled_area(&t) > 0) {
                 let place = position(&t, p);
                 assert_eq!(place, position_by_walking(&t, p), "{t:?} {p:?}");
+                assert_eq!(holds(&t, p), place != Outside, "{t:?} {p:?}");
                 met[place.number() as usize] += 1;
             }
         }
@@ -271,13 +274,14 @@ fn wrong_tables() {
     }
 }
 
-// ------------------------------------------------------------ side splits
+// ---------------------------------------------------------------- inserts
 
-const NOT_ON_SIDE: u8 = 13;
+const NO_HOLDER: u8 = 7;
+const AT_CORNER: u8 = 14;
 
-/// The table after a side split, or its number.
-fn side_split(table: &[Tri], t: u64, p: (u16, u16)) -> Result<Vec<Tri>, u8> {
-    plain_side_split(table, t, pt(p.0, p.1)).map(|made| made.0).map_err(|r| r.number)
+/// The table after an insert, or its number.
+fn insert(table: &[Tri], p: (u16, u16)) -> Result<Vec<Tri>, u8> {
+    plain_insert(table, pt(p.0, p.1)).map(|made| made.0).map_err(|r| r.number)
 }
 
 fn tri(n: [u16; 6]) -> Tri {
@@ -289,60 +293,70 @@ fn total(table: &[Tri]) -> i64 {
 }
 
 #[test]
-fn side_split_by_either_triangle() {
-    // The side of U and V, first by U, whose neighbour has the higher number, then by V.
-    let both = [tri(U), tri(V)];
-    let by_u = [
+fn insert_on_a_shared_side() {
+    // The side of U and V: the lower of them is taken, the other is its neighbour.
+    let [u, v, other_u, other_v] = [
         [65535, 0, 32768, 32767, 0, 0],
         [0, 65535, 32768, 32767, 65535, 65535],
         [32768, 32767, 0, 65535, 0, 0],
         [32768, 32767, 65535, 0, 65535, 65535],
     ];
-    assert_eq!(side_split(&both, 0, (32768, 32767)), Ok(by_u.map(tri).to_vec()));
-    let by_v = [by_u[0], by_u[1], by_u[3], by_u[2]];
+    assert_eq!(insert(&[tri(U), tri(V)], (32768, 32767)), Ok([u, v, other_u, other_v].map(tri).to_vec()));
     // Here (a,b) is (0,65535), (65535,0): V gets (a,p,c), U gets (b,p,d), then (p,b,c) and (p,a,d).
-    assert_eq!(side_split(&both, 1, (32768, 32767)), Ok(by_v.map(tri).to_vec()));
+    assert_eq!(insert(&[tri(V), tri(U)], (32768, 32767)), Ok([v, u, other_v, other_u].map(tri).to_vec()));
     let mut chart = loaded(&uv());
-    assert_eq!(chart.side_split(1, pt(32768, 32767)).number, 0);
-    assert_eq!(numbers(&chart), by_v.concat());
+    assert_eq!(chart.insert(pt(32768, 32767)).number, 0);
+    assert_eq!(numbers(&chart), [u, v, other_u, other_v].concat());
     assert_eq!((chart.n, chart.area(), chart.sound()), (4, (0, 8_589_672_450), (0, true)));
     assert!(chart.chain_holds() && chart.is_filed());
     // p is now a corner of all four.
-    for t in 0..4 {
-        assert_eq!(chart.side_split(t, pt(32768, 32767)).number, NOT_ON_SIDE);
-    }
-    assert_eq!(chart.side_split(4, pt(32768, 32767)).number, 6);
+    assert_eq!(chart.insert(pt(32768, 32767)).number, AT_CORNER);
 }
 
 #[test]
-fn side_split_positions() {
+fn insert_at_each_position() {
     for (x, y, place) in MARKED {
-        let made = side_split(&[tri(U)], 0, (x, y));
-        assert_eq!(made.is_ok(), SIDES.contains(&place), "{place:?}");
-        assert!(made.is_ok() || made == Err(NOT_ON_SIDE));
+        let want = match place {
+            Inside => Ok(3),
+            OnAb | OnBc | OnCa => Ok(2),
+            Outside => Err(NO_HOLDER),
+            _ => Err(AT_CORNER),
+        };
+        assert_eq!(insert(&[tri(U)], (x, y)).map(|made| made.len()), want, "{place:?}");
     }
-    // Beside each end of a side, and beyond; on the side of another triangle alone.
-    for (p, done) in [((1, 0), true), ((65534, 0), true), ((1, 65534), true), ((65534, 1), true), ((0, 65534), true), ((1, 1), false)] {
-        assert_eq!(side_split(&[tri(U)], 0, p).is_ok(), done, "{p:?}");
+    // Beside each end of a side, beside a side, on its line beyond, and on no side but that of another triangle.
+    for p in [(1, 0), (65534, 0), (1, 65534), (65534, 1), (0, 65534)] {
+        assert_eq!(insert(&[tri(U)], p).map(|made| made.len()), Ok(2), "{p:?}");
     }
-    assert_eq!(side_split(&[tri(U), tri(V)], 0, (65535, 7)), Err(NOT_ON_SIDE));
-    assert_eq!(side_split(&[tri([10, 10, 20, 10, 10, 90]), tri(V)], 0, (30, 10)), Err(NOT_ON_SIDE));
+    for (p, want) in [((1, 1), Ok(3)), ((32767, 32767), Ok(3)), ((65535, 1), Err(NO_HOLDER))] {
+        assert_eq!(insert(&[tri(U)], p).map(|made| made.len()), want, "{p:?}");
+    }
+    assert_eq!(insert(&[tri([10, 10, 20, 10, 10, 90])], (30, 10)), Err(NO_HOLDER));
+    // D of the side ab is 1 and -1.
+    for (p, want) in [((1005, 1004), Ok(3)), ((1004, 1003), Err(NO_HOLDER))] {
+        assert_eq!(insert(&[tri([1000, 1000, 1009, 1007, 1000, 1020])], p).map(|made| made.len()), want, "{p:?}");
+    }
+    assert_eq!(insert(&[tri(U), tri(V)], (65535, 7)).map(|made| made[0]), Ok(tri(U)));
 }
 
 #[test]
-fn side_split_in_each_rotation() {
-    let (corners, on, ..) = LARGE;
+fn insert_in_each_rotation() {
+    let (corners, on, inside, _) = LARGE;
     let t = corners.map(|p| pt(p.0, p.1));
     // A corner beyond each side.
     let beyond = [pt(55_000, 20_001), pt(65_000, 60_003), pt(30_001, 50_000)];
+    for i in 0..3 {
+        let ([a, b, c], p) = (turned(&t, i), pt(inside.0, inside.1));
+        assert_eq!(insert(&[[a, b, c]], inside), Ok(vec![[a, b, p], [b, c, p], [c, a, p]]));
+    }
     for k in 0..3 {
         let (a, b, c, d, p) = (t[k], t[(k + 1) % 3], t[(k + 2) % 3], beyond[k], pt(on[k].0, on[k].1));
         for (i, j) in [(0, 0), (0, 1), (0, 2), (1, 0), (1, 1), (1, 2), (2, 0), (2, 1), (2, 2)] {
             let (mine, other) = (turned(&t, i), turned(&[b, a, d], j));
             assert!(doubled_area(&other) > 0);
-            assert_eq!(side_split(&[mine], 0, on[k]), Ok(vec![[a, p, c], [p, b, c]]));
-            assert_eq!(side_split(&[mine, other], 0, on[k]), Ok(vec![[a, p, c], [b, p, d], [p, b, c], [p, a, d]]));
-            assert_eq!(side_split(&[other, mine], 1, on[k]), Ok(vec![[b, p, d], [a, p, c], [p, b, c], [p, a, d]]));
+            assert_eq!(insert(&[mine], on[k]), Ok(vec![[a, p, c], [p, b, c]]));
+            assert_eq!(insert(&[mine, other], on[k]), Ok(vec![[a, p, c], [b, p, d], [p, b, c], [p, a, d]]));
+            assert_eq!(insert(&[other, mine], on[k]), Ok(vec![[b, p, d], [a, p, c], [p, a, d], [p, b, c]]));
         }
     }
 }
@@ -352,90 +366,106 @@ const ABOVE: [u16; 6] = [100, 40, 0, 40, 30, 5];
 const BELOW: [[u16; 6]; 3] = [[0, 40, 100, 40, 60, 90], [100, 40, 50, 70, 0, 40], [45, 99, 0, 40, 100, 40]];
 /// p on a longer side, on a shorter one, at the end of one, and inside.
 const OTHERS: [[u16; 6]; 4] = [[0, 40, 120, 40, 60, 90], [20, 40, 80, 40, 60, 90], [40, 40, 100, 40, 60, 90], [0, 30, 90, 35, 40, 80]];
+/// It does not hold p.
+const ELSEWHERE: [u16; 6] = [0, 0, 1, 0, 0, 1];
 
 #[test]
 fn who_takes_part() {
     let p = (40, 40);
     let mine = [[100, 40, 40, 40, 30, 5], [40, 40, 0, 40, 30, 5]];
     let below = [[[0, 40, 40, 40, 60, 90], [40, 40, 100, 40, 60, 90]], [[0, 40, 40, 40, 50, 70], [40, 40, 100, 40, 50, 70]]];
-    let check = |table: &[[u16; 6]], t: u64, want: &[[u16; 6]]| {
+    let check = |table: &[[u16; 6]], want: &[[u16; 6]]| {
         let table: Vec<Tri> = table.iter().map(|n| tri(*n)).collect();
         let want: Vec<Tri> = want.iter().map(|n| tri(*n)).collect();
         assert!(table.iter().all(|t| doubled_area(t) > 0));
-        assert_eq!(side_split(&table, t, p), Ok(want.clone()));
+        assert_eq!(insert(&table, p), Ok(want.clone()));
         assert_eq!(total(&table), total(&want));
     };
     let [one, two, three] = BELOW;
-    // The lowest numbered, before and after t, and no other.
-    check(&[ABOVE, one, two, three], 0, &[mine[0], below[0][0], two, three, mine[1], below[0][1]]);
-    check(&[ABOVE, two, one, three], 0, &[mine[0], below[1][0], one, three, mine[1], below[1][1]]);
-    check(&[two, ABOVE, one], 1, &[below[1][0], mine[0], one, mine[1], below[1][1]]);
-    check(&[two, one, ABOVE], 2, &[below[1][0], one, mine[0], mine[1], below[1][1]]);
-    // Copies of t stay, and a copy takes the same neighbour.
-    check(&[ABOVE, ABOVE, two], 1, &[ABOVE, mine[0], below[1][0], mine[1], below[1][1]]);
-    check(&[ABOVE, ABOVE], 0, &[mine[0], ABOVE, mine[1]]);
-    // Of two copies of a neighbour the second stays.
-    check(&[two, two, ABOVE], 2, &[below[1][0], two, mine[0], mine[1], below[1][1]]);
+    // The lowest numbered neighbour, and no other.
+    check(&[ABOVE, one, two, three], &[mine[0], below[0][0], two, three, mine[1], below[0][1]]);
+    check(&[ABOVE, two, one, three], &[mine[0], below[1][0], one, three, mine[1], below[1][1]]);
+    check(&[ELSEWHERE, ABOVE, two, one], &[ELSEWHERE, mine[0], below[1][0], one, mine[1], below[1][1]]);
+    // One of those below is taken, and the one above is its neighbour.
+    check(&[two, ABOVE, one], &[below[1][0], mine[0], one, below[1][1], mine[1]]);
+    check(&[one, two, ABOVE], &[below[0][0], two, mine[0], below[0][1], mine[1]]);
+    // Copies of the triangle taken stay, and the second of two copies of a neighbour.
+    check(&[ABOVE, ABOVE, two], &[mine[0], ABOVE, below[1][0], mine[1], below[1][1]]);
+    check(&[ABOVE, ABOVE], &[mine[0], ABOVE, mine[1]]);
+    check(&[ABOVE, two, two], &[mine[0], below[1][0], two, mine[1], below[1][1]]);
     // Those with p on another side, at a corner or inside stay.
     let [long, short, end, around] = OTHERS;
-    check(&[long, short, ABOVE, end, around], 2, &[long, short, mine[0], end, around, mine[1]]);
-    check(
-        &[long, around, ABOVE, end, one, short],
-        2,
-        &[long, around, mine[0], end, below[0][0], short, mine[1], below[0][1]],
-    );
-    // By one of those that face: t is the neighbour then.
-    check(&[one, two, ABOVE], 1, &[one, below[1][0], mine[0], below[1][1], mine[1]]);
+    check(&[ABOVE, long, short, end, around], &[mine[0], long, short, end, around, mine[1]]);
+    check(&[ABOVE, around, end, one, short], &[mine[0], around, end, below[0][0], short, mine[1], below[0][1]]);
+    // But each of them is taken where it is the lowest, whoever has p elsewhere.
+    check(&[long, ABOVE, one, around], &[[0, 40, 40, 40, 60, 90], ABOVE, one, around, [40, 40, 120, 40, 60, 90]]);
+    check(&[short, around, ABOVE, one], &[[20, 40, 40, 40, 60, 90], around, ABOVE, one, [40, 40, 80, 40, 60, 90]]);
+    check(&[around, ABOVE, one], &[[0, 30, 90, 35, 40, 40], ABOVE, one, [90, 35, 40, 80, 40, 40], [40, 80, 0, 30, 40, 40]]);
+    assert_eq!(insert(&[end, around, ABOVE, one].map(tri), p), Err(AT_CORNER));
+    // Reading 3.6: a small triangle before U, which has p inside, and after it.
+    let small = [9, 9, 20, 9, 9, 20];
+    assert_eq!(insert(&[small, U].map(tri), (9, 9)), Err(AT_CORNER));
+    assert_eq!(insert(&[small, U].map(tri), (12, 9)), Ok([[9, 9, 12, 9, 9, 20], U, [12, 9, 20, 9, 9, 20]].map(tri).to_vec()));
+    let around_it = [[0, 0, 65535, 0, 9, 9], small, [65535, 0, 0, 65535, 9, 9], [0, 65535, 0, 0, 9, 9]];
+    assert_eq!(insert(&[U, small].map(tri), (9, 9)), Ok(around_it.map(tri).to_vec()));
 }
 
 #[test]
-fn side_split_refusals() {
+fn insert_refusals() {
     let u = tri(U);
-    // 6 before 13 before 10.
-    for n in [0, 1, 512] {
-        assert_eq!(side_split(&vec![u; n], n as u64, (0, 0)), Err(6));
-        assert_eq!(side_split(&vec![u; n], u64::MAX, (7, 0)), Err(6));
-    }
-    for p in [(0, 0), (1, 1), (65535, 65535)] {
-        assert_eq!(side_split(&[u; 512], 511, p), Err(NOT_ON_SIDE));
-    }
+    assert_eq!(insert(&[], (7, 0)), Err(NO_HOLDER));
+    // Reading 2.1: 7 before 14 before 10, on a full table.
+    let full_of_u = [(65535, 65535), (0, 0), (1, 1), (7, 0)].map(|p| insert(&[u; 512], p));
+    assert_eq!(full_of_u, [Err(NO_HOLDER), Err(AT_CORNER), Err(10), Err(10)]);
     // 10 by the triangles really added: all but one or two are small, and stand elsewhere.
-    let full = |n: usize, neighbour: bool| {
-        let mut table = vec![tri([0, 0, 1, 0, 0, 1]); n];
+    let full = |n: usize, neighbour: bool, p: (u16, u16)| {
+        let mut table = vec![tri(ELSEWHERE); n];
         table[3] = tri([1000, 1000, 1040, 1000, 1000, 1040]);
         if neighbour {
             table[n - 1] = tri([1040, 1000, 1000, 1000, 1020, 960]);
         }
-        side_split(&table, 3, (1007, 1000)).map(|made| made.len())
+        insert(&table, p).map(|made| made.len())
     };
-    assert_eq!([509, 510, 511, 512].map(|n| full(n, false)), [Ok(510), Ok(511), Ok(512), Err(10)]);
-    assert_eq!([509, 510, 511, 512].map(|n| full(n, true)), [Ok(511), Ok(512), Err(10), Err(10)]);
+    let most = [509, 510, 511, 512];
+    assert_eq!(most.map(|n| full(n, false, (1007, 1000))), [Ok(510), Ok(511), Ok(512), Err(10)]);
+    assert_eq!(most.map(|n| full(n, true, (1007, 1000))), [Ok(511), Ok(512), Err(10), Err(10)]);
+    assert_eq!(most.map(|n| full(n, true, (1007, 1001))), [Ok(511), Ok(512), Err(10), Err(10)]);
     // 10 before 11, which is met where many triangles are listed along the new side.
-    assert_eq!([300, 511, 512].map(|n| side_split(&vec![u; n], 0, (32768, 32767))), [Err(11), Err(11), Err(10)]);
-    assert_eq!(side_split(&[vec![u; 510], vec![tri(V)]].concat(), 0, (32768, 32767)), Err(10));
-    // Reading 2.3: 1,591 entries, and 1,605 after the side split.
-    let table = [vec![tri([1000, 1000, 1040, 1000, 1000, 1040])], vec![tri([0, 0, 1, 0, 0, 1]); 510]].concat();
-    let made = plain_side_split(&table, 0, pt(1007, 1000)).map(|m| m.1.len()).ok();
+    assert_eq!([300, 511, 512].map(|n| insert(&vec![u; n], (32768, 32767))), [Err(11), Err(11), Err(10)]);
+    assert_eq!(insert(&[vec![u; 510], vec![tri(V)]].concat(), (32768, 32767)), Err(10));
+    // Reading 2.3: 1,591 entries, and 1,605 after the insert.
+    let table = [vec![tri([1000, 1000, 1040, 1000, 1000, 1040])], vec![tri(ELSEWHERE); 510]].concat();
+    let made = plain_insert(&table, pt(1007, 1000)).map(|m| m.1.len()).ok();
     assert_eq!((entries_of(&table).map(|e| e.len()), made), (Some(1591), Some(1605)));
-    // 1, 2 and 3 before 6, and nothing is changed.
+    // 1, 2 and 3 before 7, and nothing is changed.
     let mut chart = loaded(&U);
     let good = chart.clone();
-    assert_eq!((chart.side_split(1, pt(7, 0)).number, chart.side_split(0, pt(1, 1)).number), (6, NOT_ON_SIDE));
+    assert_eq!((chart.insert(pt(65535, 65535)).number, chart.insert(pt(0, 0)).number), (NO_HOLDER, AT_CORNER));
     assert!(chart == good);
     chart.items[0] = MARK;
-    assert_eq!(chart.side_split(1, pt(7, 0)).number, 3);
+    assert_eq!(chart.insert(pt(65535, 65535)).number, 3);
     chart.levels[0] = 17;
-    assert_eq!(chart.side_split(1, pt(7, 0)).number, 2);
+    assert_eq!(chart.insert(pt(65535, 65535)).number, 2);
     chart.items.pop();
-    assert_eq!(chart.side_split(1, pt(7, 0)).number, 1);
+    assert_eq!(chart.insert(pt(65535, 65535)).number, 1);
+}
+
+/// Are these the parts of an old triangle? Each has p as a corner and lies in
+/// it, no two share ground, and their areas sum to its area.
+fn are_parts(old: &Tri, parts: &[Tri], p: Point) -> bool {
+    let apart = |k: usize| parts[k + 1..].iter().all(|other| !share_by_lines(&parts[k], other));
+    parts.iter().all(|part| part.contains(&p) && part.iter().all(|c| position(old, *c) != Outside))
+        && parts.iter().all(|part| doubled_area(part) > 0)
+        && (0..parts.len()).all(apart)
+        && total(parts) == doubled_area(old)
 }
 
 #[test]
-fn side_splits_of_drawn_tables() {
-    // Of tables that overlap and repeat on few points: by position the same are refused; area and ground are kept.
+fn inserts_into_drawn_tables() {
+    // Of tables that overlap and repeat on few points: by position the same is done or refused; area and ground are kept.
     let mut r = Rng::new(8);
-    let mut met = [0; 4];
-    for _ in 0..4000 {
+    let mut met = [0; 5];
+    for _ in 0..8000 {
         let step = [2 * r.range(1, 3), 2 * r.range(1, 3)];
         let (x, y) = (r.pick(&[0, 40_000, 65_511]), r.pick(&[0, 32_000, 65_511]));
         let mut table: Vec<Tri> = Vec::new();
@@ -454,153 +484,192 @@ fn side_splits_of_drawn_tables() {
         let [q, s, _] = turned(&table[r.below(6) as usize], r.below(3) as usize);
         let any = Point { x: x + r.range(0, 24), y: y + r.range(0, 24) };
         let p = if r.chance(60) { Point { x: (q.x + s.x) / 2, y: (q.y + s.y) / 2 } } else { any };
-        for (t, old) in table.iter().enumerate() {
-            let place = position(old, p);
-            let Ok((new, _)) = plain_side_split(&table, t as u64, p) else {
-                assert!(!SIDES.contains(&place));
-                met[0] += 1;
+        let taken = table.iter().map(|t| position(t, p)).enumerate().find(|held| held.1 != Outside);
+        let new = match plain_insert(&table, p) {
+            Ok((new, _)) => new,
+            Err(refused) => {
+                let corner = taken.is_some_and(|held| CORNERS.contains(&held.1));
+                assert_eq!(refused.number, if corner { AT_CORNER } else { NO_HOLDER });
+                assert!(corner || taken.is_none());
+                met[usize::from(corner)] += 1;
                 continue;
-            };
-            assert!(SIDES.contains(&place));
-            let changed: Vec<usize> = (0..table.len()).filter(|&i| new[i] != table[i]).collect();
-            assert_eq!(new.len(), table.len() + changed.len());
-            assert!(changed.contains(&t) && changed.len() <= 2);
-            assert_eq!(total(&new), total(&table));
-            // Each half lies in its old triangle, has p as a corner, and shares no ground with the other.
-            let halves = |i: usize| [new[i], new[table.len() + usize::from(i != t)]];
-            for &i in &changed {
-                let [first, second] = halves(i);
-                assert!(doubled_area(&first) > 0 && doubled_area(&second) > 0 && !share_by_lines(&first, &second));
-                assert_eq!(doubled_area(&first) + doubled_area(&second), doubled_area(&table[i]));
-                for half in [first, second] {
-                    assert!(half.contains(&p) && half.iter().all(|c| position(&table[i], *c) != Outside));
-                }
-                // The ends of the side, in opposite directions in both.
-                assert_eq!((first[1], second[0]), (p, p));
-                assert_eq!((halves(t)[0][0], halves(t)[1][1]), if i == t { (first[0], second[1]) } else { (second[1], first[0]) });
             }
-            // No other triangle before the neighbour has the side the other way round, and none at all where there is no neighbour.
-            let (a, b) = (halves(t)[0][0], halves(t)[1][1]);
-            let other = changed.iter().copied().find(|&i| i != t);
-            for i in 0..other.unwrap_or(table.len()) {
-                assert!((0..3).all(|k| (table[i][k], table[i][(k + 1) % 3]) != (b, a)));
-            }
-            met[1 + other.map_or(0, |j| 1 + usize::from(j > t))] += 1;
+        };
+        let (t, place) = taken.expect("a holder");
+        let changed: Vec<usize> = (0..table.len()).filter(|&i| new[i] != table[i]).collect();
+        assert_eq!(total(&new), total(&table));
+        if place == Inside {
+            assert_eq!((&changed[..], new.len()), (&[t][..], table.len() + 2));
+            assert!(are_parts(&table[t], &[new[t], new[6], new[7]], p));
+            met[2] += 1;
+            continue;
         }
+        assert!(SIDES.contains(&place) && changed[0] == t && changed.len() <= 2);
+        assert_eq!(new.len(), table.len() + changed.len());
+        let halves = |i: usize| [new[i], new[table.len() + usize::from(i != t)]];
+        let (a, b) = (halves(t)[0][0], halves(t)[1][1]);
+        for &i in &changed {
+            let [first, second] = halves(i);
+            assert!(are_parts(&table[i], &[first, second], p));
+            // The ends of the side, in opposite directions in both.
+            assert_eq!((first[1], second[0]), (p, p));
+            assert_eq!((first[0], second[1]), if i == t { (a, b) } else { (b, a) });
+        }
+        // No triangle before the neighbour has the side the other way round, and none at all where there is no neighbour.
+        let other = changed.get(1).copied();
+        for i in 0..other.unwrap_or(table.len()) {
+            assert!((0..3).all(|k| (table[i][k], table[i][(k + 1) % 3]) != (b, a)));
+        }
+        met[3 + usize::from(other.is_some())] += 1;
     }
     assert!(met.iter().all(|&times| times > 100), "{met:?}");
 }
 
 #[test]
-fn side_split_is_no_command() {
-    // 8 t x y is how tests/replay.py writes one; the command program has no such byte, whatever follows.
-    for rest in [&[][..], &[0], &[0, 0, 0, 1, 0, 0, 0]] {
-        let s = [&[2, 0, 8][..], rest, &[7]].concat();
-        assert_eq!(run_log(&s), "overlay log\n2 0 1\nbad 2\n");
-    }
+fn insert_as_a_command() {
+    // 3 c x y, six bytes: what follows them is the next command. 8 is none.
+    assert_eq!(run_log(&[3, 0, 1, 0, 2, 0, 7]), "overlay log\n3 7\n7 0 0 1\n");
+    assert_eq!(run_log(&[3, 1, 5, 0, 5, 0, 0, 0]), "overlay log\n3 7\nbad 6\n");
+    assert_eq!(run_log(&[2, 0, 3, 0, 1, 0, 2]), "overlay log\n2 0 1\nbad 2\n");
+    assert_eq!(run_log(&[2, 0, 8, 0, 0, 0, 1, 0, 0, 0, 7]), "overlay log\n2 0 1\nbad 2\n");
 }
 
-/// One thing that a side split may do wrong.
+/// One thing that an insert may do wrong.
 #[derive(Clone, Copy, PartialEq, Debug)]
 enum Wrong {
     Nothing,
-    EndTaken,
-    InsideTaken,
+    FirstInside,
+    CornersPassedOver,
+    HighestHolder,
+    NoHolderAsSix,
+    CornerAsNoHolder,
+    CornerAfterFull,
+    CornerTaken,
+    FullFirst,
+    SideAsInside,
+    InsideAsSide,
     HighestNeighbour,
-    LaterNeighbour,
-    EarlierNeighbour,
+    SecondNeighbourToo,
     SameDirection,
-    EveryNeighbour,
     NoNeighbour,
-    OtherOrder,
+    NotTurned,
+    NeighbourNotTurned,
     HalvesExchanged,
     NeighbourHalvesExchanged,
-    NeighbourNotTurned,
-    NotTurned,
+    NeighbourFirst,
+    PartsExchanged,
+    LastPartInPlace,
     TwoCounted,
     OneCounted,
-    FullFirst,
-    AsSplit,
 }
 
-fn wrong_side_split(w: Wrong, table: &[Tri], t: usize, p: Point) -> Result<Vec<Tri>, u8> {
-    if t >= table.len() {
-        return Err(6);
+fn wrong_insert(w: Wrong, table: &[Tri], p: Point) -> Result<Vec<Tri>, u8> {
+    use Wrong::*;
+    let place = |i: &usize| position(&table[*i], p).number();
+    let mut holders: Vec<usize> = (0..table.len()).filter(|i| place(i) != 7).collect();
+    match w {
+        FirstInside => holders.sort_by_key(|i| place(i) != 0),
+        CornersPassedOver => holders.sort_by_key(|i| place(i) > 3),
+        HighestHolder => holders.reverse(),
+        _ => {}
     }
-    if w == Wrong::FullFirst && table.len() == MAX_TRIANGLES {
+    if w == FullFirst && table.len() == MAX_TRIANGLES {
         return Err(10);
     }
-    let place = position(&table[t], p).number();
-    let k = match place {
-        1..=3 => place as usize - 1,
-        4..=6 if w == Wrong::EndTaken => place as usize - 4,
-        0 if w == Wrong::InsideTaken => 0,
-        _ => return Err(if w == Wrong::AsSplit { 7 } else { NOT_ON_SIDE }),
+    let Some(t) = holders.first().copied() else { return Err(if w == NoHolderAsSix { 6 } else { NO_HOLDER }) };
+    let side = match place(&t) {
+        0 if w != InsideAsSide => None,
+        0 => Some(0),
+        1..=3 if w == SideAsInside => None,
+        k @ 1..=3 => Some(k as usize - 1),
+        k if w == CornerTaken => Some(k as usize - 4),
+        _ if w == CornerAfterFull && table.len() == MAX_TRIANGLES => return Err(10),
+        _ => return Err(if w == CornerAsNoHolder { NO_HOLDER } else { AT_CORNER }),
     };
-    let [a, b, c] = turned(&table[t], if w == Wrong::NotTurned { 0 } else { k });
-    let side = if w == Wrong::SameDirection { (a, b) } else { (b, a) };
-    let mut all: Vec<(usize, Tri)> = (0..table.len())
-        .filter(|&j| j != t && !(w == Wrong::LaterNeighbour && j < t) && !(w == Wrong::EarlierNeighbour && j > t))
-        .flat_map(|j| (0..3).map(move |m| (j, turned(&table[j], m))))
-        .filter(|(_, s)| (s[0], s[1]) == side)
-        .collect();
-    match w {
-        Wrong::NoNeighbour => all.clear(),
-        Wrong::HighestNeighbour => drop(all.drain(..all.len().max(1) - 1)),
-        Wrong::EveryNeighbour => {}
-        _ => all.truncate(1),
+    // What becomes of a triangle: its number, what is put in its place, what is added.
+    let mut parts = match side {
+        None => vec![parts_of(w, table, t, p)],
+        Some(k) => halves_of(w, table, t, if w == NotTurned { 0 } else { k }, p),
+    };
+    if w == NeighbourFirst {
+        parts.reverse();
     }
     let added = match w {
-        Wrong::TwoCounted => 2,
-        Wrong::OneCounted => 1,
-        _ => 1 + all.len(),
+        TwoCounted => 2,
+        OneCounted => 1,
+        _ => parts.iter().map(|part| part.2.len()).sum(),
     };
     if table.len() + added > MAX_TRIANGLES {
         return Err(10);
     }
     let mut new = table.to_vec();
-    let mut halves = vec![(t, [a, p, c], [p, b, c])];
-    if w == Wrong::HalvesExchanged {
-        halves[0] = (t, [p, b, c], [a, p, c]);
-    }
-    for (j, s) in all {
-        let [from, to, d] = if w == Wrong::NeighbourNotTurned { table[j] } else { s };
-        let (first, second) = ([from, p, d], [p, to, d]);
-        halves.push(if w == Wrong::NeighbourHalvesExchanged { (j, second, first) } else { (j, first, second) });
-    }
-    if w == Wrong::OtherOrder {
-        halves.reverse();
-    }
-    for (j, first, second) in halves {
+    for (j, first, rest) in parts {
         new[j] = first;
-        new.push(second);
+        new.extend(rest);
     }
     Ok(new)
 }
 
-#[test]
-fn wrong_side_splits() {
-    use Wrong::*;
-    let (u, v) = (tri(U), tri(V));
-    let side = pt(32768, 32767);
-    let [one, two, three] = BELOW.map(tri);
-    let mut trials = vec![(vec![u, v], 0, side), (vec![u, v], 1, side), (vec![u, u], 0, side), (vec![tri(ABOVE), one, two], 0, pt(40, 40))];
-    trials.push((vec![two, tri(ABOVE), three], 1, pt(40, 40)));
-    trials.extend(MARKED.map(|(x, y, _)| (vec![u], 0, pt(x, y))));
-    for n in [511, 512] {
-        let mut table = vec![tri([0, 0, 1, 0, 0, 1]); n];
-        table[0] = tri(ABOVE);
-        trials.extend([(table.clone(), 0, pt(40, 40)), (table.clone(), 0, pt(40, 39))]);
-        table[n - 1] = one;
-        trials.push((table, 0, pt(40, 40)));
+/// The parts of a triangle with p inside.
+fn parts_of(w: Wrong, table: &[Tri], t: usize, p: Point) -> (usize, Tri, Vec<Tri>) {
+    let [a, b, c] = table[t];
+    match w {
+        Wrong::PartsExchanged => (t, [a, b, p], vec![[c, a, p], [b, c, p]]),
+        Wrong::LastPartInPlace => (t, [c, a, p], vec![[a, b, p], [b, c, p]]),
+        _ => (t, [a, b, p], vec![[b, c, p], [c, a, p]]),
     }
-    let right: Vec<Result<Vec<Tri>, u8>> =
-        trials.iter().map(|(table, t, p)| plain_side_split(table, *t as u64, *p).map(|m| m.0).map_err(|r| r.number)).collect();
-    let fits = |w: Wrong| trials.iter().zip(&right).all(|((table, t, p), want)| wrong_side_split(w, table, *t, *p) == *want);
+}
+
+/// The halves of a triangle with p on side k, and of its neighbours.
+fn halves_of(w: Wrong, table: &[Tri], t: usize, k: usize, p: Point) -> Vec<(usize, Tri, Vec<Tri>)> {
+    use Wrong::*;
+    let [a, b, c] = turned(&table[t], k);
+    let side = if w == SameDirection { (a, b) } else { (b, a) };
+    let mut beside: Vec<(usize, Tri)> = (0..table.len())
+        .filter(|&j| j != t)
+        .flat_map(|j| (0..3).map(move |m| (j, turned(&table[j], m))))
+        .filter(|(_, s)| (s[0], s[1]) == side)
+        .collect();
+    match w {
+        NoNeighbour => beside.clear(),
+        HighestNeighbour => drop(beside.drain(..beside.len().max(1) - 1)),
+        SecondNeighbourToo => beside.truncate(2),
+        _ => beside.truncate(1),
+    }
+    let mut halves = vec![if w == HalvesExchanged { (t, [p, b, c], vec![[a, p, c]]) } else { (t, [a, p, c], vec![[p, b, c]]) }];
+    for (j, s) in beside {
+        let [from, to, d] = if w == NeighbourNotTurned { table[j] } else { s };
+        let (first, second) = ([from, p, d], [p, to, d]);
+        halves.push(if w == NeighbourHalvesExchanged { (j, second, vec![first]) } else { (j, first, vec![second]) });
+    }
+    halves
+}
+
+#[test]
+fn wrong_inserts() {
+    use Wrong::*;
+    let (u, v, above) = (tri(U), tri(V), tri(ABOVE));
+    let (side, p) = (pt(32768, 32767), pt(40, 40));
+    let [one, two, three] = BELOW.map(tri);
+    let [_, _, end, around] = OTHERS.map(tri);
+    let mut trials = vec![(vec![u, v], side), (vec![v, u], side), (vec![u, u], side), (vec![above, one, two], p), (vec![above, two, three], p)];
+    trials.extend([(vec![end, above, around], p), (vec![above, around], p), (vec![around, above], p), (vec![], p)]);
+    trials.extend(MARKED.map(|(x, y, _)| (vec![u], pt(x, y))));
+    for n in [510, 511, 512] {
+        let mut table = vec![tri(ELSEWHERE); n];
+        table[0] = above;
+        let inside = pt(40, 39);
+        trials.extend([p, inside, above[0], pt(900, 900)].map(|at| (table.clone(), at)));
+        table[n - 1] = one;
+        trials.push((table, p));
+    }
+    let right: Vec<Result<Vec<Tri>, u8>> = trials.iter().map(|(table, p)| plain_insert(table, *p).map(|m| m.0).map_err(|r| r.number)).collect();
+    let fits = |w: Wrong| trials.iter().zip(&right).all(|((table, p), want)| wrong_insert(w, table, *p) == *want);
     assert!(fits(Nothing));
     for w in [
-        EndTaken, InsideTaken, HighestNeighbour, LaterNeighbour, EarlierNeighbour, SameDirection, EveryNeighbour, NoNeighbour, OtherOrder,
-        HalvesExchanged, NeighbourHalvesExchanged, NeighbourNotTurned, NotTurned, TwoCounted, OneCounted, FullFirst, AsSplit,
+        FirstInside, CornersPassedOver, HighestHolder, NoHolderAsSix, CornerAsNoHolder, CornerAfterFull, CornerTaken, FullFirst, SideAsInside,
+        InsideAsSide, HighestNeighbour, SecondNeighbourToo, SameDirection, NoNeighbour, NotTurned, NeighbourNotTurned, HalvesExchanged,
+        NeighbourHalvesExchanged, NeighbourFirst, PartsExchanged, LastPartInPlace, TwoCounted, OneCounted,
     ] {
         assert!(!fits(w), "{w:?}");
     }
@@ -622,7 +691,7 @@ fn filed_or_not() {
     // 5.1: table U with the mark alone passes 2 but not 3.
     let got = said(
         "load 0 0 0 65535 0 0 65535\nset keys0 0 0\nset levels0 0 0\nset items0 0 65535\ncounts 0 1 1\n\
-         locate 0 5 5\noverlay 0 0\nlisting 0 5 5\nsplit 0 0 5 5\nside_split 0 0 5 0\ntake_out 0 5 5\nflip 0 0 0\nsound 0\narea 0",
+         locate 0 5 5\noverlay 0 0\nlisting 0 5 5\ninsert 0 5 5\ntake_out 0 5 5\nflip 0 0 0\nsound 0\narea 0",
     );
     assert_eq!(
         got,
@@ -631,8 +700,7 @@ fn filed_or_not() {
             "locate 0 nowhere 7",
             "overlay 0 0 1",
             "listing 0",
-            "split 3 0 1 1",
-            "side_split 3 0 1 1",
+            "insert 3 0 1 1",
             "take_out 3 0 1 1",
             "flip 3 0 1 1",
             "sound 0 yes",
@@ -647,11 +715,11 @@ fn behind_the_counts() {
     let (a, b, c, p) = (pt(0, 0), pt(65535, 0), pt(0, 65535), pt(1, 1));
     let mut bare = Vec::new();
     cells_bare(&Square::WHOLE, &[[a, b, p], [b, c, p], [c, a, p]], &mut bare);
-    let split = format!("split 0 0 3 {}", bare.len());
+    let inserted = format!("insert 0 0 3 {}", bare.len());
     let got = said(
         "len table0 3080 7\nlen pairs 8200 5\nlen keys0 16390 6\nfill keys0 77\nfill levels0 99\nfill items0 3\nfill table0 8\n\
          load 0 0 0 65535 0 0 65535\ndump table0 5 8\ndump table0 3071 3073\ndump keys0 6 8\ndump keys0 16383 16385\n\
-         set table0 9 500\nset levels0 7 200\nset items0 7 1\nlocate 0 1 1\nsplit 0 0 1 1\ndump table0 16 20\ntake_out 0 1 1\n\
+         set table0 9 500\nset levels0 7 200\nset items0 7 1\nlocate 0 1 1\ninsert 0 1 1\ndump table0 16 20\ntake_out 0 1 1\n\
          dump levels0 0 9\n\
          counts 0 2 7\narea 0\ncounts 0 0 7\narea 0\ncounts 0 1 6\narea 0\ncounts 0 1 8\narea 0\ncounts 0 1 0\nlocate 0 0 0\n\
          counts 0 1 16385\nsound 0\ncounts 0 513 7\nlisting 0 0 0\noverlay 0 0\ncounts 0 1 7\nset pairs 3 9\noverlay 0 0\n\
@@ -666,7 +734,7 @@ fn behind_the_counts() {
             "dump keys0 16390 3221225472 0",
             "dump keys0 16390 0 77",
             "locate 0 0 0",
-            split.as_str(),
+            inserted.as_str(),
             "dump table0 3080 1 1 0 0",
             "take_out 0 0 1 7",
             "dump levels0 16384 2 2 2 2 1 1 1 0 0",
@@ -692,12 +760,12 @@ fn short_buffers() {
     for buf in ["table", "keys", "levels", "items"] {
         let n = if buf == "table" { 3071 } else { 16383 };
         let got = said(&format!(
-            "counts 0 4 5\nload 1\nlen {buf}0 {n}\nload 0 1 2 3\nsplit 0 0 0 0\nside_split 0 0 0 0\ntake_out 0 0 0\nflip 0 0 0\nlocate 0 0 0\n\
+            "counts 0 4 5\nload 1\nlen {buf}0 {n}\nload 0 1 2 3\ninsert 0 0 0\ntake_out 0 0 0\nflip 0 0 0\nlocate 0 0 0\n\
              listing 0 0 0\nsound 0\narea 0\noverlay 0 1\noverlay 1 0\noverlay 1 1"
         ));
         let want = [
-            "load 0 0 0 1", "load 1 0 4 5", "split 1 0 4 5", "side_split 1 0 4 5", "take_out 1 0 4 5", "flip 1 0 4 5", "locate 1 nowhere 7",
-            "listing 0", "sound 1 no", "area 1 0", "overlay 1 0 0", "overlay 1 0 0", "overlay 0 0 1",
+            "load 0 0 0 1", "load 1 0 4 5", "insert 1 0 4 5", "take_out 1 0 4 5", "flip 1 0 4 5", "locate 1 nowhere 7", "listing 0",
+            "sound 1 no", "area 1 0", "overlay 1 0 0", "overlay 1 0 0", "overlay 0 0 1",
         ];
         assert_eq!(got, want);
     }
@@ -769,7 +837,7 @@ fn chain_faults() {
     }
     c.n = 60;
     assert!(c.chain_holds());
-    assert_eq!(c.split(0, pt(1, 1)).number, 3);
+    assert_eq!(c.insert(pt(1, 1)).number, 3);
     assert_eq!(c.flip(99, 99).number, 3);
 }
 

@@ -2,7 +2,7 @@
 """Runs public calls on sound and damaged charts by the proved program (crates/test_calls) and by the reference model, and
 compares what they answer and what the buffers hold afterwards.
 
-usage: calls.py SEED COUNT    compares; COUNT is at least 5
+usage: calls.py SEED COUNT    compares; COUNT is at least 8
        calls.py store         writes the program's stored case, crates/test_calls/stdin and stdout, the latter by the model
 
 What is run stands in tests/call_cases, in parts that each say what they show: the boundaries of document 01's numbers, damaged
@@ -46,7 +46,7 @@ def fixed(s):
 
 def on_charts(s):
     """Positions, entries that are stale, edits and overlays, but for the longest lists."""
-    for part in (positions.positions, damage.stale, edits.splits, edits.side_splits, edits.take_outs, edits.flips, edits.full):
+    for part in (positions.positions, damage.stale, edits.inserts, edits.take_outs, edits.flips, edits.full):
         part(s)
     for part in (overlays.known_overlays, overlays.touching, overlays.overlay_refusals, overlays.overlay_damaged):
         part(s)
@@ -94,12 +94,12 @@ def met(shows, words, before):
     """What a call and its answer show; `before` is the answer of the call before it."""
     call, number = words[:2]
     if call in EDITS:
+        shows, *place = shows.split("; ")
         yield f"{call} {number}"
         yield f"{call}: {shows}"
         if shows.startswith("drawn on"):
             yield f"drawn {call} {number}"
-            if call == "side_split" and number == "0":
-                yield "drawn side_split of " + ("one" if int(words[3]) == int(before[3]) + 1 else "two")
+            yield " ".join([f"drawn {call} {number}", *place])
         if number == "0":
             yield f"{call} of {words[4]}"
         return

@@ -5,11 +5,11 @@ what they compute to what the reference model (model/) answers.
 usage: definitions.py SEED COUNT
 
 COUNT of each kind of drawn case: the entries of a table; the log of a command stream; the public calls on raw buffers, most of
-them damaged; an event on a plain table; a side split of triangles that share the side, among others; the overlay of two different
-tables. With them the fixed ones: locates at each position of a triangle and refused ones, take-outs with the point at each corner,
-flips in every rotation, both ways, side splits in every rotation, both ways, alone and refused, and the worked streams of
-tests/cases.txt but those that load over 500 triangles, which are named. That each position, accepted take-outs at each corner,
-accepted flips and side splits of the nine pairs of rotations both ways, side splits on each side alone, their refusals 6 and 13, and
+them damaged; an event on a plain table; an insert on a side that triangles share, among others; the overlay of two different
+tables. With them the fixed ones: locates and inserts at each position of a triangle, in every rotation, refused locates, take-outs with
+the point at each corner, flips in every rotation, both ways, inserts on a side that two triangles share in every rotation, inserts where
+several triangles hold the point, and the worked streams of tests/cases.txt but those that load over 500 triangles, which are named.
+That each of these, accepted take-outs and flips, inserts inside, on a side alone and with a neighbour, refused by 7 and by 14, and
 pairs with i and j different are among them is asserted. The cases are facts of two crates that are written below target/ and checked
 there, side by side; nothing of them is kept."""
 
@@ -23,9 +23,10 @@ import sys
 import crates
 import engines
 import streams
+import tables
 from call_cases import positions
 from engines import ROOT
-from tables import corners, drawn, entries_of, inside, orientation, side_of, side_parts, side_point, side_split, sides_shared, turned
+from tables import corners, drawn, entries_of, inside, insert, orientation, side_of, side_parts, side_point, sides_shared, taken, turned
 
 SCRATCH = os.path.join(ROOT, "target", "definitions")
 TRIALS = ["trial", "trial_worked"]  # the crates of the cases, checked side by side: the worked streams take as long as all others
@@ -140,10 +141,21 @@ def side_points(rng, t):
     return [side_point(t, k, rng.randrange(1, side_parts(t, k))) for k in range(3) if side_parts(t, k) > 1]
 
 
-def side_split_few(ts, i, p, entries):
-    """Whether a side split is refused by 13 or leaves at most so many entries."""
-    made = side_split(ts, i, p)
+def insert_few(ts, p, entries=150):
+    """Whether an insert is refused by 7 or 14 or leaves at most so many entries."""
+    made = insert(ts, p)
     return made is None or few(made, entries) is not None
+
+
+def new_point(rng, ts):
+    """A point to insert, which then leaves few entries or is refused; corners are refused."""
+    while True:
+        p = point(rng, ts)
+        if insert_few(ts, p):
+            return p
+
+
+EDITS = {3: "insert", 4: "take_out", 5: "flip"}
 
 
 def stream(rng):
@@ -151,23 +163,20 @@ def stream(rng):
     out, charts = b"", []
     for c in (0, 1):
         ts, _ = table(rng, 2, 30)
-        if rng.random() < 0.15:
-            ts = ts + [(5, 5) + triangle(rng, "any")[2:4] + (5, 5)]
-        charts.append(ts)
-        out += b"".join(b"\x01" + streams.words(t) for t in ts) + bytes([2, c])
+        faulty = [(5, 5) + triangle(rng, "any")[2:4] + (5, 5)] if rng.random() < 0.15 else []
+        charts.append([] if faulty else ts)
+        out += b"".join(b"\x01" + streams.words(t) for t in ts + faulty) + bytes([2, c])
     for _ in range(rng.randint(1, 3)):
         c = rng.randrange(2)
         code = rng.choice([3, 3, 4, 5, 6, 6])
-        p = point(rng, charts[c])
         number = lambda: rng.randrange(len(charts[c]) + 2)
-        if code == 3:
-            out += bytes([3, c]) + streams.words((number(), *p))
-            if rng.random() < 0.6:
-                out += bytes([4, c]) + streams.words(p)
-        elif code == 5:
-            out += bytes([5, c]) + streams.words([number(), number()])
-        else:
-            out += bytes([code, c]) + streams.words(p)
+        operands = [number(), number()] if code == 5 else new_point(rng, charts[c]) if code == 3 else point(rng, charts[c])
+        out += bytes([code, c]) + streams.words(operands)
+        if code in EDITS:
+            charts[c] = tables.edited(EDITS[code], charts[c], operands) or charts[c]
+        if code == 3 and rng.random() < 0.6:
+            out += bytes([4, c]) + streams.words(operands)
+            charts[c] = tables.take_out(charts[c], operands) or charts[c]
     out += b"\x07"
     if rng.random() < 0.3:
         out += rng.choice([b"\x08", b"\x00", b"\x02\x02", b"\x03\x00\x01", b"\x01\x05", b"\x06\x01\x01\x01\x01"])
@@ -214,12 +223,16 @@ def noted(ts, event, number):
         i, j = operands
         k, l = sides_shared(ts[i], ts[j])
         met[f"flip of sides {k} {l}" + (" back" if i > j else "")] += 1
-    if what == "side_split" and number == 0:
-        i, p = operands[0], tuple(operands[1:])
-        k, made = side_of(ts[i], p), side_split(ts, i, p)
-        other = [j for j, t in enumerate(ts) if j != i and made[j] != t]
-        l = sides_shared(turned(ts[i], k), ts[other[0]])[1] if other else "alone"
-        met[f"side split of sides {k} {l}" + (" back" if other and other[0] < i else "")] += 1
+    if what == "insert":
+        p, i = tuple(operands), taken(ts, tuple(operands))
+        met.update(tables.insert_shows(ts, p, number))
+        if number == 14:
+            met[f"insert at corner {'abc'[corners(ts[i]).index(p)]}"] += 1
+        if number == 0 and not inside(ts[i], p):
+            k, made = side_of(ts[i], p), insert(ts, p)
+            other = [j for j, t in enumerate(ts) if j != i and made[j] != t]
+            l = sides_shared(turned(ts[i], k), ts[other[0]])[1] if other else "alone"
+            met[f"insert on sides {k} {l}"] += 1
 
 
 def event_fact(ts, event):
@@ -233,10 +246,9 @@ def event_fact(ts, event):
     want = [0] + [int(v) for v in dump[3 : 3 + 6 * n]] if number == 0 else [number, value]
     written = {
         "load": lambda: f"load {numbers(e)}",
-        "split": lambda: f"split {e[0]} (at {e[1]} {e[2]})",
+        "insert": lambda: f"insert (at {e[0]} {e[1]})",
         "take_out": lambda: f"takeOut (at {e[0]} {e[1]})",
         "flip": lambda: f"flip {e[0]} {e[1]}",
-        "side_split": lambda: f"sideSplit {e[0]} (at {e[1]} {e[2]})",
     }[what]()
     return f"outcomeNumbers (eventOn ({written}) (givenTable {numbers(flat(ts))}))", numbers(want)
 
@@ -244,33 +256,55 @@ def event_fact(ts, event):
 def event_case(rng):
     ts, p, two, _ = mesh(rng, 60)
     i, j = rng.sample(two, 2) if rng.random() < 0.6 else (rng.randrange(6), rng.randrange(6))
-    t = rng.randrange(6)
     other = flat([triangle(rng, "any"), triangle(rng, "any")])
     if rng.random() < 0.5:
         other = rng.choice([other[:-1], other[:6] + other[8:10] + other[6:8] + other[10:]])
     take_outs = [("take_out", *p), ("take_out", *point(rng, ts))]
-    return event_fact(ts, rng.choice([*take_outs, ("flip", i, j), ("split", t, *point(rng, ts)), ("load", *other)]))
+    return event_fact(ts, rng.choice([*take_outs, ("flip", i, j), ("insert", *new_point(rng, ts)), ("load", *other)]))
 
 
-def side_split_case(rng):
-    """A side split at a point of the side, of one of two triangles that share it, among others: copies of it, triangles on the same
-    ends either way round, and triangles on a part of the side."""
+def insert_case(rng):
+    """An insert at a point of a side that two triangles may share, among others: copies, triangles on the same ends either way round,
+    and triangles on a part of the side, which have the point as a corner."""
     while True:
         kind = rng.choice(["coarse", "any", "fine"])
         t, u, p = halved(rng, kind)
         (a, b, c), d = corners(t), corners(u)[2]
         e = drawn_point(rng, kind)
-        more = [v for v in (t, u, a + b + e, b + a + e, p + a + d, b + p + d, a + p + c) if orientation(v) > 0]
+        more = [v for v in (t, u, u, a + b + e, b + a + e, p + a + d, b + p + d, a + p + c) if orientation(v) > 0]
         ts = [turned(v, rng.randrange(3)) for v in [t, *rng.sample(more, rng.randint(0, 3))]]
         rng.shuffle(ts)
-        i = rng.randrange(len(ts))
-        if few(ts, 60) is not None and side_split_few(ts, i, p, 150):
-            return event_fact(ts, ("side_split", i, *p))
+        if few(ts, 60) is not None and insert_few(ts, p):
+            return event_fact(ts, ("insert", *p))
+
+
+# a point, and triangles of few entries that have it inside, on a side, at a corner, and on that side from beyond
+HELD = (1, 2)
+IN, ON, ENDING, BEYOND = (0, 2, 2, 0, 4, 3), (1, 0, 2, 0, 0, 4), (1, 2, 2, 2, 1, 3), (0, 4, 2, 0, 4, 3)
+HOLDERS = [[ENDING, IN, ON], [ON, IN], [ON, IN, BEYOND], [IN, ON], [IN, IN, ENDING], [ON, turned(ON, 1), BEYOND, turned(BEYOND, 2)]]
+
+
+def fixed_inserts(rng):
+    """Inserts at each position of a triangle in every rotation, on a side that two triangles share in the nine pairs of rotations, and
+    where several triangles hold the point."""
+    t, other = positions.TRIANGLES[1]
+    for k in range(3):
+        for p in positions.places(turned(t, k)):
+            yield event_fact([other, turned(t, k)] if k == 2 else [turned(t, k)], ("insert", *p))
+    while True:
+        t, u, p = halved(rng, "coarse")
+        if few(insert([t, u], p), 90) is not None:
+            break
+    for k in range(3):
+        for l in range(3):
+            yield event_fact([turned(t, k), turned(u, l)], ("insert", *p))
+    for ts in HOLDERS:
+        yield event_fact(ts, ("insert", *HELD))
 
 
 def fixed_events(rng):
-    """Take-outs with the point at each corner of each of the three triangles, flips in the nine pairs of rotations, both ways,
-    side splits in the nine pairs of rotations, both ways, on each side alone, and refused ones, on a table of few entries."""
+    """Take-outs with the point at each corner of each of the three triangles, and flips in the nine pairs of rotations, both ways, on a
+    table of few entries."""
     while True:
         (p, three), rest = around(rng, "coarse"), [triangle(rng, "coarse"), triangle(rng, "coarse")]
         if few(three + rest, 60) is not None:
@@ -288,18 +322,6 @@ def fixed_events(rng):
             ts = [rest[0], turned(two[0], k), turned(two[1], l)]
             yield event_fact(ts, ("flip", 1, 2))
             yield event_fact(ts, ("flip", 2, 1))
-    while True:
-        t, u, p = halved(rng, "coarse")
-        if few(rest[:1] + side_split([t, u], 0, p), 90) is not None:
-            break
-    for k in range(3):
-        for l in range(3):
-            ts = [rest[0], turned(t, k), turned(u, l)]
-            yield event_fact(ts, ("side_split", 1, *p))
-            yield event_fact(ts, ("side_split", 2, *p))
-        yield event_fact([turned(t, k), rest[0]], ("side_split", 0, *p))
-        yield event_fact([turned(t, k), u], ("side_split", 0, *corners(t)[k]))
-        yield event_fact([turned(t, k), u], ("side_split", k + 2, *p))
 
 
 def overlay_fact(ss, ts):
@@ -389,20 +411,19 @@ def calls_case(rng):
     first, second = Buffers(ts, entries), Buffers(*table(rng, 2, 24))
     met["calls on a chart that is " + ("damaged" if first.damage(rng) else "sound")] += 1
     q = point(rng, ts)
-    t = rng.randrange(len(ts))
-    r = point(rng, [ts[t]])
-    z = next(z for z in [*side_points(rng, ts[t]), r, corners(ts[t])[0]] if side_split_few(ts, t, z, 150))
+    r = new_point(rng, ts)
+    z = next(z for z in [*side_points(rng, rng.choice(ts)), r] if insert_few(ts, z))
     i, j = rng.sample(two, 2)
     pairs = first.length["pairs"]
     script = [*first.script(0), *second.script(1), "len pairs 0", f"len pairs {pairs} 9"]
     script += [f"locate 0 {q[0]} {q[1]}", f"listing 0 {q[0]} {q[1]}", "sound 0", "area 0", "overlay 0 1", "dump pairs 0 12", "overlay 1 0", "dump pairs 0 12"]
-    changes = [f"split 1 {t} {r[0]} {r[1]}", f"take_out 1 {p[0]} {p[1]}", f"flip 1 {i} {j}", f"side_split 1 {t} {z[0]} {z[1]}"]
+    changes = [f"insert 1 {r[0]} {r[1]}", f"take_out 1 {p[0]} {p[1]}", f"flip 1 {i} {j}", f"insert 1 {z[0]} {z[1]}"]
     changes.append(f"load 1 {' '.join(map(str, ts[0]))}")
     for change in changes:
         script += ["copy 0 1", change, "dump table1 0 44", "dump keys1 0 30", "dump levels1 0 30", "dump items1 0 30"]
     given = (
         f"callNumbers {first.written()} {second.written()}"
-        f" (replicate {pairs} 9) (at {q[0]} {q[1]}) {t} (at {r[0]} {r[1]}) (at {z[0]} {z[1]}) (at {p[0]} {p[1]}) {i} {j} {numbers(ts[0])}"
+        f" (replicate {pairs} 9) (at {q[0]} {q[1]}) (at {r[0]} {r[1]}) (at {z[0]} {z[1]}) (at {p[0]} {p[1]}) {i} {j} {numbers(ts[0])}"
     )
     return given, numbers(answered(calls_of(script)))
 
@@ -462,9 +483,9 @@ use lib.ListN.{length, take, replicate}
 use Rattle.spec_plane.specs.declared.Point.{Point}
 use Rattle.spec_plane.specs.Position.{positionNumber}
 use Rattle.spec_charts.specs.Cells.{entriesOf}
-use Rattle.spec_charts.specs.Edits.{triangle, givenTable, load, split, takeOut, flip, sideSplit, eventOn}
+use Rattle.spec_charts.specs.Edits.{triangle, givenTable, load, insert, takeOut, flip, eventOn}
 use Rattle.spec_calls.specs.Buffers.{Chart, padded}
-use Rattle.spec_calls.specs.Calls.{Changed, Located, Soundness, Area, Overlaid, loadCall, splitCall, takeOutCall, flipCall, sideSplitCall, locateCall, listingCall, soundCall, areaCall, overlayCall}
+use Rattle.spec_calls.specs.Calls.{Changed, Located, Soundness, Area, Overlaid, loadCall, insertCall, takeOutCall, flipCall, locateCall, listingCall, soundCall, areaCall, overlayCall}
 use Rattle.spec_log.specs.Log.{logOf}
 use Rattle.spec_calls.proofs.Evaluate.{evaluate}
 use Rattle.spec_log.proofs.Evaluate.{evaluate as logging}
@@ -492,14 +513,14 @@ changed r =
 abbrev pairing : Overlaid → List ℕ
 pairing o = (o .number ∷ o .pairCount ∷ o .meets ∷ []) ++ take 12 (o .pairs)
 
-abbrev callNumbers : Chart → Chart → List ℕ → Point → ℕ → Point → Point → Point → ℕ → ℕ → List ℕ → List ℕ
-callNumbers c d pairs q t r z p i j ns =
+abbrev callNumbers : Chart → Chart → List ℕ → Point → Point → Point → Point → ℕ → ℕ → List ℕ → List ℕ
+callNumbers c d pairs q r z p i j ns =
     let o = overlayCall c d pairs in
     located (locateCall c q) ++ listingCall c q
     ++ (soundCall c .number ∷ yes-no (soundCall c .isSound) ∷ areaCall c .number ∷ areaCall c .area ∷ [])
     ++ pairing o ++ pairing (overlayCall d c (o .pairs))
-    ++ changed (splitCall t r c) ++ changed (takeOutCall p c) ++ changed (flipCall i j c)
-    ++ changed (sideSplitCall t z c) ++ changed (loadCall ns c)
+    ++ changed (insertCall r c) ++ changed (takeOutCall p c) ++ changed (flipCall i j c)
+    ++ changed (insertCall z c) ++ changed (loadCall ns c)
 """
 
 
@@ -515,8 +536,8 @@ FIXED_OVERLAY = (
 # what every run must meet
 EXPECTED = [f"take-out at corner {c}" for c in "abc"]
 EXPECTED += [f"flip of sides {k} {l}{way}" for k in range(3) for l in range(3) for way in ("", " back")]
-EXPECTED += [f"side split of sides {k} {l}{way}" for k in range(3) for l in range(3) for way in ("", " back")]
-EXPECTED += [f"side split of sides {k} alone" for k in range(3)] + ["side_split 6", "side_split 13"]
+EXPECTED += [f"insert on sides {k} {l}" for k in range(3) for l in (0, 1, 2, "alone")] + [f"insert at corner {c}" for c in "abc"]
+EXPECTED += [f"insert {what}" for what in tables.PLACES + tables.HIGHER] + ["insert 7", "insert 14"]
 EXPECTED += [f"locate 0 position {place}" for place in range(8)] + ["locate 1 position 7", "locate 2 position 7"]
 EXPECTED += ["overlay pairs with i and j different", "worked streams"]
 
@@ -529,9 +550,9 @@ def main():
         "log": [log_case(rng) for _ in range(count)],
         "calls": [calls_case(rng) for _ in range(count)],
         "event": [event_case(rng) for _ in range(count)],
-        "sided": [side_split_case(rng) for _ in range(count)],
+        "insert": [insert_case(rng) for _ in range(count)],
         "overlay": [overlay_case(rng) for _ in range(count)],
-        "fixed": [*fixed_events(rng), *fixed_locates(), overlay_fact(*FIXED_OVERLAY)],
+        "fixed": [*fixed_events(rng), *fixed_inserts(rng), *fixed_locates(), overlay_fact(*FIXED_OVERLAY)],
         "worked": list(worked_cases()),
     }
     print("met: " + ", ".join(f"{n} {k}" for k, n in sorted(met.items())))

@@ -180,7 +180,7 @@ def script_of(data, sizes):
         if code == 1 and len(waiting) < 6 * streams.MOST_WAITING:
             waiting += words
         elif 2 <= code <= 5:
-            name = {2: "load", 3: "split", 4: "take_out", 5: "flip"}[code]
+            name = {2: "load", 3: "insert", 4: "take_out", 5: "flip"}[code]
             yield " ".join(map(str, [name, chart, *(waiting if code == 2 else words)]))
             waiting = [] if code == 2 else waiting
     for chart, (triangles, entries) in enumerate(sizes):
@@ -415,7 +415,7 @@ def test_papers(folder):
 def test_damaged():
     """A small stream of every command cut at each byte, and random bytes: what is whole is drawn, and the place is told."""
     rng = random.Random(SEED)
-    lines = ["1 U", "1 V", "2 0", "1 0,0 50000,0 0,50000", "2 1", "3 0 0 9,9", "4 1 9,9", "5 0 0 1", "6 0 30000,15000", "7"]
+    lines = ["1 U", "1 V", "2 0", "1 0,0 50000,0 0,50000", "2 1", "3 0 9,9", "4 1 9,9", "5 0 0 1", "6 0 30000,15000", "7"]
     small = b"".join(map(streams.command, lines))
     given = [small[:k] for k in range(len(small) + 1)] + [rng.randbytes(rng.randrange(1, 40)) for _ in range(30)]
     given += [bytes([1] + 12 * [0] + [code, chart]) + bytes(8) for code in range(2, 7) for chart in (2, 3, 255)]
@@ -459,8 +459,8 @@ DRAWING = """
 """
 # a command line, its status, and a part of what is said; FOLDER is a folder, STREAM the turning basin's stream, in which one is refused
 TOLD = """
--o OUT.png STREAM | 1 | split bed at byte 129: refused 7: the point is not strictly inside
---report --bytes STREAM | 1 | split bed at byte 129: refused 7
+-o OUT.png STREAM | 1 | insert bed at byte 127: refused 14: the point is a corner already
+--report --bytes STREAM | 1 | insert bed at byte 127: refused 14
 STREAM | 2 | nothing to do: give -o PICTURE, or --report
 STREAM --nigth | 2 | --nigth: there is no such option
 STREAM --size | 2 | --size at the end: it wants

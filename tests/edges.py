@@ -169,7 +169,7 @@ def pause(words):
 
 def open_input(words):
     """after `bad` it ends though its input is open"""
-    for command in (BAD, streams.command("3 0 0 1,1").replace(b"\x03\x00", b"\x03\x02")):
+    for command in (BAD, streams.command("3 2 1,1")):
         program = feeding.Program(words, SECONDS)
         talk = feeding.Talk(words, program.said, SECONDS)
         talk.say(NOWHERE + command)

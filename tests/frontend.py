@@ -1,6 +1,6 @@
 #!/usr/bin/env python3
-"""Holds chartkey to what docs/PAPERS.md says of it: stored keys, exit statuses, messages, positions, forms, schema, round trips,
-wrong logs.
+"""Holds chartkey to what docs/PAPERS.md says of it: stored keys, exit statuses, messages, positions, counts of triangles, forms, schema,
+round trips, wrong logs.
 
 It draws random bytes, papers with a byte changed and streams from a fixed seed, and fails when chartkey ends with anything but a
 message and a status. `--store` writes the stored forms of examples/ anew, by the program given: look at what changed.
@@ -24,7 +24,7 @@ import traceback
 
 ROOT = os.path.dirname(os.path.dirname(os.path.abspath(__file__)))
 sys.path.insert(0, ROOT)
-from frontend import VERSION, cli, commands, files, forms, log, numbers, paper, schema, stream
+from frontend import VERSION, cli, commands, counting, files, forms, log, numbers, paper, schema, stream
 
 sys.path.append(os.path.join(ROOT, "tests"))
 import streams
@@ -36,7 +36,7 @@ VECTORS = os.path.join(ROOT, "tests", "vectors")
 SCRIPT = os.path.join(ROOT, "chartkey")
 # the form of each kind of stored file
 STORED = {".key": [], ".json": ["--json"], ".csv": ["--csv"], ".log": ["--log"], ".bin": ["--bytes"]}
-PAPERS = 5
+PAPERS = 6
 faults = []
 counts = {}
 statuses = set()
@@ -184,7 +184,7 @@ def test_examples():
                 same(f"{name}{kind}", (come.status, come.out, come.err), (0, read(stored), ""))
                 count("stored forms")
     steps = json.loads(run("--json", os.path.join(EXAMPLES, "every-number.txt")).out)["steps"]
-    same("numbers that a paper can meet", sorted({s["number"] for s in steps}), [0] + list(range(4, 13)))
+    same("numbers that a paper can meet", sorted({s["number"] for s in steps}), [0, *range(4, 13), 14])
     same("most triangles", max(s.get("triangles", 0) for s in steps), 512)
     steps = json.loads(run("--json", os.path.join(EXAMPLES, "every-position.txt")).out)["steps"]
     same("positions of a paper", {s["position"] for s in steps if "found" in s}, {*POSITIONS, None})
@@ -215,8 +215,16 @@ KINDS_OF_FAULTS = [
     (b"load sea", [(1, 6, "`sea` is no chart", "bed and design")]),
     (b"load Bed", [(1, 6, "`Bed` is no chart", "did you mean `bed`?")]),
     (b"OVERLAY", [(1, 1, "unknown command `OVERLAY`", "did you mean `overlay`?")]),
-    (b"split bed 0 in 5,5", [(1, 13, "`at` belongs here, not `in`", "")]),
-    (b"split bed x at 5;5", [(1, 11, "a triangle's number is a whole number, not `x`", ""), (1, 16, "`5;5` is no point", "x,y")]),
+    (b"insert bed 5;5", [(1, 12, "`5;5` is no point", "x,y")]),
+    (b"insert bed 0 5,5", [(1, 12, "`0` is no point", "x,y")]),
+    (b"insert 5,5", [(1, 8, "`5,5` is no chart", "bed and design")]),
+    (b"insert bed 5,5\nexpect refused 6", [(2, 16, "`insert` is never refused with 6", "7, 10, 11, 14")]),
+    (b"split bed 1 at 45000,30000", [(1, 1, "`split` is now `insert CHART P`", "write `insert bed 45000,30000`")]),
+    (b" split\tdesign 0 at (5,6) # x\nexpect refused 6", [(1, 2, "without a triangle's number", "write `insert design (5,6)`")]),
+    (b"split bed 45000,30000", [(1, 1, "`split` is now `insert CHART P`", "the lowest numbered triangle")]),
+    (b"split", [(1, 1, "`split` is now `insert CHART P`", "the lowest numbered triangle")]),
+    (b"Split bed 1 at 5;5", [(1, 1, "`Split` is now `insert CHART P`", "the lowest numbered triangle")]),
+    (b"flip bed x y", [(1, 10, "a triangle's number is a whole number, not `x`", ""), (1, 12, "a whole number, not `y`", "")]),
     (b"locate bed (5,5", [(1, 12, "`(5,5` is no point", "x,y")]),
     (b"locate bed 5, 5", [(1, 14, "a coordinate is missing", "without a blank")]),
     (b"locate bed (5,1.5)", [(1, 15, "a coordinate is a whole number, not `1.5`", "")]),
@@ -364,6 +372,7 @@ def status_cases(folder):
         ("no program", 2, b"", ["--engine"]),
         ("half a program", 2, b"", ["--engine", "'a"]),
         ("no such number", 2, b"", ["numbers", "99"]),
+        ("a number that no call gives", 2, b"", ["numbers", "13"]),
         ("an empty name", 2, b"", [""]),
         ("a form that `check` has not", 2, b"", ["check", "--csv"]),
         ("a stream that is whole", 0, b"\7", ["--from-bytes"]),
@@ -435,6 +444,101 @@ def test_positions():
     same("a position not met", (come.status, come.err), (3, want))
 
 
+# ---- counts of triangles
+
+SQUARE = b"triangle 0,0 60000,0 0,60000\ntriangle 60000,0 60000,60000 0,60000\nload bed\n"
+# what is written below the square, and how many triangles come: inside, on a side that two share, on a side of one alone
+COMING = [
+    ("insert bed 1000,1000", 2),
+    ("insert bed 60000,20000", 1),
+    ("take-out bed 1000,1000", -2),
+    ("flip bed 0 1", 0),
+    ("insert bed 30000,30000", 2),
+    ("insert bed 30000,0", 1),
+    ("insert bed 0,20000", 1),
+    ("insert bed 30000,40000", 2),
+    ("insert bed 45000,45000", 2),
+    ("insert bed 60000,40000", 1),
+]
+# over all ground, so that an overlay lists every triangle of the other chart
+GROUND = "load {0}\ntriangle 0,0 65535,0 0,65535\ntriangle 65535,65535 0,65535 65535,0\nload {0}\noverlay\n"
+
+
+def runs_of(given):
+    """How often the program is run for a paper, and what comes of it."""
+    ran, before = [], counting.engine.run
+    counting.engine.run = lambda *words: ran.append(words) or before(*words)
+    try:
+        return run("--json", given=given), len(ran)
+    finally:
+        counting.engine.run = before
+
+
+def counted(come):
+    """The count of triangles after each accepted load and edit."""
+    return [step["triangles"] for step in json.loads(come.out)["steps"] if "triangles" in step]
+
+
+def test_counts():
+    """What an insert adds is asked of the program, in few runs; the paper's own stream and log stay as they are."""
+    text, wanted = SQUARE, [2]
+    for line, come in COMING:
+        text += line.encode() + b"\n"
+        wanted.append(wanted[-1] + come)
+    come, runs = runs_of(text)
+    same("counts", (counted(come), runs <= 5), (wanted, True))
+    same("its log", run("--log", given=text).out.count(b"\n"), 2 + len(COMING))
+    alone = " ".join(map(str, range(wanted[-1])))
+    same("what is in no pair", f"in no pair: bed {alone};" in run(given=text + b"overlay\n").out.decode(), True)
+    for given, most in ((SQUARE, 1), (SQUARE + b"insert bed 0,0\ninsert bed 65535,0\n", 1), (SQUARE + b"insert bed 5,5\n", 2)):
+        same(f"runs of {given[-24:]}", runs_of(given)[1], most)
+    quay = SQUARE + b"".join(b"insert bed %d,0\n" % (600 * k) for k in range(1, 100))
+    come, runs = runs_of(quay)
+    same("a long quay", (counted(come), runs <= 8), (list(range(2, 102)), True))
+    for name, data, printed in stored():
+        if told_bad(printed) is None and b"\n3 0 " in printed:
+            covered(name, run("--from-bytes", given=data).out)
+
+
+def covered(name, text):
+    """After a paper, an overlay with all ground lists every triangle of a chart, and none that its count does not have."""
+    for chart, other in (commands.CHARTS, commands.CHARTS[::-1]):
+        come = run("-q", given=text + GROUND.format(other).encode())
+        alone = come.out.decode().split("\n")[-2]
+        same(f"{name}: the count of the {chart}", (come.status < 2, f"{chart} (none)" in alone), (True, True))
+        count("counts")
+
+
+ASKED = b"triangle 0,0 65535,0 0,65535\nload bed\ninsert bed 9,9\ninsert bed 8,9\n"
+ASKED_LOG = b"overlay log\n2 0 7\n3 0 19\n3 0 31\n"
+# how a program answers when it is asked whether two triangles came by each insert: its log, and a part of the message
+ANSWERED = [
+    (ASKED_LOG, "line 4 of its log: another answer"),
+    (b"overlay log\n2 0 7\n3 0 19\n5 9\n3 0 31\n", "line 6 of its log: the log is cut"),
+    (b"overlay log\n2 0 7\n3 0 19\n5 0 19\n3 0 31\n5 9\n", "`flip bed 2 2` gives 0"),
+    (b"overlay log\n2 0 7\n3 0 19\n5 9\n3 0 31\n5 11\n", "`flip bed 4 4` gives 11"),
+    (b"overlay log\n2 0 7\n3 0 19\n5 9\n3 0 32\n5 9\n", "it answers the paper otherwise than before"),
+    (b"overlay log\n2 0 7\n3 0 19\n5 6\n3 0 31\n5 9\n", "no count of triangles fits the answer of `insert bed 8,9` (line 4)"),
+]
+
+
+def test_wrong_counts(folder):
+    """Programs that do not tell a count; and accepted commands after which no count can be."""
+    own = len(run("--bytes", given=ASKED).out)
+    answer = "data = sys.stdin.buffer.read()\nsys.stdout.buffer.write({!r} if len(data) == {} else {!r})\n"
+    for printed, message in ANSWERED:
+        program = sham(folder, answer.format(ASKED_LOG, own, printed))
+        come = run(given=ASKED, program=program)
+        same(f"{printed[12:]}: told", (come.status, come.out, message in come.err), (4, b"", True))
+        same(f"{printed[12:]}: the paper's log", run("--log", given=ASKED, program=program)[:2], (4, ASKED_LOG))
+        count("wrong logs")
+    ended = sham(folder, answer.format(ASKED_LOG, own, b"") + f"sys.exit(0 if len(data) == {own} else 3)")
+    same("a program that ends badly when asked", "ended with status 3" in run(given=ASKED, program=ended).err, True)
+    full = paper.read(b"triangle 0,0 5,0 0,5\n" * 512 + b"load bed\ninsert bed 1,1\n", "p").calls
+    must_not_fit(b"overlay log\n2 0 9\n3 0 9\n", full, "an insert into a full chart")
+    must_not_fit(b"overlay log\n4 0 9\n", paper.read(b"take-out bed 1,1\n", "p").calls, "a take-out of a chart without triangles")
+
+
 # ---- hostile bytes
 
 
@@ -452,7 +556,7 @@ def test_hostile(draw):
     words = [w.encode() for row in commands.COMMANDS for w in [row.word] + [o.letter for o in row.operands]]
     words += [w.encode() for w in paper.LINES] + [b"7", b"-", b"99999", b"bed", b"design", b"0,0", b"(1,2)"]
     words += [w.encode() for e in commands.all_expectations() for w in [e.word, *(e.takes.names if e.takes else ())]]
-    words += [b'"', b'"x.csv"', b"#", b"\n", b"\n", b"\n", b"\t", b"\r"]
+    words += [b"split", b"at", b'"', b'"x.csv"', b"#", b"\n", b"\n", b"\n", b"\t", b"\r"]
     for k in range(400):
         hostile(bytes(draw.randrange(256) for _ in range(draw.randrange(60))), "random bytes", k < 30)
         hostile(b" ".join(draw.choice(words) for _ in range(draw.randrange(40))), "random words", k < 30)
@@ -510,7 +614,7 @@ def drawn(draw):
         byte = draw.randrange(1, 8)
         data += bytes([byte]) + (bytes([draw.randrange(2)]) if 2 <= byte <= 6 else b"")
         data += b"".join(draw.choice((0, 1, 255, 256, 65535, draw.randrange(65536))).to_bytes(2, "little")
-                         for _ in range({1: 6, 2: 0, 3: 3, 4: 2, 5: 2, 6: 2, 7: 0}[byte]))
+                         for _ in range({1: 6, 2: 0, 3: 2, 4: 2, 5: 2, 6: 2, 7: 0}[byte]))
     return data
 
 
@@ -556,7 +660,7 @@ def test_round_trips(draw):
 # ---- logs that do not fit
 
 PAPER = b"triangle 0,0 65535,0 0,65535\nload bed\ntriangle 0,0 65535,0 0,65535\ntriangle 0,0 9,0 0,9\nload design\n"
-PAPER += b"split bed 0 at 5,6\nlocate bed 1,1\noverlay\nload bed\n"
+PAPER += b"insert bed 65535,65535\nlocate bed 1,1\noverlay\nload bed\n"
 LOG = b"overlay log\n2 0 7\n2 0 40\n3 7\n6 0 0 0\n7 0 2 7\n0 0\n0 1\n2 0 1\n"
 # what a program does wrong: its log, and the line of the log and a part of the message that chartkey gives
 SHAMS = [
@@ -582,6 +686,7 @@ SHAMS = [
     ("a number of 5,000 digits", LOG.replace(b"40", b"4" * 5000), 3, "no line of numbers"),
     ("line ends of two bytes", LOG.replace(b"\n", b"\r\n"), 1, "does not begin with"),
     ("a number that the command never gives", LOG.replace(b"3 7", b"3 12"), 4, "never refused with 12"),
+    ("a number that another command gives", LOG.replace(b"3 7", b"3 6"), 4, "never refused with 6"),
     ("a number that there is not", LOG.replace(b"3 7", b"3 13"), 4, "never refused with 13"),
     ("a triangle that is not there", LOG.replace(b"6 0 0 0", b"6 0 1 0"), 5, "cannot have 1 as its triangle"),
     ("no triangle", LOG.replace(b"6 0 0 0", b"6 0"), 5, "its triangle is missing"),
@@ -806,8 +911,8 @@ def test_help():
             fault("help does not tell in a line", word)
     same("-h is --help", run("-h", "x", "y").out.decode(), text)
     told = run("numbers").out.decode()
-    same("each number once", [int(n) for n in re.findall(r"^ ?(\d+)  ", told, re.M)], list(range(14)))
-    same("one number", run("numbers", "13").out.decode() in told, True)
+    same("each number once", [int(n) for n in re.findall(r"^ ?(\d+)  ", told, re.M)], [*range(13), 14])
+    same("one number", run("numbers", "14").out.decode() in told, True)
 
 
 def test_words():
@@ -829,34 +934,32 @@ def test_words():
 
 MOVED = b"""triangle 0,0 65535,0 0,65535 7
 load bed
-split bed 10,10
-locate bed 10,10
+locate bed 0,0
 locate bed 65535,65535
 expect nowhere
 overlay
 """
-MOVED_LOG = b"overlay log\n2 0 7\n3 0 19\n6 0 2 4\n6 0 65535\n7 0 0 9\n"
+MOVED_LOG = b"overlay log\n2 0 7\n6 0 0 4\n6 0 65535\n7 0 0 7\n"
 
 
-def test_moved_rows():
-    """What document 02 asks later of commands 1 and 3 moves rows of the table, and nothing else."""
+def test_moved_row():
+    """What document 02 asks later of command 1 moves its row of the table, and nothing else."""
     whole, rows = commands.COMMANDS, list(commands.COMMANDS)
     rows[0] = rows[0]._replace(operands=rows[0].operands + (commands.number("class", "K", "a class"),))
-    rows[2] = rows[2]._replace(operands=(commands.CHART, commands.point("point", "P")), count=commands.UNTOLD)
     commands.COMMANDS = tuple(rows)
     try:
         one = paper.read(MOVED, "moved")
         same("no fault", one.faults.kept, [])
         data = stream.to_bytes(one.calls)
-        same("seven numbers, no triangle", (data[13:15], data[17:22], len(data)), (b"\7\0", b"\3\0\12\0\12", 36))
+        same("seven numbers", (data[13:15], len(data)), (b"\7\0", 30))
         same("back", "".join(l + "\n" for l in stream.as_paper(data)), MOVED.decode().replace("expect nowhere\n", ""))
-        answers = forms.Answers(one, *log.read(MOVED_LOG, one.calls))
+        answers = forms.Answers(one, *log.read(MOVED_LOG, one.calls)[:2])
         same("status", answers.status, 0)
         told = forms.people(answers)
-        for part in ("accepted: 19 entries", "triangle 2, at corner a", "nowhere\n", "in no pair: design (none)"):
+        for part in ("accepted: 1 triangle, 7 entries", "triangle 0, at corner a", "nowhere\n", "in no pair: bed 0; design (none)"):
             same(f"tells {part!r}", part in told, True)
         same("schema", list(misfits(json.loads(forms.answers_json(answers, None)), schema.schema(), "output")), [])
-        same("help", "triangle A B C K" in cli.help_text() and "split CHART P" in cli.help_text(), True)
+        same("help", "triangle A B C K" in cli.help_text(), True)
         same("a class", paper.read(b"triangle 0,0 1,0 0,1 x", "p").faults.kept[0].message, "a class is a whole number, not `x`")
     finally:
         commands.COMMANDS = whole
@@ -867,11 +970,11 @@ def tests(folder, draw):
     yield test_examples, ()
     if STORE:
         return
-    plain = (test_schema, test_messages, test_positions, test_no_permission, test_help, test_words, test_moved_rows)
+    plain = (test_schema, test_messages, test_positions, test_counts, test_no_permission, test_help, test_words, test_moved_row)
     plain += (test_terminal, test_closed_and_full)
     yield from ((test, ()) for test in plain)
     with_folder = (test_tables_of_triangles, test_statuses, test_limits, test_programs, test_processes)
-    with_folder += (test_places, test_alone, test_interrupt)
+    with_folder += (test_places, test_alone, test_interrupt, test_wrong_counts)
     yield from ((test, (folder,)) for test in with_folder)
     yield from ((test, (draw,)) for test in (test_hostile, test_round_trips))
     yield test_wrong_logs, (folder, draw)

@@ -29,6 +29,7 @@ import edges
 import engines
 import feeding
 import streams
+import tables
 from crates import ROOT
 
 KEPT = os.path.join(ROOT, "target", "fuzz")
@@ -38,24 +39,26 @@ FEW = 4000  # a run of fewer need not meet all that is wanted
 SHORTENING = 20  # seconds
 LONGEST_BY_BYTES = 1500
 
-ANSWERS = "1 4; 2 0; 2 5; 2 11; 3 0; 3 6; 3 7; 3 10; 3 11; 4 0; 4 8; 5 0; 5 6; 5 9; 5 11; 6 0; 7 0; 7 12".split("; ")
+ANSWERS = "1 4; 2 0; 2 5; 2 11; 3 0; 3 7; 3 10; 3 11; 3 14; 4 0; 4 8; 5 0; 5 6; 5 9; 5 11; 6 0; 7 0; 7 12".split("; ")
 LIMITS = ["4096 pairs", "4095 pairs", "16384 entries", "16383 entries", "an empty table", "512 wait, and a load"]
 POSITIONS = [f"position {k}" for k in range(7)]  # of the point in the triangle found
 OTHERS = ["nowhere", "found above 0", "5 at triangle 0", "5 above triangle 0", "empty input", "no pair", "some pairs"]
 BAD = ["bad: unknown byte"] + [f"bad: {code} with c above 1" for code in range(2, 7)]
 BAD += [f"bad: {code} cut after {k} of {size} bytes" for code, size in streams.SIZES.items() for k in range(1, size)]
 ONCE = [f"command {code}" for code in range(1, 8)] + [f"answer {a}" for a in ANSWERS] + LIMITS + OTHERS + BAD
-ONCE += [f"fed {way}" for way in feeding.WAYS]
+ONCE += [f"fed {way}" for way in feeding.WAYS] + [f"insert {what}" for what in tables.HIGHER + tables.ADDED]
 # what is to be met, and how often
-WANTED = dict.fromkeys(ONCE, 1) | dict.fromkeys(POSITIONS, 100)
+WANTED = dict.fromkeys(ONCE, 1) | dict.fromkeys(POSITIONS + [f"insert {place}" for place in tables.PLACES], 100)
 
 
 # ---- what is met
 
+EDITS = {"3": "insert", "4": "take_out", "5": "flip"}
+
 
 def met(stream, log):
-    """What a stream and its log show."""
-    waiting = 0
+    """What a stream and its log show. The tables that its accepted commands lead to are followed."""
+    charts, waiting, at = [[], []], [], 0
     if not stream:
         yield "empty input"
     for step in streams.steps(stream, log):
@@ -63,11 +66,20 @@ def met(stream, log):
             yield step.what
             return
         yield f"command {step.what}"
-        if step.what == "2" and waiting == streams.MOST_WAITING:
+        words, command, at = step.line.decode().split(), stream[at : step.end], step.end
+        chart, operands = command[1:2], streams.numbers(command[1 if step.what == "1" else 2 :])
+        if step.what == "1" and not words:
+            waiting.append(operands)
+        elif step.what == "3":
+            yield from tables.insert_shows(charts[chart[0]], operands, int(words[1]))
+        elif step.what == "2" and len(waiting) == streams.MOST_WAITING:
             yield "512 wait, and a load"
-        waiting = 0 if step.what == "2" else min(waiting + (step.what == "1"), streams.MOST_WAITING)
-        if step.line:
-            yield from answered(step.line.decode().split())
+        if step.what in "2345" and words[1] == "0":
+            charts[chart[0]] = waiting if step.what == "2" else tables.edited(EDITS[step.what], charts[chart[0]], operands)
+        if step.what == "2":
+            waiting = []
+        if words:
+            yield from answered(words)
 
 
 def answered(words):
@@ -97,6 +109,7 @@ def tally(seen):
     for name, start in groups:
         there = [k for k in seen if k.startswith(start)]
         print(f"  {name:10}" + ", ".join(f"{k[len(start):]} × {seen[k]:,}" for k in sorted(there, key=order)))
+    print("  inserts   " + ", ".join(f"{k} × {seen[f'insert {k}']:,}" for k in tables.PLACES + tables.HIGHER + tables.ADDED))
     print("  limits    " + ", ".join(f"{k} × {seen[k]:,}" for k in LIMITS))
     print("  others    " + ", ".join(f"{k} × {seen[k]:,}" for k in OTHERS))
     print(f"  bad       {sum(seen[k] for k in BAD):,} in {sum(seen[k] > 0 for k in BAD)} of {len(BAD)} places")

@@ -301,7 +301,7 @@ def same_constants(texts, said):
 
 
 # what the types and prototypes of each JIRD_ABI are
-ABIS = {"1": "ee9e360e70d40723", "2": "8ecd9dce6a9202d8", "3": "96ef36a54773dba9"}
+ABIS = {"1": "ee9e360e70d40723", "2": "8ecd9dce6a9202d8", "3": "96ef36a54773dba9", "4": "c4a16c1cc44ab6f8"}
 
 
 def same_abi(said):
@@ -354,18 +354,21 @@ def other_exports(named):
 LENGTHS = "size_t triangles, size_t entries, "
 CLOSED = "\n#ifdef __cplusplus\n}"
 TRIANGLE = "    uint32_t triangle; /* JIRD_NOWHERE if none, and at a refusal */"
-SIDE_SPLIT = "jird_changed jird_side_split(\n    "
+POINT = LENGTHS + "uint16_t x, uint16_t y"
+INSERT = "jird_changed jird_insert(\n    "
 # the kind of fault, the header, a text that is in it (its first place is meant), and what stands there instead
 WRONG = [
     ("a name", HELM, "jird_located jird_locate(", "jird_located jird_find("),
     ("another name", CHARTS, "jird_measured jird_doubled_area(", "jird_measured jird_area("),
-    ("the side split by another name", CHARTS, SIDE_SPLIT, SIDE_SPLIT.replace("side_split", "edge_split")),
-    ("two parameters exchanged", HELM, LENGTHS + "uint16_t x, uint16_t y", LENGTHS + "uint16_t y, uint16_t x"),
+    ("the insert by another name", CHARTS, INSERT, INSERT.replace("insert", "add")),
+    ("two parameters exchanged", HELM, POINT, LENGTHS + "uint16_t y, uint16_t x"),
+    ("x and y of an insert exchanged", CHARTS, POINT, LENGTHS + "uint16_t y, uint16_t x"),
     ("two counts exchanged", CHARTS, LENGTHS + "size_t i, size_t j", "size_t entries, size_t triangles, size_t i, size_t j"),
     ("two buffers exchanged", CHARTS, "const uint16_t *numbers, size_t numbers_length,\n    uint16_t *table, size_t table_length,",
      "uint16_t *table, size_t table_length,\n    const uint16_t *numbers, size_t numbers_length,"),
     ("a pointer and its length exchanged", HELM, "uint16_t *pairs, size_t pairs_length", "size_t pairs_length, uint16_t *pairs"),
-    ("a parameter too few", CHARTS, LENGTHS + "size_t i, uint16_t x, uint16_t y", LENGTHS + "uint16_t x, uint16_t y"),
+    ("a parameter too few", CHARTS, LENGTHS + "size_t i, size_t j", LENGTHS + "size_t i"),
+    ("an insert into a numbered triangle", CHARTS, POINT, LENGTHS + "size_t i, uint16_t x, uint16_t y"),
     ("a parameter too many", HELM, "size_t pairs_length);", "size_t pairs_length, size_t most);"),
     ("a narrower buffer", HELM, "const uint32_t *keys,", "const uint16_t *keys,"),
     ("a wider number", HELM, "uint16_t x, uint16_t y", "uint32_t x, uint16_t y"),
@@ -375,7 +378,7 @@ WRONG = [
     ("a const missing", HELM, "const uint8_t *levels1", "uint8_t *levels1"),
     ("a const too many", HELM, "uint16_t *pairs", "const uint16_t *pairs"),
     ("a const too many in a load", CHARTS, "table_length, uint32_t *keys", "table_length, const uint32_t *keys"),
-    ("a const too many in a side split", CHARTS, f"{SIDE_SPLIT}uint16_t *table", f"{SIDE_SPLIT}const uint16_t *table"),
+    ("a const too many in an insert", CHARTS, f"{INSERT}uint16_t *table", f"{INSERT}const uint16_t *table"),
     ("another answer", CHARTS, "jird_changed jird_flip(", "jird_part jird_flip("),
     ("no answer", CHARTS, "jird_sounded jird_soundness(", "void jird_soundness("),
     ("fields in another order", HELM, "    uint32_t number;\n    uint32_t triangle;", "    uint32_t triangle;\n    uint32_t number;"),
@@ -389,8 +392,9 @@ WRONG = [
     ("a wider position", HELM, "uint32_t position;", "size_t position;"),
     ("the position missing", HELM, "    uint32_t position;", "    //"),
     ("an enum value", HELM, "JIRD_NO_FLIP = 9", "JIRD_NO_FLIP = 8"),
-    ("document 02's number by another", HELM, "JIRD_NOT_ON_SIDE = 13", "JIRD_NOT_ON_SIDE = 14"),
-    ("document 02's number missing", HELM, "    JIRD_NOT_ON_SIDE = 13 ", "    //"),
+    ("document 02's number by another", HELM, "JIRD_AT_CORNER = 14", "JIRD_AT_CORNER = 15"),
+    ("document 02's number missing", HELM, "    JIRD_AT_CORNER = 14 ", "    //"),
+    ("a number too many", HELM, "    JIRD_AT_CORNER = 14 ", "    JIRD_NO_CELL = 15,\n    JIRD_AT_CORNER = 14 "),
     ("a row of the enum missing", HELM, "    JIRD_TABLE_FULL = 10, ", "    //"),
     ("another number of a position", HELM, "JIRD_OUTSIDE = 7", "JIRD_OUTSIDE = 8"),
     ("two corners exchanged", HELM, "JIRD_AT_A = 4,   /* at corner a */\n    JIRD_AT_B = 5",
@@ -402,8 +406,8 @@ WRONG = [
     ("a constant", HELM, "JIRD_PAIRS_LENGTH = 8192", "JIRD_PAIRS_LENGTH = 4096"),
     ("the mark", HELM, "JIRD_NOWHERE = 65535", "JIRD_NOWHERE = 65536"),
     ("another version", HELM, "#define JIRD_VERSION \"1", "#define JIRD_VERSION \"2"),
-    ("another ABI number", HELM, "#define JIRD_ABI 3", "#define JIRD_ABI 4"),
-    ("the ABI number of before", HELM, "#define JIRD_ABI 3", "#define JIRD_ABI 2"),
+    ("another ABI number", HELM, "#define JIRD_ABI 4", "#define JIRD_ABI 5"),
+    ("the ABI number of before", HELM, "#define JIRD_ABI 4", "#define JIRD_ABI 3"),
     ("a constant too many", HELM, "    JIRD_MOST_PAIRS = 4096,", "    JIRD_MOST_PAIRS = 4096,\n    JIRD_MOST_CELLS = 16384,"),
     ("less stack said over all than of a call", HELM, "JIRD_MOST_STACK = 262144", "JIRD_MOST_STACK = 65536"),
     ("no stack said", CHARTS, " Stack: at most 16 KB.", ""),
@@ -417,12 +421,12 @@ WRONG = [
     ("an inline function with a longer length", CHARTS, "c->table, JIRD_TABLE_LENGTH", "c->table, JIRD_ENTRIES_LENGTH"),
     ("an inline function that keeps an old count", CHARTS, "    c->entries = r.entries;\n", ""),
     ("an inline function of another call", CHARTS, "r = jird_take_out(", "r = jird_flip("),
-    ("an inline side split that is a split", CHARTS, "r = jird_side_split(", "r = jird_split("),
+    ("an inline insert that is a take-out", CHARTS, "r = jird_insert(", "r = jird_take_out("),
     ("an inline overlay of one chart", CHARTS, "design->table, JIRD", "bed->table, JIRD"),
     ("an inline function by another name", CHARTS, "jird_chart_cell(", "jird_cell_of("),
     ("something left out by the preprocessor", CHARTS, "static inline jird_part", "#if 0\nstatic inline jird_part"),
     ("other words", CHARTS, "over 4,096 pairs", "over 4,000 pairs"),
-    ("other words of document 02's number", CHARTS, "or at an end of one", "or at a corner"),
+    ("other words of document 02's number", CHARTS, "is a corner already", "is an end already"),
     ("other words of a position", CHARTS, '"on side bc"', '"on side cb"'),
     ("a declaration that is no prototype", HELM, CLOSED, "\nextern int jird_errors;\n" + CLOSED),
 ]

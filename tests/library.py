@@ -4,7 +4,7 @@
 usage: library.py SEED COUNT     all of it; COUNT is at least 5
        library.py PART..         one or more of: marked, calls, threads, install
 
-  marked    every export on document 01's marked cases, and side splits worked out by hand, by the prototypes and by the inline
+  marked    every export on document 01's marked cases, and inserts worked out by hand, by the prototypes and by the inline
             functions: as C, as C++, with the shared library, with sanitizers, under valgrind
   calls     the calls of tests/calls.py (boundaries, damaged charts of each kind, buffers one place short, COUNT drawn lists) and counts
             up to the largest, with buffers that end at an unreadable page and others that start after one, const ones on pages that
@@ -102,8 +102,6 @@ def large(s):
             s.counts(*counts)
             s.load([*V], "large", 0)
         s.table([U, V], number=0)
-        s.call("large", 6, "split", n, 1, 1)
-        s.call("large", 6, "side_split", n, 7, 0)
         s.call("large", 6, "flip", n, 0)
         s.call("large", 6, "flip", 1, n)
 

@@ -22,7 +22,7 @@ PORTIONS = sys.argv[1:2] == ["--portions"]
 PROGRAM = sys.argv[1 + PORTIONS :]
 WAYS = feeding.WAYS if PORTIONS else ["whole"]
 # how many there are: a new case or stream is counted here
-CASES = 24
+CASES = 34
 STREAMS = 27
 SECONDS = 60
 faults = []

@@ -22,8 +22,8 @@ from call_cases.script import INNER, PARTS, Script
 from tables import FLAT, SLIVERS, U, V
 
 PROGRAM = "test_replay"
-COMMANDS = {2: "load", 3: "split", 4: "take_out", 5: "flip", 8: "side_split"}
-SIZES = {3: 4, 4: 3, 5: 3, 8: 4}
+COMMANDS = {2: "load", 3: "insert", 4: "take_out", 5: "flip"}
+SIZE = 3  # of a call that is no load
 # the program's buffers: places, and what each of them holds before a case
 BUFFERS = {"table0": (3080, 21), "keys0": (16390, 22), "levels0": (16390, 23), "items0": (16390, 24)}
 BUFFERS |= {"table1": (3080, 31), "keys1": (16390, 32), "levels1": (16390, 33), "items1": (16390, 34), "pairs": (8200, 41)}
@@ -38,12 +38,8 @@ def load(*triangles):
     return [2, 6 * len(triangles)] + [c for t in triangles for c in t]
 
 
-def split(t, p):
-    return [3, t, *p]
-
-
-def side_split(t, p):
-    return [8, t, *p]
+def insert(p):
+    return [3, *p]
 
 
 def take_out(p):
@@ -57,7 +53,7 @@ def flip(i, j):
 def decoded(numbers):
     """The calls of a list, up to its end or to a place where no whole call stands."""
     while len(numbers) > 1 and numbers[0] in COMMANDS:
-        size = SIZES.get(numbers[0], numbers[1] + 2)
+        size = numbers[1] + 2 if numbers[0] == 2 else SIZE
         if size > len(numbers):
             return
         yield COMMANDS[numbers[0]], numbers[2 if numbers[0] == 2 else 1 : size]
@@ -72,7 +68,7 @@ def program_data(cases):
 
 
 def model_lines(cases):
-    """The lines that the program is to print, and the calls that were made with the numbers that they gave."""
+    """The lines that the program is to print, and the calls that were made, each as its name and the number that it gave."""
     text = [f"len {name} {places}" for name, (places, _) in BUFFERS.items()]
     for case in cases:
         text += [f"fill {name} {value}" for name, (_, value) in BUFFERS.items()]
@@ -104,8 +100,8 @@ def model_lines(cases):
 def stored():
     """Cases that nothing is drawn for, and what the overlay is to answer, where it is known: number, pairs and meetings."""
     out = (65535, 65535)
-    splits = load(U, V) + split(0, INNER) + split(1, (50000, 50000)) + flip(4, 2) + split(3, (3000, 30000)) + flip(7, 4)
-    others = load(V, U) + split(0, (40000, 40000)) + flip(1, 2) + split(1, (30000, 10000)) + split(2, (10000, 30000)) + take_out((30000, 10000))
+    one = load(U, V) + insert(INNER) + insert((50000, 50000)) + flip(4, 2) + insert((3000, 30000)) + flip(7, 4)
+    other = load(V, U) + insert((40000, 40000)) + flip(1, 2) + insert((30000, 10000)) + insert((10000, 30000)) + take_out((30000, 10000))
     grid = tables.mesh(random.Random(4))
     side = (32768, 32767)
     square = load((0, 0, 64, 0, 0, 64), (64, 64, 0, 64, 64, 0))
@@ -119,50 +115,54 @@ def stored():
         (load(U), load(U), "0 1 7"),
         (load(U, V) + flip(0, 1), [], "0 0"),
         (load(U, V) + flip(0, 0), load(U, V), "0 2 7"),
-        (load(U) + split(0, INNER) + take_out(INNER), load(U), "0 1 7"),
-        (load(U) + split(0, (32768, 32767)), load(U) + split(0, INNER), "0 3"),
+        (load(U) + insert(INNER) + take_out(INNER), load(U), "0 1 7"),
+        (load(U) + insert(side), load(U) + insert(INNER), "0 5"),
         # each refusal, and the chart goes on as it was
-        (load(U, V, FLAT) + load(U) + split(1, INNER) + split(0, out) + take_out(INNER) + flip(0, 1) + flip(0, 0), load(V), "0 0 7"),
+        (load(U, V, FLAT) + load(U) + insert(out) + insert((0, 0)) + take_out(INNER) + flip(0, 1) + flip(0, 0), load(V), "0 0 7"),
         ([2, 7] + [1] * 7 + load(V) + load(*SLIVERS), load(V) + load(*[U] * 513) + load(FLAT), "0 1 4"),
-        (load(*[U] * 512) + split(0, INNER), [], "0 0 7"),
+        (load(*[U] * 512) + insert(INNER), [], "0 0 7"),
+        (load(*[U] * 300) + insert(side), load(V), "0 0 7"),
+        (load(*[U] * 512) + insert(side), load(V), "0 0 7"),
+        (insert(side) + load(U), insert(out) + load(V), "0 0 7"),
         (load(U) + load(), load(U), "0 0 7"),
-        # a command that is none, and what follows is dropped; 0, 1, 6 and 65535 are none
+        # a command that is none, and what follows is dropped; 0, 1, 6, 7, 8, 9, 259 and 65535 are none
         (load(U) + [6, 0, 0] + load(V), load(U) + [0] + load(V), "0 1 7"),
         (load(U) + [1, *U] + load(), load(U) + [65535, 2, 0], "0 1 7"),
         ([7] + load(U), load(U), "0 0 7"),
+        (load(U) + [8, 0, 20000, 0] + load(V), load(U) + [9, 20000, 0] + load(V), "0 1 7"),
+        (load(U) + [7, 20000, 0] + load(V), load(U) + [259, 20000, 0] + load(V), "0 1 7"),
         # cut calls at the end
         (load(U) + [2], load(U) + [2, 1], "0 1 7"),
-        (load(U) + [2, 6, *V[:5]], load(U) + [3, 0, *INNER[:1]], "0 1 7"),
+        (load(U) + [2, 6, *V[:5]], load(U) + [3, *INNER[:1]], "0 1 7"),
         (load(U) + [3], load(U) + [4, 1], "0 1 7"),
         (load(U, V) + [5, 0], load(U, V) + [4], "0 2 7"),
         (load(U, V) + [5], load(U, V) + [2, 65535], "0 2 7"),
-        # side splits: of U and V by either, of U alone, with all other events, and each refusal
-        (load(U, V) + side_split(0, side), load(U, V) + side_split(1, side), "0 4"),
-        (load(U, V) + side_split(1, side), load(V), "0 2"),
-        (load(U) + side_split(0, (20000, 0)), load(U), "0 2"),
-        (square + side_split(0, (24, 40)) + flip(0, 3) + take_out((24, 40)), square + flip(0, 1), "0 2"),
-        (square + side_split(0, (24, 40)) + split(0, (30, 12)) + side_split(2, (12, 20)), square + side_split(1, (64, 7)), "0"),
-        (load(U) + side_split(1, (20000, 0)) + side_split(0, INNER) + side_split(0, (0, 0)) + side_split(0, out), load(U), "0 1 7"),
-        (load(small, *many, small) + side_split(0, (1007, 1000)), load(small), "0 3"),
-        (load(small, *many, under) + side_split(0, (1007, 1000)), load(small), "0 1"),
-        (load(edits.ABOVE, edits.BELOW_TOO, edits.BELOW, edits.LONGER, edits.ABOVE) + side_split(0, edits.AT), load(edits.BELOW), "0 4"),
-        (load(edits.BELOW, edits.BELOW_TOO, edits.ABOVE) + side_split(2, (101, 40)) + side_split(2, edits.AT), load(edits.BELOW_TOO), "0 3"),
-        (load(*[U] * 300) + side_split(0, side), load(V), "0 0 7"),
-        (load(*[U] * 512) + side_split(0, side), load(V), "0 0 7"),
-        (side_split(0, side) + load(U), side_split(65535, (65535, 65535)) + load(V), "0 0 7"),
-        # cut side splits, and 7 and 9, which are no commands
-        (load(U) + [8], load(U) + [8, 0], "0 1 7"),
-        (load(U) + [8, 0, 20000], load(U) + side_split(0, (20000, 0))[:3], "0 1 7"),
-        (load(U) + [8, 0, 20000, 0], load(U) + [8, 0, 20000, 0, 8], "0 2"),
-        (load(U) + [9, 0, 20000, 0] + load(V), load(U) + [7, 0, 20000, 0] + load(V), "0 1 7"),
-        (load(U) + [8] + side_split(0, (20000, 0)), load(U) + [264, 0, 20000, 0], "0 1 7"),
+        (load(U) + [3, 20000, 0], load(U) + [3, 20000, 0, 3], "0 2"),
+        # inserts on sides: of U and V, either taken, of U alone, with all other events
+        (load(U, V) + insert(side), load(V, U) + insert(side), "0 4"),
+        (load(V, U) + insert(side), load(V), "0 2"),
+        (load(U) + insert((20000, 0)), load(U), "0 2"),
+        (square + insert((24, 40)) + flip(0, 3) + take_out((24, 40)), square + flip(0, 1), "0 2"),
+        (square + insert((24, 40)) + insert((30, 12)) + insert((12, 20)), square + insert((64, 7)), "0"),
+        (load(edits.ABOVE, edits.BELOW_TOO, edits.BELOW, edits.LONGER, edits.ABOVE) + insert(edits.AT), load(edits.BELOW), "0 4"),
+        (load(edits.BELOW, edits.BELOW_TOO, edits.ABOVE) + insert((101, 40)) + insert(edits.AT), load(edits.BELOW_TOO), "0 3"),
+        # the lowest that holds the point: at a corner, on a side, inside
+        (load(edits.ENDING, edits.AROUND, edits.ABOVE) + insert(edits.AT), load(edits.AROUND), "0 3"),
+        (load(edits.SHORTER, edits.AROUND, edits.BELOW) + insert(edits.AT), load(edits.AROUND), "0 4"),
+        (load(edits.ABOVE, edits.AROUND, edits.BELOW) + insert(edits.AT), load(edits.BELOW), "0 3"),
+        (load(edits.AROUND, edits.ABOVE, edits.BELOW) + insert(edits.AT), load(edits.AROUND), "0 5"),
+        # 511 triangles and one more or two, 510 and two
+        (load(small, *many, small) + insert((1007, 1000)), load(small), "0 3"),
+        (load(small, *many, under) + insert((1007, 1000)), load(small), "0 1"),
+        (load(small, *many, under) + insert((1007, 1001)), load(small), "0 1"),
+        (load(small, *many) + insert((1007, 1001)), load(small), "0 3"),
         # 4,096 pairs and more
         (load(*[U] * 64), load(*[U] * 64), "0 4096 7"),
         (load(*[U] * 65), load(*[U] * 64), "12 0 0"),
-        (load(*[U] * 509) + split(508, INNER), load(*[U] * 512), "12 0 0"),
-        # meshes made by splits and flips
-        (splits, others, "0"),
-        (others, splits, "0"),
+        (load(*[U] * 509) + insert(INNER), load(*[U] * 512), "12 0 0"),
+        # meshes made by inserts and flips
+        (one, other, "0"),
+        (other, one, "0"),
         (load(*PARTS) + flip(1, 3), load(*grid), "0"),
     ]
 
@@ -178,12 +178,29 @@ def drawn(rng):
     if rng.random() < 0.2:
         return numbers[: rng.randrange(len(numbers))]
     if rng.random() < 0.2:
-        numbers.insert(rng.randrange(len(numbers)), rng.choice([0, 1, 2, 3, 4, 5, 6, 8, 8, 9, 65535]))
+        numbers.insert(rng.randrange(len(numbers)), rng.choice([0, 1, 2, 3, 4, 5, 6, 7, 8, 9, 65535]))
     return numbers
 
 
-WANTED = [f"load {n}" for n in (0, 4, 5, 11)] + [f"split {n}" for n in (0, 6, 7, 10)] + ["take_out 0", "take_out 8"]
-WANTED += [f"flip {n}" for n in (0, 6, 9)] + [f"side_split {n}" for n in (0, 6, 10, 11, 13)] + ["overlay 0", "overlay 12"]
+WANTED = [f"load {n}" for n in (0, 4, 5, 11)] + [f"insert {n}" for n in (0, 7, 10, 11, 14)] + ["take_out 0", "take_out 8"]
+WANTED += [f"flip {n}" for n in (0, 6, 9)] + ["overlay 0", "overlay 12"]
+WANTED += [f"insert {what}" for what in tables.PLACES + tables.HIGHER + tables.ADDED]
+
+
+def inserts(lists, gave):
+    """What the inserts show, by the tables that the calls before them lead to."""
+    numbers = (int(call.split()[1]) for call in gave)
+    for case in lists:
+        for calls in case:
+            table, _ = [], next(numbers)
+            for name, operands in decoded(calls):
+                number = next(numbers)
+                if name == "insert":
+                    yield from tables.insert_shows(table, tuple(operands), number)
+                if number == 0:
+                    loaded = [tuple(operands[k : k + 6]) for k in range(0, len(operands), 6)]
+                    table = loaded if name == "load" else tables.edited(name, table, operands)
+        next(numbers)
 
 
 def is_known(case, line):
@@ -208,7 +225,7 @@ def main():
     theirs, gave = model_lines(lists)
     if not engines.agree("case", cases, engines.program_lines(PROGRAM, program_data(lists)), theirs, is_known):
         return 1
-    if not engines.all_met(dict.fromkeys(WANTED, 1), collections.Counter(gave)):
+    if not engines.all_met(dict.fromkeys(WANTED, 1), collections.Counter([*gave, *inserts(lists, gave)])):
         return 1
     print(f"{len(cases)} cases of {len(gave)} calls, all agree; " + engines.tally(gave))
     return 0

@@ -3,17 +3,23 @@
 import collections
 import os
 import re
+import struct
 
 import tables
 
 PAGE = os.path.join(os.path.dirname(os.path.abspath(__file__)), "cases.txt")
 NAMED = {"U": tables.U, "V": tables.V}
-OPERANDS = {1: 6, 2: 1, 3: 4, 4: 3, 5: 3, 6: 3, 7: 0}
+OPERANDS = {1: 6, 2: 1, 3: 3, 4: 3, 5: 3, 6: 3, 7: 0}
 
 
 def words(values):
     """Numbers of 16 bits, low byte first."""
-    return b"".join(v.to_bytes(2, "little") for v in values)
+    return struct.pack(f"<{len(values)}H", *values)
+
+
+def numbers(data):
+    """The numbers of such bytes."""
+    return struct.unpack(f"<{len(data) // 2}H", data)
 
 
 def command(text):

@@ -1,4 +1,4 @@
-"""Triangles and tables for the tests: how they are drawn, their entries by the reference model, and edits of plain tables.
+"""Triangles and tables for the tests: how they are drawn, their entries by the reference model, edits of plain tables, and what inserts show.
 
 A point is two numbers, a triangle six, a table a list of triangles."""
 
@@ -41,10 +41,20 @@ def middles(t):
     return [tuple((u + v) // 2 for u, v in zip(p, q)) for p, q in ((a, b), (b, c), (c, a))]
 
 
+def sides_seen(t, p):
+    """D of each side, ab, bc and ca, and a point."""
+    a, b, c = corners(t)
+    return [orientation(u + v + p) for u, v in ((a, b), (b, c), (c, a))]
+
+
 def inside(t, p):
     """Whether a point is strictly inside."""
-    a, b, c = corners(t)
-    return all(orientation(u + v + p) > 0 for u, v in ((a, b), (b, c), (c, a)))
+    return min(sides_seen(t, p)) > 0
+
+
+def holds(t, p):
+    """Whether a point is inside, on a side or at a corner."""
+    return min(sides_seen(t, p)) >= 0
 
 
 def side(t, k):
@@ -254,11 +264,8 @@ def split(table, i, p):
 
 
 def side_split(table, i, p):
-    """The table after a side split, or nothing."""
-    k = side_of(table[i], p)
-    if k is None:
-        return None
-    a, b, c = corners(turned(table[i], k))
+    """The table after triangle i is split at a point of its side."""
+    a, b, c = corners(turned(table[i], side_of(table[i], p)))
     new = list(table)
     new[i] = a + p + c
     new.append(p + b + c)
@@ -270,9 +277,22 @@ def side_split(table, i, p):
     return new
 
 
+def taken(table, p):
+    """The lowest numbered triangle that holds a point, or nothing."""
+    return next((i for i, t in enumerate(table) if holds(t, p)), None)
+
+
+def insert(table, p):
+    """The table after an insert, or nothing."""
+    i = taken(table, p)
+    if i is None or p in corners(table[i]):
+        return None
+    return split(table, i, p) if inside(table[i], p) else side_split(table, i, p)
+
+
 def flip(table, i, j):
     """The table after a flip, or nothing."""
-    found = sides_shared(table[i], table[j])
+    found = sides_shared(table[i], table[j]) if max(i, j) < len(table) else None
     if not found:
         return None
     (a, b, c), d = corners(turned(table[i], found[0])), corners(turned(table[j], found[1]))[2]
@@ -296,3 +316,48 @@ def take_out(table, p):
             new = [a + b + second[1] if i == places[0] else t for i, t in enumerate(table)]
             return [t for i, t in enumerate(new) if i not in places[1:]]
     return None
+
+
+def edited(call, table, operands):
+    """The table after an edit, or nothing."""
+    operands = tuple(operands)
+    return flip(table, *operands) if call == "flip" else {"insert": insert, "take_out": take_out}[call](table, operands)
+
+
+# ---- what an insert shows
+
+# where its point is, where that also is in triangles that are not the lowest, and how many triangles are added to how many
+PLACES = ["inside", "on a side alone", "on a side with a neighbour", "at a corner"]
+HIGHER = [f"{place}, inside another" for place in PLACES] + ["inside, on a side of another", "at a corner, on a side of another"]
+HIGHER += ["on a side with a neighbour, and a second one"]
+ADDED = ["one to 511", "two to 510", "10 for one to 512", "10 for two to 511"]
+
+
+def insert_place(table, p):
+    """Where a point to be inserted is."""
+    i, made = taken(table, p), insert(table, p)
+    if made is None:
+        return "nowhere" if i is None else "at a corner"
+    if inside(table[i], p):
+        return "inside"
+    return "on a side alone" if len(made) == len(table) + 1 else "on a side with a neighbour"
+
+
+def insert_shows(table, p, number):
+    """What an insert that gives a number shows."""
+    place = insert_place(table, p)
+    added = f"{'one' if place == 'on a side alone' else 'two'} to {len(table)}"
+    if number in (0, 10):
+        yield f"insert {added}" if number == 0 else f"insert 10 for {added}"
+    if number in (0, 14):
+        yield f"insert {place}"
+        i = taken(table, p)
+        others = table[i + 1 :]
+        if any(inside(t, p) for t in others):
+            yield f"insert {place}, inside another"
+        if any(side_of(t, p) is not None for t in others):
+            yield f"insert {place}, on a side of another"
+        if place == "on a side with a neighbour":
+            beyond = side(table[i], side_of(table[i], p))[::-1]
+            if sum(beyond in (side(t, k) for k in range(3)) for t in others) > 1:
+                yield f"insert {place}, and a second one"

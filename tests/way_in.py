@@ -183,7 +183,7 @@ def test_fuzz():
     child.send_signal(signal.SIGINT)
     status, printed, said = ended(child)
     heads = [line.split()[0] for line in printed.decode().split("\n") if line]
-    same("Ctrl-C of fuzz.py", (status, heads, said), (130, "fuzz commands answers positions fed kinds limits others bad".split(), b""))
+    same("Ctrl-C of fuzz.py", (status, heads, said), (130, "fuzz commands answers positions fed kinds inserts limits others bad".split(), b""))
     child = start("tests/fuzz.py", "--seed", "7", "--seconds", "600", *PROGRAM)
     child.stdout.close()
     same("a closed pipe of fuzz.py", (child.wait(SECONDS), child.stderr.read()), (141, b""))

@@ -57,7 +57,7 @@ pub fn numbered(seed: u64, number: u64) -> (&'static str, Vec<u8>) {
 }
 
 /// The bytes of `every`.
-const EVERY_LEN: u64 = 2 * 15 + 8 + 6 + 6 + 6 + 1;
+const EVERY_LEN: u64 = 2 * 15 + 6 + 6 + 6 + 6 + 1;
 
 impl Stream {
     pub fn new(seed: u64) -> Stream {
@@ -72,7 +72,7 @@ impl Stream {
         }
         let c = self.rng.below(2) as usize;
         let p = self.some_point(c);
-        self.split(c, 0, p);
+        self.insert(c, p);
         self.take_out(c, p);
         self.flip(c, 0, 1);
         self.locate(c, p);
@@ -91,8 +91,7 @@ impl Stream {
                     self.locate(c, p);
                 }
                 4 => {
-                    let t = self.rng.range(0, n);
-                    self.split(c, t, p);
+                    self.insert(c, p);
                 }
                 5 => {
                     self.take_out(c, p);
@@ -114,7 +113,11 @@ impl Stream {
         let (ox, oy) = [0, 1].map(|_| (s * self.rng.range(0, 65_535 / s) - self.rng.below(g + 1)).clamp(0, 65_535 - g)).into();
         let make = move |r: &mut Rng| point(ox + r.range(0, g), oy + r.range(0, g));
         for c in 0..2 {
-            let mut table: Vec<Tri> = (0..self.rng.range(0, 5)).map(|_| self.some_tri(make)).collect();
+            let mut table = Vec::new();
+            for _ in 0..self.rng.range(0, 5) {
+                let t = self.next_tri(&table, make);
+                table.push(t);
+            }
             if self.rng.chance(10) {
                 table.push([make(&mut self.rng), make(&mut self.rng), make(&mut self.rng)]);
             }
@@ -185,7 +188,7 @@ impl Stream {
                     self.load(c);
                 }
                 3 => {
-                    self.split(c, a, point(b, d));
+                    self.insert(c, point(a, b));
                 }
                 4 => {
                     self.take_out(c, point(a, b));
@@ -226,18 +229,26 @@ impl Stream {
             }
             _ => {
                 let (command, chart) = (self.rng.range(2, 6) as u8, self.rng.range(2, 255) as u8);
-                self.bytes.extend([command, chart, 1, 0, 1, 0, 1, 0]);
+                self.bytes.extend([command, chart, 1, 0, 1, 0]);
                 self.overlay();
             }
         }
     }
 
-    /// Some 512 triangles that wait, and splits of as many.
+    /// Some 512 triangles that wait, and inserts into as many: one, now and then one beyond its side ab, and copies of it
+    /// or of one elsewhere.
     fn waiting_table(&mut self) {
-        let t = self.some_tri(|r| point(4 * r.below(9), 4 * r.below(5)));
-        let n = self.rng.pick(&[508, 509, 510, 511, 512, 513, 514]);
-        for _ in 0..n {
-            self.tri(&t);
+        let t = self.some_tri(|r| point(4 * r.below(9), 4 + 4 * r.below(5)));
+        let beyond = [t[1], t[0], point(t[0].x + t[1].x - t[2].x, t[0].y + t[1].y - t[2].y)];
+        let faces = doubled_area(&beyond) > 0 && self.rng.chance(60);
+        let copied = if self.rng.chance(25) { t } else { [point(65_000, 9), point(65_001, 9), point(65_000, 10)] };
+        let n = self.rng.pick(&[508, 509, 510, 510, 510, 511, 511, 512, 513, 514]);
+        for k in 0..n {
+            self.tri(match k {
+                3 => &t,
+                7 if faces => &beyond,
+                _ => &copied,
+            });
         }
         if n > 511 && self.rng.chance(30) {
             // one more that is faulty: it is dropped unseen
@@ -245,9 +256,9 @@ impl Stream {
         }
         let c = self.rng.below(2) as usize;
         self.load(c);
-        for _ in 0..3 {
-            let (i, p) = (self.rng.range(505, 514), self.point_of(&t));
-            self.split(c, i, p);
+        for _ in 0..7 {
+            let p = self.point_by(&t);
+            self.insert(c, p);
         }
     }
 
@@ -276,7 +287,7 @@ impl Stream {
         }
         self.flip(c, 0, 1);
         let p = self.point_of(&table[1]);
-        self.split(c, 1, p);
+        self.insert(c, p);
         self.take_out(c, p);
         self.locate(c, p);
         self.overlay();

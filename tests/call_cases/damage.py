@@ -151,8 +151,7 @@ def stale(s):
         s.entries(len(table), entries)
         s.read((1, 1), shows=f"stale: {shows}", number=0)
         s.edit(f"stale: {shows}", 3)
-    others = [("split", n, 0, 0), ("flip", 0, n), ("split", 0, 0, 0), ("take_out", 1, 1), ("flip", 0, 0)]
-    for edit in [*others, ("side_split", n, 0, 0), ("side_split", 0, 0, 0)]:
+    for edit in [("insert", 65535, 65535), ("flip", 0, n), ("insert", 0, 0), ("take_out", 1, 1), ("flip", 0, 0)]:
         s.call("3 before the others", 3, *edit)
     # the same entries, and another table
     s.table(PARTS, number=0)

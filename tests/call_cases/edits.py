@@ -1,118 +1,84 @@
-"""Each refusal of each edit, every way in which the triangles of an edit can be turned, who takes part in a side split, edits after
-which a table has 16,384 and 16,385 entries, and lists of edits, on meshes and on tables that overlap."""
+"""Each refusal of each edit, every way in which the triangles of an edit can be turned, which triangle an insert takes and which takes
+part beside it, edits after which a table has 16,384 and 16,385 entries, and lists of edits, on meshes and on tables that overlap."""
 
 import tables
-from tables import U, V, corners, inside, side_parts, side_point, turned
+from tables import U, V, corners, side_parts, side_point, turned
 
 from .script import INNER, PARTS, SOMEWHERE, listed
 
-# points of U and what a split there gives
+# points by where they are in U: some inside are beside a side, some on sides beside an end, some outside by one
 POINTS = {
-    (0, 0): 7,
-    (65535, 0): 7,
-    (20000, 0): 7,
-    (0, 20000): 7,
-    (32768, 32767): 7,
-    (32768, 32768): 7,
-    (65535, 65535): 7,
-    (32767, 32767): 0,
-    (1, 1): 0,
-    (65533, 1): 0,
-    (10000, 10000): 0,
+    "inside": [INNER, (1, 1), (65533, 1), (32767, 32767)],
+    "on a side": [(20000, 0), (1, 0), (65534, 0), (0, 1), (0, 45000), (0, 65534), (32768, 32767), (1, 65534), (65534, 1)],
+    "at a corner": [(0, 0), (65535, 0), (0, 65535)],
+    "in no triangle": [(32768, 32768), (65535, 1), (20000, 65535), (65535, 65535)],
 }
-
-
-def splits(s):
-    for p, number in POINTS.items():
-        s.table([U, V], number=0)
-        s.call("a point inside" if number == 0 else "a point not inside", number, "split", 0, *p)
-        s.call("", None, "split", 2 if number == 0 else 0, 5, 5)
-    s.table([], number=0)
-    s.call("no triangle", 6, "split", 0, 1, 1)
-    s.table([V, U, U], number=0)
-    for t in (3, 4, 65535, 65537, 2**32 - 1):
-        s.call("a triangle that is not there", 6, "split", t, 1, 1)
-    s.call("the last of three", 0, "split", 2, 1, 1)
-    s.call("a repeated triangle", 0, "split", 1, 2, 2)
-    s.call("one of its parts", 0, "split", 5, 100, 101)
-    # the most triangles
-    for n in (509, 510, 511, 512):
-        s.table([U] * n, number=0)
-        if n == 512:
-            s.call("6 before 10", 6, "split", 512, 1, 1)
-            s.call("7 before 10", 7, "split", 511, 0, 0)
-        fits = n + 2 <= 512
-        s.call(f"split of {n}", 0 if fits else 10, "split", n - 1, *INNER)
-        if fits:
-            s.call(f"split of {n + 2}", 10, "split", 0, *INNER)
-    # 511 triangles with 16,352 entries and some marks: a split would list more
-    s.table([(0, 0, 21845, 0, 0, 21845)] * 511, number=0)
-    s.call("10 before 11", 10, "split", 0, 7001, 7000)
-
-
-# points of U and what a side split there gives: on its sides, beside their ends, at corners, inside, outside by one
-SIDE_POINTS = {
-    (20000, 0): 0,
-    (1, 0): 0,
-    (65534, 0): 0,
-    (0, 1): 0,
-    (0, 45000): 0,
-    (0, 65534): 0,
-    (32768, 32767): 0,
-    (1, 65534): 0,
-    (65534, 1): 0,
-    (0, 0): 13,
-    (65535, 0): 13,
-    (0, 65535): 13,
-    (1, 1): 13,
-    (32767, 32767): 13,
-    (32768, 32768): 13,
-    (65535, 1): 13,
-    (20000, 65535): 13,
-    (65535, 65535): 13,
-}
-# triangles and points of no side of them: beside a side with D = 1 and D = -1, and on the line of one, near its ends and far from them
+GIVES = {"inside": 0, "on a side": 0, "at a corner": 14, "in no triangle": 7}
+# triangles, and points beside a side with D = 1 and D = -1, and on the line of a side, near its ends and far from them
 NEARLY = {
-    (1000, 1000, 1009, 1007, 1000, 1020): [(1005, 1004), (1004, 1003), (1018, 1014), (991, 993)],
-    (0, 0, 65535, 65534, 0, 65535): [(1, 1), (65534, 65533), (32768, 32767), (32767, 32767)],
-    (40000, 40000, 50000, 50000, 40000, 60000): [(0, 0), (39999, 39999), (50001, 50001), (65535, 65535), (40000, 60001)],
+    (1000, 1000, 1009, 1007, 1000, 1020): {(1005, 1004): 0, (1004, 1003): 7, (1018, 1014): 7, (991, 993): 7},
+    (0, 0, 65535, 65534, 0, 65535): {(1, 1): 0, (65534, 65533): 7, (32768, 32767): 7, (32767, 32767): 0},
+    (40000, 40000, 50000, 50000, 40000, 60000): dict.fromkeys([(0, 0), (39999, 39999), (50001, 50001), (65535, 65535), (40000, 60001)], 7),
 }
 # side ab is from (100, 40) to (0, 40), and AT is on it; two on the other side of it, and one in its direction
 ABOVE, AT = (100, 40, 0, 40, 30, 5), (40, 40)
 BELOW, BELOW_TOO, ALONG = (0, 40, 100, 40, 60, 90), (0, 40, 100, 40, 50, 70), (100, 40, 0, 40, 70, 11)
-# AT on a longer side, on a shorter one, at the end of one, and inside: none of them is cut
+# AT on a longer side, on a shorter one, at the end of one, and inside
 LONGER, SHORTER, ENDING, AROUND = (0, 40, 120, 40, 60, 90), (20, 40, 80, 40, 60, 90), (40, 40, 100, 40, 60, 90), (0, 30, 90, 35, 40, 80)
 # of few entries, far from the others
 TINY = (65000, 9, 65001, 9, 65000, 10)
 
 
-def side_splits(s):
-    for p, number in SIDE_POINTS.items():
-        # V is U seen from the other end of the grid
-        q = tuple(65535 - c for c in p)
-        for table, t, at in (([U], 0, p), ([U, V], 0, p), ([V, V, U], 2, p), ([U, V], 1, q)):
-            s.table(table, number=0)
-            s.call("a point on a side" if number == 0 else "a point on no side", number, "side_split", t, *at)
+def inserts(s):
+    for place, points in POINTS.items():
+        for p in points:
+            # V is U seen from the other end of the grid
+            q = tuple(65535 - c for c in p)
+            for table, at in (([U], p), ([V], q), ([U, U], p), ([turned(V, 1), V, V], q)):
+                s.table(table, number=0)
+                s.call(place, GIVES[place], "insert", *at)
+            # each point is in one of them or in both
+            for table in ([U, V], [V, U]):
+                s.table(table, number=0)
+                s.call("U and V", 14 if place == "at a corner" or q == (0, 0) else 0, "insert", *p)
     for t, points in NEARLY.items():
         for k in range(3):
-            s.table([turned(t, k)], number=0)
-            for p in points:
-                s.call("a point nearly on a side", 13, "side_split", 0, *p)
+            for p, number in points.items():
+                s.table([turned(t, k)], number=0)
+                s.call("nearly on a side", number, "insert", *p)
     s.table([], number=0)
-    s.call("no triangle", 6, "side_split", 0, 1, 0)
+    s.call("no triangle", 7, "insert", 1, 0)
     s.table([V, U, U], number=0)
-    for t in (3, 4, 65535, 65537, 2**32 - 1):
-        s.call("a triangle that is not there", 6, "side_split", t, 20000, 0)
-    s.call("6 before 13", 6, "side_split", 3, 5, 5)
-    s.call("the last of three", 0, "side_split", 2, 20000, 0)
-    s.call("its other half", 0, "side_split", 3, 20001, 0)
+    s.call("the second of three", 0, "insert", 1, 1)
+    s.call("the same again", 14, "insert", 1, 1)
+    s.call("one of its parts", 0, "insert", 100, 101)
+    lowest(s)
     neighbours(s)
-    lists_of_side_splits(s)
+    lists_of_inserts(s)
     most_triangles(s)
 
 
+def lowest(s):
+    """The triangle that is taken, where others hold the point too, at another position."""
+    charts = {
+        "a corner of the lowest, inside another": ([ENDING, AROUND, ABOVE], 14),
+        "a corner of the lowest, on a side of others": ([turned(ENDING, 1), ABOVE, BELOW], 14),
+        "on a side of the lowest, inside another": ([SHORTER, AROUND, AROUND], 0),
+        "on a side of the lowest, at a corner of another": ([ABOVE, ENDING], 0),
+        "inside the lowest, on a side of others": ([AROUND, ABOVE, BELOW], 0),
+        "inside the lowest, at a corner of another": ([turned(AROUND, 2), ENDING], 0),
+        "inside several": ([AROUND, turned(AROUND, 1), AROUND], 0),
+    }
+    for shows, (table, number) in charts.items():
+        for before in ([], [TINY, (0, 41, 100, 41, 60, 91)]):
+            s.table(before + table, number=0)
+            s.call(shows, number, "insert", *AT)
+            s.measure(number=0)
+            s.call("the same again", 14, "insert", *AT)
+
+
 def neighbours(s):
-    """The triangles on the other side, in every rotation, with lower and higher numbers, and those that stay as they are."""
+    """The triangles on the other side, in every rotation, and those that stay as they are."""
     t = (12, 24, 24, 26, 16, 38)
     far = [(20, 7), (40, 45), (3, 29)]
     for k in range(3):
@@ -120,14 +86,12 @@ def neighbours(s):
         for i in range(3):
             for j in range(3):
                 one, other = turned(t, i), turned(b + a + far[k], j)
-                for lower in (False, True):
-                    s.table([U, other, one, U] if lower else [U, one, U, other], number=0)
-                    shows = f"side {(k - i) % 3} facing {-j % 3}" + (" lower" if lower else "")
-                    s.call(shows, 0, "side_split", 2 if lower else 1, *side_point(t, k, 1))
+                s.table([TINY, one, U, other, other], number=0)
+                s.call(f"side {(k - i) % 3} facing {-j % 3}", 0, "insert", *side_point(t, k, 1))
     charts = {
         "no neighbour": [ABOVE],
-        "a copy of t": [ABOVE, ABOVE, BELOW],
-        "copies of t alone": [ABOVE, turned(ABOVE, 1), turned(ABOVE, 2)],
+        "a copy of it": [ABOVE, ABOVE, BELOW],
+        "copies of it alone": [ABOVE, turned(ABOVE, 1), turned(ABOVE, 2)],
         "the lowest of two": [ABOVE, BELOW_TOO, BELOW],
         "the lowest of two, another way": [ABOVE, BELOW, BELOW_TOO],
         "a neighbour twice": [ABOVE, turned(BELOW, 1), BELOW],
@@ -141,63 +105,56 @@ def neighbours(s):
         "a corner in common": [ABOVE, (100, 40, 120, 40, 110, 90), (0, 40, 10, 60, 5, 90)],
     }
     for shows, table in charts.items():
-        # first as it stands, then with t last, then by each of the others that the point is on a side of
-        s.table(table, number=0)
-        s.call(shows, 0, "side_split", 0, *AT)
-        s.measure(number=0)
-        s.table(table[1:] + table[:1], number=0)
-        s.call(shows, 0, "side_split", len(table) - 1, *AT)
-        for i, u in enumerate(table):
-            s.table(table, number=0)
-            s.call(shows, 13 if tables.side_of(u, AT) is None else 0, "side_split", i, *AT)
-    s.table([BELOW, ABOVE, BELOW_TOO, ABOVE], number=0)
-    for t in (1, 3):
-        s.call("one after another", 0, "side_split", t, *AT)
-    for t in range(8):
-        s.call("a corner by now", 13, "side_split", t, *AT)
+        # first as it stands, then with each of the others as the lowest
+        for k in range(len(table)):
+            s.table(table[k:] + table[:k], number=0)
+            s.call(shows, 14 if table[k] == ENDING else 0, "insert", *AT)
+            s.measure(number=0)
 
 
-def lists_of_side_splits(s):
-    """Side splits of what side splits made, and with flips and take-outs."""
+def lists_of_inserts(s):
+    """Inserts on the sides of what inserts made, and with flips and take-outs."""
     square = [(0, 0, 64, 0, 0, 64), (64, 64, 0, 64, 64, 0)]
     s.table(square, number=0)
-    s.call("to be followed", 0, "side_split", 0, 24, 40)
-    s.call("a side that it made", 0, "side_split", 2, 12, 20)
-    s.call("a border", 0, "side_split", 1, 33, 64)
-    s.call("an inner split after it", 0, "split", 0, 30, 30)
+    s.call("to be followed", 0, "insert", 24, 40)
+    s.call("a side that it made", 0, "insert", 12, 20)
+    s.call("a border", 0, "insert", 33, 64)
+    s.call("inside after it", 0, "insert", 30, 30)
     s.call("a corner on the border", 8, "take_out", 33, 64)
     s.measure(number=0)
     # with a side of the new point flipped, three triangles are around it
     s.table(square, number=0)
-    s.call("to be taken out", 0, "side_split", 0, 24, 40)
+    s.call("to be taken out", 0, "insert", 24, 40)
     s.call("a corner of four", 8, "take_out", 24, 40)
     s.call("a side of the new point", 0, "flip", 0, 3)
-    s.call("after a side split and a flip", 0, "take_out", 24, 40)
-    s.call("on what is left", 0, "side_split", 1, 12, 12)
+    s.call("after an insert and a flip", 0, "take_out", 24, 40)
+    s.call("on what is left", 0, "insert", 12, 12)
 
 
 def most_triangles(s):
-    """509 to 512 triangles, with and without a neighbour, and more entries than there may be."""
+    """509 to 512 triangles, inserts that add one and two, and more entries than there may be."""
     for n in (509, 510, 511, 512):
-        for beside in (False, True):
-            s.table([BELOW if beside else TINY] + [TINY] * (n - 2) + [ABOVE], number=0)
+        for shows, p, beside in (("inside", (40, 39), TINY), ("alone", AT, TINY), ("and a neighbour", AT, BELOW)):
+            s.table([TINY] * (n - 2) + [ABOVE, beside], number=0)
             if n == 512:
-                s.call("6 before 10", 6, "side_split", 512, *AT)
-                s.call("13 before 10", 13, "side_split", 511, 40, 39)
-                s.call("13 before 10", 13, "side_split", 511, 100, 40)
-            fits = n + 1 + beside <= 512
-            s.call(f"{n} and a neighbour" if beside else f"{n} alone", 0 if fits else 10, "side_split", n - 1, *AT)
-            if fits:
-                # the half at its place has the same neighbours
-                fits = n + 2 + 2 * beside <= 512
-                s.call("once more", 0 if fits else 10, "side_split", n - 1, 60, 40)
+                s.call("7 before 10", 7, "insert", 400, 40)
+                s.call("14 before 10", 14, "insert", 100, 40)
+            fits = n + (1 if shows == "alone" else 2) <= 512
+            s.call(f"{n} {shows}", 0 if fits else 10, "insert", *p)
+            s.call("the same again", 14 if fits else 10, "insert", *p)
+        s.table([U] * n, number=0)
+        s.call(f"{n} copies", 0 if n + 2 <= 512 else 10, "insert", *INNER)
     # a new side through many copies
     s.table([U] * 300, number=0)
-    s.call("13 before 11", 13, "side_split", 0, 1, 1)
-    s.call("many copies", 11, "side_split", 299, 20000, 0)
+    s.call("7 before 11", 7, "insert", 65535, 65535)
+    s.call("14 before 11", 14, "insert", 0, 0)
+    s.call("many copies", 11, "insert", 20000, 0)
+    # 511 triangles with 16,352 entries and some marks: an insert would list more
+    s.table([(0, 0, 21845, 0, 0, 21845)] * 511, number=0)
+    s.call("10 before 11", 10, "insert", 7001, 7000)
     for table in ([U] * 512, [U] * 510 + [V]):
         s.table(table, number=0)
-        s.call("10 before 11", 10, "side_split", 0, 32768, 32767)
+        s.call("10 before 11", 10, "insert", 32768, 32767)
 
 
 def take_outs(s):
@@ -233,9 +190,9 @@ def take_outs(s):
     s.table([U, U] + around + [U], number=0)
     s.call("among overlaps", 0, "take_out", *INNER)
     s.call("a corner of four", 8, "take_out", 0, 0)
-    # split, take out: the table is as it was
+    # insert, take out: the table is as it was
     s.table([V, U], number=0)
-    s.call("split to be taken out", 0, "split", 1, *INNER)
+    s.call("to be taken out", 0, "insert", *INNER)
     s.call("taken out again", 0, "take_out", *INNER)
 
 
@@ -279,9 +236,9 @@ def flips(s):
 # ---- the most entries
 
 
-def split_drawn(rng, base):
+def inside_drawn(rng, base):
     p = tuple(sum(c) // 3 for c in zip(*corners(base[0])))
-    return base, tables.split(base, 0, p) if inside(base[0], p) else None, ("split", 0, *p)
+    return base, tables.insert(base, p) if tables.inside(base[0], p) else None, ("insert", *p)
 
 
 def flip_drawn(rng, base):
@@ -291,21 +248,21 @@ def flip_drawn(rng, base):
     return base, tables.flip(base, 0, 1) if good else None, ("flip", 0, 1)
 
 
-def side_split_drawn(rng, base, beside=False):
-    """Of the first triangle, at a point whose distances to the ends of its side are 1 to 3 times the same."""
+def on_side_drawn(rng, base, beside=False):
+    """Into the first triangle, at a point whose distances to the ends of its side are 1 to 3 times the same."""
     p, (dx, dy), c, d = tables.anywhere(rng), (rng.randint(-9000, 9000) for _ in "xy"), tables.anywhere(rng), tables.anywhere(rng)
     a, b = ((p[0] + n * dx, p[1] + n * dy) for n in (-rng.randint(1, 3), rng.randint(1, 3)))
     base[:1] = [a + b + c, b + a + d] if beside else [a + b + c]
     good = all(0 <= v <= 65535 for v in a + b) and min(map(tables.orientation, base[: 1 + beside])) > 0
-    return base, tables.side_split(base, 0, p) if good else None, ("side_split", 0, *p)
+    return base, tables.insert(base, p) if good else None, ("insert", *p)
 
 
 # edits of drawn triangles, by what they show
 DRAWN = {
-    "split": split_drawn,
+    "insert inside": inside_drawn,
+    "insert on a side alone": on_side_drawn,
+    "insert on a side with a neighbour": lambda rng, base: on_side_drawn(rng, base, beside=True),
     "flip": flip_drawn,
-    "side_split": side_split_drawn,
-    "side_split and a neighbour": lambda rng, base: side_split_drawn(rng, base, beside=True),
 }
 
 
@@ -357,18 +314,17 @@ def full(s):
 STARTS = {"UV": 2, "mesh": 60, "soup": 6, "borders": 6, "repeated": 12, "lattice": 40, "beside": 12, "nearly full": 508}
 
 
-def on_side(rng, table):
-    """A triangle and a grid point between the ends of one of its sides, where there is one; now and then an end, or a point beside
-    them, or one of another triangle."""
-    sides = [(i, k) for i in range(len(table)) for k in range(3) if side_parts(table[i], k) > 1]
-    i, k = rng.choice(sides) if sides else (rng.randrange(len(table)), rng.randrange(3))
-    t = table[i]
+def new_point(rng, table):
+    """A point to insert: inside a triangle, or a grid point between the ends of a side, where there is one; now and then a corner, a
+    point beside these or on the line of a side, or one anywhere."""
+    sides = [(t, k) for t in table for k in range(3) if side_parts(t, k) > 1]
+    t, k = rng.choice(sides) if sides else (rng.choice(table), rng.randrange(3))
     parts = side_parts(t, k)
-    p = side_point(t, k, rng.choice([1, parts - 1, parts // 2, rng.randrange(parts)]))
+    on_side = side_point(t, k, rng.choice([1, parts - 1, parts // 2, rng.randrange(parts)]))
     beyond = side_point(t, k, rng.choice([-1, parts + 1]))
-    others = [side_point(t, k, 0), tables.near(rng, p, 1), tuple(sum(c) // 3 for c in zip(*corners(t))), tables.near(rng, beyond, 0)]
-    p = rng.choice([p] * 12 + others)
-    return rng.choice([i] * 8 + [rng.randrange(len(table)), len(table)]), p
+    middle = tuple(sum(c) // 3 for c in zip(*corners(rng.choice([t, rng.choice(table)]))))
+    others = [side_point(t, k, 0), tables.near(rng, on_side, 1), tables.near(rng, middle, 50), tables.near(rng, beyond, 0), tables.anywhere(rng)]
+    return rng.choice([on_side] * 8 + [middle] * 6 + others)
 
 
 def start(rng, name):
@@ -389,67 +345,60 @@ def drawn_edits(s, name):
     s.table(table, number=0)
     points = []
     for _ in range(30):
-        kind = rng.choice(["split"] * 4 + ["flip"] * 4 + ["take_out"] * 2 + ["side_split"] * 5)
-        if kind == "side_split":
-            i, p = on_side(rng, table)
-            operands, new = (i, *p), tables.side_split(table, i, p) if i < len(table) else None
-        elif kind == "split":
-            i = rng.randrange(len(table))
-            a, b, c = corners(table[i])
-            p = tuple((x + y + z) // 3 for x, y, z in zip(a, b, c))
-            p = rng.choice([p, p, p, tables.near(rng, p, 50), tuple((x + y) // 2 for x, y in zip(a, b)), a])
-            i = rng.choice([i] * 9 + [len(table)])
-            operands, new = (i, *p), tables.split(table, i, p) if i < len(table) and inside(table[i], p) else None
+        kind = rng.choice(["insert"] * 9 + ["flip"] * 4 + ["take_out"] * 2)
+        shows = f"drawn on {name}"
+        if kind == "insert":
+            operands = new_point(rng, table)
+            shows += "; " + tables.insert_place(table, operands)
         elif kind == "flip":
             i = rng.randrange(len(table))
             beside = [j for j in range(len(table)) if tables.sides_shared(table[i], table[j])]
             j = rng.choice(beside * 3 + [rng.randrange(len(table)), len(table)])
-            operands, new = (i, j), tables.flip(table, i, j) if j < len(table) else None
+            operands = (i, j)
         else:
-            p = rng.choice(points[-3:] * 2 + [rng.choice(corners(rng.choice(table)))])
-            operands, new = p, tables.take_out(table, p)
-        s.call(f"drawn on {name}", None, kind, *operands)
+            operands = rng.choice(points[-3:] * 2 + [rng.choice(corners(rng.choice(table)))])
+        s.call(shows, None, kind, *operands)
+        new = tables.edited(kind, table, operands)
         if new and tables.entries_of(new):
             table = new
-            points += [operands[1:]] * (kind in ("split", "side_split"))
+            points += [operands] * (kind == "insert")
     s.read(tables.anywhere(rng), rng.choice(corners(table[0])))
     s.measure()
 
 
 # the numbers that each edit can give, and what each is made for
-WANTED = [f"split {n}" for n in (0, 1, 2, 3, 6, 7, 10, 11)] + [f"take_out {n}" for n in (0, 1, 2, 3, 8)]
-WANTED += [f"flip {n}" for n in (0, 1, 2, 3, 6, 9, 11)] + [f"side_split {n}" for n in (0, 1, 2, 3, 6, 10, 11, 13)]
-WANTED += [f"split: split of {n}" for n in (509, 510, 511, 512)]
+WANTED = [f"insert {n}" for n in (0, 1, 2, 3, 7, 10, 11, 14)] + [f"take_out {n}" for n in (0, 1, 2, 3, 8)]
+WANTED += [f"flip {n}" for n in (0, 1, 2, 3, 6, 9, 11)]
+WANTED += [f"insert: {place}" for place in POINTS] + [f"insert: side {i} facing {j}" for i in range(3) for j in range(3)]
+WANTED += [f"insert: {n} {what}" for n in (509, 510, 511, 512) for what in ("inside", "alone", "and a neighbour", "copies")]
+WANTED += [f"insert: {n} entries {place}" for n in (16384, 16385) for place in tables.PLACES if place != "at a corner"]
 WANTED += [f"take_out: corners {i} {j} {k}{o}" for i in range(3) for j in range(3) for k in range(3) for o in ("", " swapped")]
-WANTED += [f"flip: sides {i} {j}" for i in range(3) for j in range(3)]
-WANTED += [f"{edit} of 16384" for edit in ("split", "side_split", "flip")]
-WANTED += [f"{edit}: {n} entries" for edit in ("split", "side_split", "flip") for n in (16384, 16385)]
-WANTED += [f"side_split: {n} entries and a neighbour" for n in (16384, 16385)]
-WANTED += [f"side_split: {n} {what}" for n in (509, 510, 511, 512) for what in ("alone", "and a neighbour")]
-WANTED += [f"side_split: side {i} facing {j}{lower}" for i in range(3) for j in range(3) for lower in ("", " lower")]
+WANTED += [f"flip: sides {i} {j}" for i in range(3) for j in range(3)] + ["flip: 16384 entries", "flip: 16385 entries"]
+WANTED += ["insert of 16384", "flip of 16384"]
 WANTED += listed(
-    """side_split: a point on a side; side_split: a point on no side; side_split: a point nearly on a side; side_split: no triangle;
-    side_split: a triangle that is not there;
-    side_split: the last of three; side_split: its other half; side_split: 6 before 13; side_split: 6 before 10; side_split: 13 before 10;
-    side_split: 13 before 11; side_split: 10 before 11; side_split: many copies; side_split: once more; side_split: no neighbour;
-    side_split: a copy of t; side_split: copies of t alone; side_split: the lowest of two; side_split: the lowest of two, another way;
-    side_split: a neighbour twice; side_split: the side in the same direction; side_split: the side in the same direction alone;
-    side_split: a longer side; side_split: a shorter side; side_split: a side that ends there; side_split: a triangle around;
-    side_split: others before the neighbour; side_split: a corner in common; side_split: one after another; side_split: a corner by now;
-    side_split: a side that it made; side_split: a border; side_split: on what is left; take_out: after a side split and a flip;
-    drawn side_split 0; drawn side_split 6; drawn side_split 13; drawn side_split of one; drawn side_split of two"""
+    """insert: U and V; insert: nearly on a side; insert: no triangle; insert: the second of three; insert: the same again;
+    insert: one of its parts; insert: a corner of the lowest, inside another; insert: a corner of the lowest, on a side of others;
+    insert: on a side of the lowest, inside another; insert: on a side of the lowest, at a corner of another;
+    insert: inside the lowest, on a side of others; insert: inside the lowest, at a corner of another; insert: inside several;
+    insert: no neighbour; insert: a copy of it; insert: copies of it alone; insert: the lowest of two;
+    insert: the lowest of two, another way; insert: a neighbour twice; insert: the side in the same direction;
+    insert: the side in the same direction alone; insert: a longer side; insert: a shorter side; insert: a side that ends there;
+    insert: a triangle around; insert: others before the neighbour; insert: a corner in common; insert: a side that it made;
+    insert: a border; insert: inside after it; insert: on what is left; insert: 7 before 10; insert: 14 before 10;
+    insert: 7 before 11; insert: 14 before 11; insert: 10 before 11; insert: many copies; take_out: after an insert and a flip"""
 )
+# drawn inserts, by number and place, and the other drawn edits
+WANTED += [f"drawn insert 0 {place}" for place in tables.PLACES if place != "at a corner"]
+WANTED += listed("drawn insert 7 nowhere; drawn insert 14 at a corner; drawn insert 10; drawn insert 11")
+WANTED += listed("drawn take_out 0; drawn take_out 8; drawn flip 0; drawn flip 6; drawn flip 9")
 WANTED += listed(
-    """split: a point inside; split: a point not inside; split: a triangle that is not there; split: no triangle;
-    split: the last of three; split: a repeated triangle; split: one of its parts; split: 6 before 10; split: 7 before 10;
-    split: 10 before 11; take_out: no triangle has the point; take_out: one triangle has the point;
+    """take_out: no triangle has the point; take_out: one triangle has the point;
     take_out: two triangles have the point; take_out: four triangles have the point; take_out: a triangle twice; take_out: a fan;
     take_out: a gap; take_out: three apart; take_out: no triangle; take_out: among overlaps; take_out: a corner of four;
     take_out: taken out again; flip: flipped back; flip: a triangle that is not there; flip: a triangle with itself;
     flip: no triangle; flip: no side shared; flip: a corner shared; flip: the side in the same direction; flip: a repeated triangle;
     flip: a part of the side shared; flip: the first with D = 0; flip: the second with D = 0; flip: the first with D < 0;
-    flip: the second with D < 0; flip: among overlaps; drawn split 0; drawn split 6; drawn split 7; drawn take_out 0;
-    drawn take_out 8; drawn flip 0; drawn flip 6; drawn flip 9"""
+    flip: the second with D < 0; flip: among overlaps"""
 )
 # what each edit is to be met on
 WANTED_OF_EDITS = [f"drawn on {name}" for name in STARTS]

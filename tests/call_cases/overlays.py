@@ -157,7 +157,7 @@ def drawn_overlays(s):
         s.overlay(first, second, "drawn overlay")
     for _ in range(3):
         s.on(rng.randrange(2))
-        s.call("", None, "split", rng.randrange(3), *tables.anywhere(rng))
+        s.call("", None, "insert", *tables.anywhere(rng))
         s.call("", None, "flip", rng.randrange(4), rng.randrange(4))
         s.overlay(shows="drawn overlay after edits")
     for _ in range(3):

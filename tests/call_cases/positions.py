@@ -1,5 +1,5 @@
-"""Locates, splits and side splits at each position of a triangle: in each of its rotations, with small and large numbers, and in
-cells that list triangles that do not hold the point, or that hold it at another position."""
+"""Locates and inserts at each position of a triangle: in each of its rotations, with small and large numbers, and in cells that list
+triangles that do not hold the point, or that hold it at another position."""
 
 import math
 
@@ -7,8 +7,9 @@ from tables import U, V, corners, middles, turned
 
 # triangles not alike in x and y, each with one that holds none of the points below; the middles of their sides are grid points
 TRIANGLES = [((12, 24, 24, 26, 16, 38), V), ((40000, 33000, 64000, 36000, 46000, 63000), U)]
-SIDES = (1, 2, 3)
 OUTSIDE = 7
+# what an insert gives, by position
+GIVES = [0, 0, 0, 0, 14, 14, 14, 7]
 
 
 def places(t):
@@ -30,11 +31,10 @@ def positions(s):
         for k in range(3):
             s.table([turned(t, k)], number=0)
             located(s, turned(t, k), 0)
-            for place, p in reversed(list(enumerate(places(turned(t, k))))):
-                s.call(f"position {place}", 7 if place else 0, "split", 0, *p)
             for place, p in enumerate(places(turned(t, k))):
-                s.table([turned(t, k), other], number=0)
-                s.call(f"position {place}", 0 if place in SIDES else 13, "side_split", 0, *p)
+                for table in ([turned(t, k)], [other, turned(t, k), t]):
+                    s.table(table, number=0)
+                    s.call(f"position {place}", GIVES[place], "insert", *p)
         s.table([turned(t, k) for k in (2, 0, 1)], number=0)
         located(s, turned(t, 2), 0)
         s.table([other, t, turned(t, 1)], number=0)
@@ -48,4 +48,4 @@ def positions(s):
 
 # what is to be met
 WANTED = [f"{t} position {place}" for t in range(3) for place in range(OUTSIDE)] + ["nowhere position 7"]
-WANTED += [f"{edit}: position {place}" for edit in ("split", "side_split") for place in range(OUTSIDE + 1)]
+WANTED += [f"insert: position {place}" for place in range(OUTSIDE + 1)]

@@ -16,13 +16,13 @@ NEEDED = [3072, 16384, 16384, 16384, 8192]
 LONGEST = [3100, 16500, 16500, 16500, 8300]
 WIDTHS = [65536, 2**32, 256, 65536, 65536]
 CALLS = {"load": 1, "locate": 2, "listing": 3, "sound": 4, "area": 5}
-CALLS |= {"split": 10, "take_out": 11, "flip": 12, "overlay": 13, "side_split": 14}
-EDITS = ["split", "side_split", "take_out", "flip"]
+CALLS |= {"insert": 10, "take_out": 11, "flip": 12, "overlay": 13}
+EDITS = ["insert", "take_out", "flip"]
 SOMEWHERE = [(0, 0), (32768, 32767), (32768, 32768), (65535, 0), (65535, 65535)]
-# U split at INNER, then V; and an edit of each kind that this table allows
+# U split at INNER, then V; and edits of each kind that this table allows, with inserts inside and on a side
 INNER = (10000, 10000)
 PARTS = [(0, 0, 65535, 0) + INNER, (65535, 0, 0, 65535) + INNER, (0, 65535, 0, 0) + INNER, V]
-ALLOWED = [("split", 3, 50000, 50000), ("take_out", *INNER), ("flip", 1, 3), ("side_split", 3, 32768, 32767)]
+ALLOWED = [("insert", 50000, 50000), ("take_out", *INNER), ("flip", 1, 3), ("insert", 32768, 32767)]
 
 
 def listed(text):
@@ -73,7 +73,7 @@ class Script:
         self.call(shows, number, "area")
 
     def edit(self, shows="", number=None):
-        """An edit of each kind, which are all refused or whose effect is not of interest."""
+        """Edits of each kind, which are all refused or whose effect is not of interest."""
         for edit in ALLOWED:
             self.call(shows, number, *edit)
 
@@ -135,9 +135,6 @@ def program_data(steps):
     for what, chart, *rest in steps:
         if what == "load":
             data.append(step(1, chart, a=len(rest[0])) + struct.pack(f"<{len(rest[0])}H", *rest[0]))
-        elif what in ("split", "side_split"):
-            t, x, y = rest[0]
-            data.append(step(CALLS[what], chart, b=t, c=x + 65536 * y))
         elif what == "overlay":
             data.append(step(13, chart, a=rest[0][0]))
         elif what in CALLS:

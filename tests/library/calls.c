@@ -113,17 +113,15 @@ static void changed(const char *word, size_t c, jird_changed r) {
 }
 
 static int change(const char *word, size_t c, const uint64_t *v, size_t n) {
-    uint16_t x = (uint16_t)v[n > 1 ? n - 2 : 0], y = (uint16_t)v[n > 0 ? n - 1 : 0];
+    uint16_t x = n == 2 ? (uint16_t)v[0] : 0, y = n == 2 ? (uint16_t)v[1] : 0;
     if (!strcmp(word, "load")) {
         for (size_t k = 0; k < n; k++) ((uint16_t *)(void *)buffers[GIVEN].bytes)[k] = (uint16_t)v[k];
         buffers[GIVEN].lent = n;
         lend(&buffers[GIVEN], 1);
         changed(word, c, jird_load(LIST(const uint16_t, GIVEN), CHART(c)));
         take_back(&buffers[GIVEN]);
-    } else if (!strcmp(word, "split") && n == 3) {
-        changed(word, c, jird_split(CHART(c), (size_t)v[0], x, y));
-    } else if (!strcmp(word, "side_split") && n == 3) {
-        changed(word, c, jird_side_split(CHART(c), (size_t)v[0], x, y));
+    } else if (!strcmp(word, "insert") && n == 2) {
+        changed(word, c, jird_insert(CHART(c), x, y));
     } else if (!strcmp(word, "take_out") && n == 2) {
         changed(word, c, jird_take_out(CHART(c), x, y));
     } else if (!strcmp(word, "flip") && n == 2) {
@@ -176,7 +174,7 @@ static void overlay(size_t c, size_t d) {
 }
 
 static int call(const char *word, size_t c, const uint64_t *v, size_t n) {
-    static const char *const changes[] = {"load", "split", "side_split", "take_out", "flip"};
+    static const char *const changes[] = {"load", "insert", "take_out", "flip"};
     int is_change = 0, known;
     if (!strcmp(word, "overlay")) {
         if (n != 1 || v[0] > 1) return 0;

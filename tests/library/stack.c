@@ -3,7 +3,7 @@
    is passed over that happens to hold one of them. tests/stack.py says the rest.
 
    Reads calls from standard input, a word for the call, then numbers:
-     load C k n1 .. nk    split C t x y    side_split C t x y    take_out C x y    flip C i j    locate C x y    cell C x y
+     load C k n1 .. nk    insert C x y    take_out C x y    flip C i j    locate C x y    cell C x y
      soundness C    doubled_area C    overlay A B
    and prints for each its word, its number, what a call that reads answers (locate the position), and the bytes of stack. */
 #include "jirdtungsten_charts.h"
@@ -18,7 +18,7 @@ enum { DEPTH = 4 << 20, LOADED = JIRD_TABLE_LENGTH + 8 };
 /* What the next call is made with, and what it answers. */
 static jird_chart charts[2], before[2];
 static uint16_t pairs[JIRD_PAIRS_LENGTH], given[LOADED];
-static size_t chart, other, length, a, b, c;
+static size_t chart, other, length, a, b;
 static uint64_t answer;
 static uint32_t number;
 
@@ -33,8 +33,7 @@ static void changed(jird_changed r) {
 #define CHART BUFFERS(charts[chart])
 #define X(n) (uint16_t)(n)
 static void load(void) { changed(jird_load(given, length, CHART)); }
-static void split(void) { changed(jird_split(CHART, a, X(b), X(c))); }
-static void side_split(void) { changed(jird_side_split(CHART, a, X(b), X(c))); }
+static void insert(void) { changed(jird_insert(CHART, X(a), X(b))); }
 static void take_out(void) { changed(jird_take_out(CHART, X(a), X(b))); }
 static void flip(void) { changed(jird_flip(CHART, a, b)); }
 static void locate(void) { jird_located r = jird_locate(CHART, X(a), X(b)); number = r.number, answer = r.position; }
@@ -51,9 +50,9 @@ static const struct {
     const char *word;
     void (*call)(void);
     size_t operands;
-} calls[] = {{"load", load, 0},         {"split", split, 3},   {"side_split", side_split, 3}, {"take_out", take_out, 2},
-             {"flip", flip, 2},         {"locate", locate, 2}, {"cell", cell, 2},
-             {"soundness", soundness, 0}, {"doubled_area", doubled_area, 0}, {"overlay", overlay, 0}};
+} calls[] = {{"load", load, 0},     {"insert", insert, 2}, {"take_out", take_out, 2},   {"flip", flip, 2},
+             {"locate", locate, 2}, {"cell", cell, 2},     {"soundness", soundness, 0}, {"doubled_area", doubled_area, 0},
+             {"overlay", overlay, 0}};
 enum { CALLS = sizeof calls / sizeof *calls };
 
 /* The bytes of a stack filled with a value that hold another after a call on it. */
@@ -91,7 +90,7 @@ static size_t read_number(void) {
 int main(void) {
     char word[32];
     while (scanf("%31s", word) == 1) {
-        size_t k = 0, bytes, *operands[3] = {&a, &b, &c};
+        size_t k = 0, bytes, *operands[2] = {&a, &b};
         while (k < CALLS && strcmp(word, calls[k].word)) k++;
         if (k == CALLS) return 1;
         chart = read_number();

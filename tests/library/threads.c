@@ -64,11 +64,11 @@ static void load_grid(Work *w, jird_chart *c) {
     add_changed(w, jird_chart_load(c, table, n));
 }
 
-/* A side split halfway between two corners of a drawn triangle; where that is no whole point, 13 refuses most. */
-static void split_side(Work *w) {
-    unsigned i = drawn(w, TRIANGLES), from = 2 * drawn(w, 3), to = (from + 2) % 6;
-    const uint16_t *t = &w->bed.table[6 * i];
-    add_changed(w, jird_chart_side_split(&w->bed, i, (uint16_t)((t[from] + t[to]) / 2), (uint16_t)((t[from + 1] + t[to + 1]) / 2)));
+/* An insert halfway between two corners of a drawn triangle: on the side where that is a whole point. */
+static void insert_on_side(Work *w) {
+    const uint16_t *t = &w->bed.table[6 * drawn(w, TRIANGLES)];
+    unsigned from = 2 * drawn(w, 3), to = (from + 2) % 6;
+    add_changed(w, jird_chart_insert(&w->bed, (uint16_t)((t[from] + t[to]) / 2), (uint16_t)((t[from + 1] + t[to + 1]) / 2)));
 }
 
 /* Edits at drawn places, some of which are refused, and what is read after each. */
@@ -80,10 +80,10 @@ static void edit(Work *w) {
         add_number(w, at.triangle);
         add_number(w, at.position);
         add(w, &w->bed.items[cell.start], cell.length * sizeof(uint16_t));
-        add_changed(w, jird_chart_split(&w->bed, at.triangle, (uint16_t)x, (uint16_t)y));
+        add_changed(w, jird_chart_insert(&w->bed, (uint16_t)x, (uint16_t)y));
         add_changed(w, jird_chart_flip(&w->bed, drawn(w, TRIANGLES), drawn(w, TRIANGLES)));
         if (k % 3 == 0) add_changed(w, jird_chart_take_out(&w->bed, (uint16_t)x, (uint16_t)y));
-        split_side(w);
+        insert_on_side(w);
         add_number(w, jird_chart_locate(w->shared, (uint16_t)x, (uint16_t)y).triangle);
     }
 }

@@ -36,8 +36,8 @@ allVerdicts = verdicts.Accepted ∷ map (λ r. verdicts.Refused r) rows
 abbrev changed : Verdict → Calls.Changed
 changed v = changedOf (record { verdict = v; triangles = 2; entries = 20 }) (chartOf (31 ∷ []) (32 ∷ []) (33 ∷ []) (34 ∷ []))
 
--- document 01's numbers, 0 to 12, document 02's 13, and the triangle beside 5
-changed-numbers-example : map (λ v. changed v .number) allVerdicts ≡ 0 ∷ 1 ∷ 2 ∷ 3 ∷ 4 ∷ 5 ∷ 6 ∷ 7 ∷ 8 ∷ 9 ∷ 10 ∷ 11 ∷ 12 ∷ 13 ∷ []
+-- document 01's numbers, 0 to 12, document 02's 14, and the triangle beside 5
+changed-numbers-example : map (λ v. changed v .number) allVerdicts ≡ 0 ∷ 1 ∷ 2 ∷ 3 ∷ 4 ∷ 5 ∷ 6 ∷ 7 ∷ 8 ∷ 9 ∷ 10 ∷ 11 ∷ 12 ∷ 14 ∷ []
 changed-numbers-example = refl
 
 changed-values-example : map (λ v. changed v .value) allVerdicts ≡ 0 ∷ 0 ∷ 0 ∷ 0 ∷ 0 ∷ 7 ∷ 0 ∷ 0 ∷ 0 ∷ 0 ∷ 0 ∷ 0 ∷ 0 ∷ 0 ∷ []

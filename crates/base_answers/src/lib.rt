@@ -59,13 +59,13 @@ pub fn refusal_number(r: Refusal) -> u32
         Refusal::BadLength => 4,
         Refusal::FaultyTriangle(_) => 5,
         Refusal::NoSuchTriangle => 6,
-        Refusal::NotInside => 7,
+        Refusal::NoHolder => 7,
         Refusal::NotThreeAround => 8,
         Refusal::NoFlip => 9,
         Refusal::TableFull => 10,
         Refusal::TooManyEntries => 11,
         Refusal::TooManyPairs => 12,
-        Refusal::NotOnSide => 13,
+        Refusal::AtCorner => 14,
     }
 }
 
@@ -80,13 +80,13 @@ pub fn refusal_value(r: Refusal) -> usize
         Refusal::BadLength => 0,
         Refusal::FaultyTriangle(i) => i,
         Refusal::NoSuchTriangle => 0,
-        Refusal::NotInside => 0,
+        Refusal::NoHolder => 0,
         Refusal::NotThreeAround => 0,
         Refusal::NoFlip => 0,
         Refusal::TableFull => 0,
         Refusal::TooManyEntries => 0,
         Refusal::TooManyPairs => 0,
-        Refusal::NotOnSide => 0,
+        Refusal::AtCorner => 0,
     }
 }
 

@@ -1,5 +1,5 @@
-// The public calls split, take-out, flip and side split of a chart. Each answers how it went and the counts that the chart has now; a refusal
-// leaves lists and counts as they were.
+// The public calls insert, take-out and flip of a chart. Each answers how it went and the counts that the chart has now; a refusal leaves
+// lists and counts as they were.
 
 mod chart_edit;
 
@@ -7,22 +7,21 @@ use base_answers::Changed;
 use edit_steps::Edit;
 use spec_plane::Point;
 ghost use mathlib.Core.Path.{_≡_};
-ghost use Rattle.spec_calls.specs.Calls.{splitCall, takeOutCall, flipCall, sideSplitCall};
+ghost use Rattle.spec_calls.specs.Calls.{insertCall, takeOutCall, flipCall};
 ghost use Rattle.spec_calls.specs.Lent.{given};
 ghost use Rattle.base_answers.specs.Outcomes.{left};
 
-// Split: triangle i at p.
-pub fn split(
+// Insert: of the point p.
+pub fn insert(
     table: &mut [u16],
     keys: &mut [u32],
     levels: &mut [u8],
     items: &mut [u16],
     triangles: usize,
     entries: usize,
-    i: usize,
     p: Point,
 ) -> Changed
-    ensures { λ r. ⌜ left table keys levels items r ≡ splitCall i p (given table keys levels items triangles entries) ⌝ }
+    ensures { λ r. ⌜ left table keys levels items r ≡ insertCall p (given table keys levels items triangles entries) ⌝ }
 {
     chart_edit::edit_chart(
         table,
@@ -31,7 +30,7 @@ pub fn split(
         items,
         triangles,
         entries,
-        Edit::Split(i, p),
+        Edit::Insert(p),
     )
 }
 
@@ -79,29 +78,5 @@ pub fn flip(
         triangles,
         entries,
         Edit::Flip(i, j),
-    )
-}
-
-// Side split: triangle i at p, which is on a side of it.
-pub fn side_split(
-    table: &mut [u16],
-    keys: &mut [u32],
-    levels: &mut [u8],
-    items: &mut [u16],
-    triangles: usize,
-    entries: usize,
-    i: usize,
-    p: Point,
-) -> Changed
-    ensures { λ r. ⌜ left table keys levels items r ≡ sideSplitCall i p (given table keys levels items triangles entries) ⌝ }
-{
-    chart_edit::edit_chart(
-        table,
-        keys,
-        levels,
-        items,
-        triangles,
-        entries,
-        Edit::SideSplit(i, p),
     )
 }

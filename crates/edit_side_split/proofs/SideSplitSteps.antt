@@ -6,22 +6,20 @@ use mathlib.Core.Option.{Option, none, some}
 use Prim.Native.Nat.{ℕ, _+_, _*_, _≤_, _<_}
 use native.Mathlib.Numerals.{add-one}
 use native.Mathlib.Omega.{arith}
-use borrow.Author.Tests.{lt-ltb, le-ltb, le-leb, lt-leb}
 use lib.ListN.{length, set}
 use Rattle.spec_plane.specs.declared.Point.{Point}
 use Rattle.spec_plane.specs.declared.Position.{Position}
 use Rattle.spec_plane.specs.declared.Position.the-variants.{Inside, OnAb, OnBc, OnCa, AtA, AtB, AtC, Outside}
-use Rattle.spec_plane.specs.Triangle.{Triangle, triangleOf, cornerAt, corners, rotated}
-use Rattle.spec_plane.specs.Position.{position}
-use Rattle.spec_charts.specs.Table.{numbersPerTriangle, maxTriangles, Table, triangleAt, tableOf}
-use Rattle.spec_charts.specs.declared.Refusal.the-variants.{NoSuchTriangle, TableFull, NotOnSide}
-use Rattle.spec_charts.specs.Refusals.{refused, done, refuseIf}
-use Rattle.spec_charts.specs.Edits.{triangle, Neighbour, neighbourFrom, sideFirst, sideSplitAt, sideSplitBoth, withinTable, sideSplitRow, sideSplitFirst, sideSplitTable}
-use Rattle.laws_charts.proofs.TableLaws.{tableOf-length, numbered-at}
+use Rattle.spec_plane.specs.Triangle.{Triangle, triangleOf, cornerAt, rotated}
+use Rattle.spec_charts.specs.Table.{numbersPerTriangle, maxTriangles, Table, tableOf}
+use Rattle.spec_charts.specs.declared.Refusal.the-variants.{TableFull}
+use Rattle.spec_charts.specs.Refusals.{refused, done}
+use Rattle.spec_charts.specs.Edits.{triangle, Neighbour, neighbourFrom, sideFirst, sideSplitAt, sideSplitBoth, withinTable, sideSplitRow}
+use Rattle.laws_charts.proofs.TableLaws.{tableOf-length}
+use Rattle.laws_charts.proofs.EditLaws.{within-full, within-fits}
 use Rattle.laws_charts.proofs.NeighbourLaws.{neighbour-found}
 use Rattle.laws_charts.proofs.SideSplitLaws.{sideSplitAt-length}
 use Rattle.edit_rows.proofs.RowLaws.{withRow, withRow-length, rows-append, rows-set}
-use Rattle.edit_rows.proofs.CopyLaws.{triangle-read}
 use Rattle.edit_sides.specs.Sharing.{RotationFound}
 use Rattle.edit_side_split.specs.Sides.{SideRotation}
 
@@ -78,16 +76,6 @@ row-split-next o₁ o₂ n j u p e₁ e₂ =
     let m : n + 2 ≡ n + 1 + 1 = omega arith in
     ap (tableOf o₂) m ∙ e₂ ∙ ap (λ l. sideSplitAt l j u p) e₁
 
--- ---- refusal 10
-
-within-full : (next : Table) → maxTriangles < length next → withinTable next ≡ refused TableFull
-unfolding withinTable refuseIf
-within-full next h = rw (lt-ltb maxTriangles (length next) h)
-
-within-done : (next : Table) → length next ≤ maxTriangles → withinTable next ≡ done next
-unfolding withinTable refuseIf
-within-done next h = rw (le-ltb maxTriangles (length next) h)
-
 -- ---- the triangle, and the one on the other side
 
 module _ (ns : List ℕ) (n i : ℕ) (t : Triangle) (p : Point) where
@@ -109,7 +97,7 @@ module _ (ns : List ℕ) (n i : ℕ) (t : Triangle) (p : Point) where
 
     -- done
     pub alone-made : n + 1 ≤ maxTriangles → sideSplitRow i t p (tableOf ns n) ≡ done half
-    alone-made h = alone ∙ within-done half (omega (arith, half-length))
+    alone-made h = alone ∙ within-fits half (omega (arith, half-length))
 
   module _ {u : Neighbour} (e : neighbourFrom t 0 (tableOf ns n) ≡ some u) where
     -- it is in the table
@@ -133,29 +121,4 @@ module _ (ns : List ℕ) (n i : ℕ) (t : Triangle) (p : Point) where
 
     -- done
     pub both-made : n + 2 ≤ maxTriangles → sideSplitRow i t p (tableOf ns n) ≡ done (sideSplitAt half (u .number) (u .rotation) p)
-    both-made h = both ∙ within-done whole (omega (arith, whole-length))
-
--- ---- side split
-
-module _ (ns : List ℕ) (n i : ℕ) (p : Point) where
-  -- refusal 6
-  pub side-beyond : n ≤ i → sideSplitTable i p (tableOf ns n) ≡ refused NoSuchTriangle
-  unfolding sideSplitTable refuseIf
-  side-beyond h = rw (tableOf-length ns n, le-leb n i h)
-
-  module _ (h : i < n) {s : List Point} (read : s ≡ corners (triangleAt ns i)) {k : ℕ}
-      (tried : RotationFound (sideFirst (position (triangleOf s) p) (triangleOf s)) s k) where
-    side-within : sideSplitTable i p (tableOf ns n)
-        ≡ sideSplitFirst i (sideFirst (position (triangleOf s) p) (triangleOf s)) p (tableOf ns n)
-    unfolding sideSplitTable refuseIf
-    side-within = rw (tableOf-length ns n, lt-leb n i h, numbered-at ns n i h, triangle-read (triangleAt ns i) read)
-
-    -- refusal 13
-    pub side-off : 3 ≤ k → sideSplitTable i p (tableOf ns n) ≡ refused NotOnSide
-    unfolding sideSplitFirst
-    side-off b = side-within ∙ ap (λ o. sideSplitFirst i o p (tableOf ns n)) (tried .absent b)
-
-    -- the triangle by its rotation
-    pub side-on : k < 3 → sideSplitTable i p (tableOf ns n) ≡ sideSplitRow i (triangleOf (rotated s k)) p (tableOf ns n)
-    unfolding sideSplitFirst
-    side-on b = side-within ∙ ap (λ o. sideSplitFirst i o p (tableOf ns n)) (tried .found b)
+    both-made h = both ∙ within-fits whole (omega (arith, whole-length))

@@ -14,13 +14,13 @@ ghost use mathlib.Core.Path.{_≡_};
 ghost use Prim.Native.Nat.{_≤_, _<_};
 ghost use Rattle.spec_plane.specs.Triangle.{triangleOf};
 ghost use Rattle.spec_charts.specs.Table.{maxTriangles, tableOf};
-ghost use Rattle.spec_charts.specs.Edits.{sideSplitRow, sideSplitTable};
+ghost use Rattle.spec_charts.specs.Edits.{sideSplitRow};
 ghost use Rattle.edit_rows.specs.Edited.{editedOutcome, editedCount};
 ghost use Rattle.edit_rows.specs.Workspace.{Workspace};
 ghost use Rattle.edit_side_split.specs.Sides.{SideRotation};
 
 // The number of the rotation with p on its side ab, by where p lies; 3 where p is on no side, or at an end of one.
-fn side_rotation(q: Position) -> usize
+pub fn side_rotation(q: Position) -> usize
     ensures { λ r. ⌜ SideRotation q r ⌝ }
 {
     match q {
@@ -66,21 +66,4 @@ pub fn side_split_row(
             Edited::Made(n + 2)
         }
     }
-}
-
-// Side split: triangle i at p.
-pub fn side_split_table(table: &[u16], n: usize, i: usize, p: Point, scratch: &mut [u16]) -> Edited
-    requires { ⌜ Workspace (now table) n (now scratch) ⌝ }
-    ensures { λ r. ⌜ editedOutcome r (now (scratch .exit)) ≡ sideSplitTable i p (tableOf (now (table .entry)) n) ⌝ }
-    ensures { λ r. ⌜ editedCount r ≤ maxTriangles ⌝ }
-{
-    if i >= n {
-        return Edited::Refused(Refusal::NoSuchTriangle);
-    }
-    let s = base_tables::triangle_at(table, i);
-    let k = side_rotation(base_positions::position_in(s, p));
-    if k >= 3 {
-        return Edited::Refused(Refusal::NotOnSide);
-    }
-    side_split_row(table, n, i, geometry::rotated(s, k), p, scratch)
 }

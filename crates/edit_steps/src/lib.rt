@@ -22,10 +22,9 @@ ghost use Rattle.edit_steps.specs.Edit.{eventOf};
 
 // An edit of a chart.
 pub enum Edit {
-    Split(usize, Point),
+    Insert(Point),
     TakeOut(Point),
     Flip(usize, usize),
-    SideSplit(usize, Point),
 }
 
 // A refusal, with the counts as they were.
@@ -46,10 +45,9 @@ pub fn edit_table(edit: Edit, table: &[u16], n: usize, scratch: &mut [u16]) -> E
     ensures { λ r. ⌜ editedCount r ≤ maxTriangles ⌝ }
 {
     match edit {
-        Edit::Split(i, p) => edit_split::split_table(table, n, i, p, scratch),
+        Edit::Insert(p) => edit_insert::insert_table(table, n, p, scratch),
         Edit::TakeOut(p) => edit_take_out::take_out_table(table, n, p, scratch),
         Edit::Flip(i, j) => edit_flip::flip_table(table, n, i, j, scratch),
-        Edit::SideSplit(i, p) => edit_side_split::side_split_table(table, n, i, p, scratch),
     }
 }
 

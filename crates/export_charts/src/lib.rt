@@ -5,7 +5,7 @@ use spec_plane::Point;
 ghost use mathlib.Core.Path.{_≡_};
 ghost use Prim.Native.Nat.{_+_};
 ghost use lib.ListN.{take, drop};
-ghost use Rattle.spec_calls.specs.Calls.{loadCall, splitCall, sideSplitCall, takeOutCall, flipCall, soundCall, areaCall, listingCall};
+ghost use Rattle.spec_calls.specs.Calls.{loadCall, insertCall, takeOutCall, flipCall, soundCall, areaCall, listingCall};
 ghost use Rattle.spec_calls.specs.Lent.{given};
 ghost use Rattle.call_locate.specs.Places.{placesCall, PartAt};
 ghost use Rattle.export_charts.specs.Answers.{changedNumbers, changedLeft, soundNumbers, areaNumbers};
@@ -68,42 +68,22 @@ pub extern "C" fn jird_load(
     changed_numbers(call_load::load(numbers, table, keys, levels, items, triangles, entries))
 }
 
-// Split: triangle i at (x,y).
+// Insert: of the point (x,y).
 #[no_mangle]
-pub extern "C" fn jird_split(
+pub extern "C" fn jird_insert(
     table: &mut [u16],
     keys: &mut [u32],
     levels: &mut [u8],
     items: &mut [u16],
     triangles: usize,
     entries: usize,
-    i: usize,
     x: u16,
     y: u16,
 ) -> JirdChanged
-    ensures { λ r. ⌜ changedLeft table keys levels items r ≡ splitCall i (record { x = x; y = y }) (given table keys levels items triangles entries) ⌝ }
+    ensures { λ r. ⌜ changedLeft table keys levels items r ≡ insertCall (record { x = x; y = y }) (given table keys levels items triangles entries) ⌝ }
 {
     let p = Point { x, y };
-    changed_numbers(call_edits::split(table, keys, levels, items, triangles, entries, i, p))
-}
-
-// Side split: triangle i at (x,y), which is on a side of it.
-#[no_mangle]
-pub extern "C" fn jird_side_split(
-    table: &mut [u16],
-    keys: &mut [u32],
-    levels: &mut [u8],
-    items: &mut [u16],
-    triangles: usize,
-    entries: usize,
-    i: usize,
-    x: u16,
-    y: u16,
-) -> JirdChanged
-    ensures { λ r. ⌜ changedLeft table keys levels items r ≡ sideSplitCall i (record { x = x; y = y }) (given table keys levels items triangles entries) ⌝ }
-{
-    let p = Point { x, y };
-    changed_numbers(call_edits::side_split(table, keys, levels, items, triangles, entries, i, p))
+    changed_numbers(call_edits::insert(table, keys, levels, items, triangles, entries, p))
 }
 
 // Take-out: of the point (x,y).

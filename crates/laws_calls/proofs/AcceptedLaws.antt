@@ -15,7 +15,7 @@ use Rattle.spec_charts.specs.Table.{Table}
 use Rattle.spec_charts.specs.Cells.{entriesOf, maxEntries}
 use Rattle.spec_charts.specs.declared.Refusal.the-variants.{ShortBuffer, BrokenChain, StaleEntries, TooManyEntries}
 use Rattle.spec_charts.specs.Refusals.{Outcome, refused, done, andThen, doneOr}
-use Rattle.spec_charts.specs.Edits.{Event, load, split, takeOut, flip, sideSplit, proposed, limited, withinLimit, eventOn}
+use Rattle.spec_charts.specs.Edits.{Event, load, insert, takeOut, flip, proposed, limited, withinLimit, eventOn}
 use Rattle.laws_charts.proofs.OutcomeLaws.{refused-done, done-same, refuseIf-done, zero-done, passed}
 use Rattle.laws_charts.proofs.TableLaws.{tableOf-length}
 use Rattle.laws_charts.proofs.CountedLaws.{event-limited}
@@ -123,10 +123,9 @@ event-accepted (load ns) c z =
     let t = changed-done c (ifLong c (eventOn (load ns) (chartTable c))) z in
     let a = load-accepted c (load ns) (t .0) (λ table next d. let l = load-done ns next d in record { few = l .few; oriented = l .oriented }) (t .1 .0) in
     record { table = t .0; made = a .1 .1; is = t .1 .1; long = a .0; fits = a .1 .0 }
-event-accepted (split i p) c z = edit-leaves c (split i p) z
+event-accepted (insert p) c z = edit-leaves c (insert p) z
 event-accepted (takeOut p) c z = edit-leaves c (takeOut p) z
 event-accepted (flip i j) c z = edit-leaves c (flip i j) z
-event-accepted (sideSplit i p) c z = edit-leaves c (sideSplit i p) z
 
 -- so it is long enough, follows the chain rule and holds the entries of its table
 pub event-indexed : (e : Event) (c : Chart) → eventCall e c .number ≡ 0 → Editable (eventCall e c .chart)

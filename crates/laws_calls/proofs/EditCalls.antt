@@ -9,7 +9,7 @@ use Prim.Native.Nat.{ℕ}
 use Rattle.spec_charts.specs.Table.{Table}
 use Rattle.spec_charts.specs.declared.Refusal.{Refusal}
 use Rattle.spec_charts.specs.Refusals.{refused, done, refuseIf, andThen, outcomeNumber, outcomeValue}
-use Rattle.spec_charts.specs.Edits.{Event, load, split, takeOut, flip, sideSplit, eventOn, afterEvent}
+use Rattle.spec_charts.specs.Edits.{Event, load, insert, takeOut, flip, eventOn, afterEvent}
 use Rattle.spec_calls.specs.Buffers.{Chart, tooShort, chartTable, indexedChart}
 use Rattle.spec_calls.specs.Calls.{changedBy, ifLong, ifIndexed, loadCall, editCall}
 use Rattle.spec_calls.specs.History.{eventCall}
@@ -50,10 +50,9 @@ module _ (c : Chart) (s : tooShort c ≡ false) (t : Table) (h : Indexable t) wh
   pub event-call : (e : Event) → eventCall e (indexedChart c t) ≡ changedBy (indexedChart c t) (eventOn e t)
   unfolding eventCall
   event-call (load ns) = load-call ns
-  event-call (split i p) = edit-call (split i p)
+  event-call (insert p) = edit-call (insert p)
   event-call (takeOut p) = edit-call (takeOut p)
   event-call (flip i j) = edit-call (flip i j)
-  event-call (sideSplit i p) = edit-call (sideSplit i p)
 
   module _ (e : Event) where
     -- it leaves the chart of the table after the event

@@ -12,7 +12,7 @@ use Rattle.theory_lists.proofs.ListsLaws.{all-reflects}
 use Rattle.theory_lists.proofs.FoldLaws.{fold-related}
 use Rattle.spec_charts.specs.Table.{Table, IsTable}
 use Rattle.spec_charts.specs.Cells.{entriesOf, maxEntries}
-use Rattle.spec_charts.specs.Edits.{Event, load, split, takeOut, flip, sideSplit, sixteenBitEvent, afterEvent, afterEvents}
+use Rattle.spec_charts.specs.Edits.{Event, load, insert, takeOut, flip, sixteenBitEvent, afterEvent, afterEvents}
 use Rattle.spec_charts.specs.Refusals.{refuseIf}
 use Rattle.laws_charts.proofs.EventTable.{after-event-table}
 use Rattle.spec_calls.specs.Buffers.{Chart, tooShort, indexedChart}
@@ -63,10 +63,9 @@ events-chart c s t g small es w =
 event-short : (c : Chart) → tooShort c ≡ true → (e : Event) → eventCall e c .chart ≡ c
 unfolding eventCall loadCall ifIndexed ifLong refuseIf changedBy
 event-short c s (load ns) = rw s
-event-short c s (split t p) = ap (λ d. d .chart) (sym (edit-refused c (split t p) (sym (judged-short c _ s))))
+event-short c s (insert p) = ap (λ d. d .chart) (sym (edit-refused c (insert p) (sym (judged-short c _ s))))
 event-short c s (takeOut p) = ap (λ d. d .chart) (sym (edit-refused c (takeOut p) (sym (judged-short c _ s))))
 event-short c s (flip i j) = ap (λ d. d .chart) (sym (edit-refused c (flip i j) (sym (judged-short c _ s))))
-event-short c s (sideSplit t p) = ap (λ d. d .chart) (sym (edit-refused c (sideSplit t p) (sym (judged-short c _ s))))
 
 -- nor does a list of events
 pub events-short : (c : Chart) → tooShort c ≡ true → (es : List Event) → chartAfter es c ≡ c

@@ -6,6 +6,7 @@ pub mod ReaderLaws
 pub mod LocateLaws
 pub mod OverwriteLaws
 pub mod EditCalls
+pub mod InsertCalls
 pub mod AcceptedLaws
 pub mod HistoryLaws
 pub mod HistoryExamples

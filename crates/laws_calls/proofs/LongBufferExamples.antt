@@ -11,7 +11,7 @@ use Rattle.spec_charts.specs.Refusals.{Outcome}
 use Rattle.spec_charts.specs.Overlay.{OverlayAnswer, withinPairs}
 use Rattle.spec_charts.proofs.Written.{at}
 use Rattle.spec_calls.specs.Buffers.{Chart}
-use Rattle.spec_calls.specs.Calls.{Changed, loadCall, splitCall, takeOutCall, flipCall, sideSplitCall, locateCall, listingCall, soundCall, areaCall, overlaidBy, overlayCall}
+use Rattle.spec_calls.specs.Calls.{Changed, loadCall, insertCall, takeOutCall, flipCall, locateCall, listingCall, soundCall, areaCall, overlaidBy, overlayCall}
 use Rattle.spec_calls.proofs.Evaluate.{evaluate}
 
 -- two triangles with a corner in common
@@ -90,49 +90,36 @@ short-example :
 unfolding evaluate
 short-example = refl
 
--- 1 for a table that is one short, 2 for too few entries, 3 for entries of another table, else 6, 7, 8, 9, 0
+-- 1 for a table that is one short, 2 for too few entries, 3 for entries of another table, else 7, 14, 8, 6, 9, 0
 edits-example :
     map (λ r. r .number)
-    (splitCall 9 (at 50000 50000) (withTable (take 3071 (indexedA .table)))
-    ∷ splitCall 9 (at 50000 50000) cut
-    ∷ splitCall 9 (at 50000 50000) (withTable (set (indexedA .table) 0 20000))
-    ∷ splitCall 9 (at 50000 50000) indexedA
-    ∷ splitCall 0 (at 50000 50000) indexedA
+    (insertCall (at 5000 42500) (withTable (take 3071 (indexedA .table)))
+    ∷ insertCall (at 5000 42500) cut
+    ∷ insertCall (at 5000 42500) (withTable (set (indexedA .table) 0 20000))
+    ∷ insertCall (at 5000 42500) indexedA
+    ∷ insertCall (at 45000 5000) indexedA
     ∷ takeOutCall (at 50000 50000) indexedA
+    ∷ flipCall 0 2 indexedA
     ∷ flipCall 0 1 indexedA
-    ∷ splitCall 1 (at 50000 50000) indexedA
+    ∷ insertCall (at 50000 50000) indexedA
     ∷ [])
-    ≡ 1 ∷ 2 ∷ 3 ∷ 6 ∷ 7 ∷ 8 ∷ 9 ∷ 0 ∷ []
+    ≡ 1 ∷ 2 ∷ 3 ∷ 7 ∷ 14 ∷ 8 ∷ 6 ∷ 9 ∷ 0 ∷ []
 unfolding evaluate
 edits-example = refl
 
--- the same of a side split, with 13 at a corner, inside and outside; accepted it writes the new table and zeros, and leaves the places beyond
-side-splits-example :
-    map (λ r. r .number)
-    (sideSplitCall 9 (at 42500 5000) (withTable (take 3071 (indexedA .table)))
-    ∷ sideSplitCall 9 (at 42500 5000) cut
-    ∷ sideSplitCall 9 (at 42500 5000) (withTable (set (indexedA .table) 0 20000))
-    ∷ sideSplitCall 2 (at 42500 5000) indexedA
-    ∷ sideSplitCall 0 (at 45000 5000) indexedA
-    ∷ sideSplitCall 1 (at 50000 50000) indexedA
-    ∷ sideSplitCall 1 (at 42500 5000) indexedA
-    ∷ [])
-    ≡ 1 ∷ 2 ∷ 3 ∷ 6 ∷ 13 ∷ 13 ∷ 13 ∷ []
+-- accepted on a side it writes the new table and zeros, and leaves the places beyond
+abbrev insertedA : Changed
 unfolding evaluate
-side-splits-example = refl
+insertedA = insertCall (at 42500 5000) indexedA
 
-abbrev sideSplitA : Changed
-unfolding evaluate
-sideSplitA = sideSplitCall 0 (at 42500 5000) indexedA
-
-side-split-example : sideSplitA .number ∷ sideSplitA .value ∷ sideSplitA .chart .triangleCount ∷ sideSplitA .chart .table
+insert-example : insertedA .number ∷ insertedA .value ∷ insertedA .chart .triangleCount ∷ insertedA .chart .table
     ≡ 0 ∷ 0 ∷ 3 ∷ 40000 ∷ 5000 ∷ 42500 ∷ 5000 ∷ 60000 ∷ 45000 ∷ 65535 ∷ 65535 ∷ 0 ∷ 40000 ∷ 60000 ∷ 45000 ∷ 42500 ∷ 5000 ∷ 45000 ∷ 5000 ∷ 60000 ∷ 45000 ∷ replicate 3054 0 ++ (7 ∷ [])
 unfolding evaluate
-side-split-example = refl
+insert-example = refl
 
-side-split-beyond-example : drop 16383 (sideSplitA .chart .keys) ∷ drop 16383 (sideSplitA .chart .levels) ∷ drop 16383 (sideSplitA .chart .items) ∷ [] ≡ replicate 3 (0 ∷ 7 ∷ [])
+insert-beyond-example : drop 16383 (insertedA .chart .keys) ∷ drop 16383 (insertedA .chart .levels) ∷ drop 16383 (insertedA .chart .items) ∷ [] ≡ replicate 3 (0 ∷ 7 ∷ [])
 unfolding evaluate
-side-split-beyond-example = refl
+insert-beyond-example = refl
 
 -- readers on a chart, on one that is short, and on one whose chain is broken
 readers-example :

@@ -7,17 +7,16 @@ use Rattle.spec_charts.specs.Table.{Table}
 use Rattle.spec_charts.specs.Cells.{entriesOf, maxEntries}
 use Rattle.spec_charts.specs.declared.Refusal.the-variants.{TooManyEntries}
 use Rattle.spec_charts.specs.Refusals.{done, andThen}
-use Rattle.spec_charts.specs.Edits.{Event, load, split, takeOut, flip, sideSplit, proposed, limited, withinLimit, counted, eventOn}
+use Rattle.spec_charts.specs.Edits.{Event, load, insert, takeOut, flip, proposed, limited, withinLimit, counted, eventOn}
 use Rattle.laws_charts.proofs.OutcomeLaws.{refuseIf-done}
 
 -- no event is excepted
 pub counted-limit : (e : Event) (t : Table) → counted e t ≡ withinLimit t
 unfolding counted
 counted-limit (load ns) t = refl
-counted-limit (split i p) t = refl
+counted-limit (insert p) t = refl
 counted-limit (takeOut p) t = refl
 counted-limit (flip i j) t = refl
-counted-limit (sideSplit i p) t = refl
 
 -- what is done is the table that was counted
 pub counted-done : (e : Event) (t : Table) {next : Table} → counted e t ≡ done next → done t ≡ done next

@@ -1,52 +1,80 @@
 -- What an accepted split or take-out is: its tests, passed, and the table that it makes.
 -- The idea: each test only refuses, so an edit that is done has passed them all.
 -- Assumes nothing.
-use mathlib.Core.Path.{_≡_, refl, sym}
-use mathlib.Core.Bool.{Bool, true, false, not}
+use mathlib.Core.Path.{_≡_, refl, sym, ap}
+use mathlib.Core.Bool.{Bool, true, false}
 use mathlib.Core.List.{List, [], _∷_}
 use mathlib.Core.Logic.{_⊎_, inl, inr}
 use Prim.Native.Nat.{ℕ, _+_, _≤_, _<_}
 use native.Mathlib.Omega.{arith}
-use lib.Dec.{T, leb, ltb, le→leb, lt→ltb}
-use lib.ListN.{length}
+use borrow.Author.Tests.{lt-ltb, le-ltb}
+use lib.Dec.{T, ltb, lt→ltb}
+use lib.ListN.{length, set, length-set, length-append}
 use Rattle.theory_lists.specs.Lists.{placesFrom}
 use Rattle.theory_lists.proofs.Reflects.{reflects-and₃}
-use Rattle.theory_lists.proofs.ListsLaws.{Every, every-uncons}
+use Rattle.theory_lists.proofs.ListsLaws.{Every, every-cons, every-uncons}
+use Rattle.theory_lists.proofs.EveryLaws.{every-nil, every-append}
 use Rattle.theory_lists.proofs.Order.{Rising, rising-more, places-rising}
-use Rattle.theory_lists.proofs.EditedLists.{places-pass}
+use Rattle.theory_lists.proofs.EditedLists.{every-set, places-pass}
 use Rattle.spec_plane.specs.declared.Point.{Point}
-use Rattle.spec_plane.specs.Triangle.{Triangle, strictlyInside}
+use Rattle.spec_plane.specs.Triangle.{Triangle, proper, strictlyInside}
 use Rattle.spec_plane.proofs.PointLaws.{samePoint-reflects}
 use Rattle.spec_charts.specs.Table.{Table, numbered, noTriangle, maxTriangles}
-use Rattle.spec_charts.specs.declared.Refusal.the-variants.{NoSuchTriangle, NotInside, NotThreeAround, TableFull}
-use Rattle.spec_charts.specs.Refusals.{refused, done}
-use Rattle.spec_charts.specs.Edits.{triangle, splitAt, splitTable, hasCorner, endingIn, closesRound, mergeAround, mergeThree, takeOutThree, takeOutTable}
-use Rattle.laws_charts.proofs.OutcomeLaws.{refused-done, done-same, refuseIf-done, passed}
+use Rattle.spec_charts.specs.declared.Refusal.the-variants.{NotThreeAround, TableFull}
+use Rattle.spec_charts.specs.Refusals.{refused, done, refuseIf}
+use Rattle.spec_charts.specs.Edits.{triangle, withinTable, splitAt, splitRow, hasCorner, endingIn, closesRound, mergeAround, mergeThree, takeOutThree, takeOutTable}
+use Rattle.laws_charts.proofs.OutcomeLaws.{refused-done, done-same, refuseIf-done}
+use Rattle.laws_charts.proofs.TriangleLaws.{inside-parts}
 
 -- ---- split
 
--- t split at p
-pub record Split (t : ℕ) (p : Point) (table next : Table) : Type 0 where
-  pub below : t < length table
-  pub inside : T (strictlyInside (numbered table t) p)
-  pub room : length table + 2 ≤ maxTriangles
-  pub is : next ≡ splitAt table t (numbered table t) p
+-- what passes refusal 10 is the table made
+pub within-done : (made : Table) {next : Table} → withinTable made ≡ done next → (next ≡ made) × (length next ≤ maxTriangles)
+unfolding withinTable
+within-done made e =
+    let h = refuseIf-done (ltb maxTriangles (length made)) TableFull e in
+    let is = sym (done-same (h .1)) in
+    let over : maxTriangles < length made → ⊥ = λ l. h .0 (lt→ltb maxTriangles (length made) l) in
+    (is, omega (arith, ap length is))
 
--- an accepted split is one
-pub split-done : (t : ℕ) (p : Point) (table next : Table) → splitTable t p table ≡ done next → Split t p table next
-unfolding splitTable
-split-done t p table next e =
-    let f = refuseIf-done (leb (length table) t) NoSuchTriangle e in
-    let g = refuseIf-done (not (strictlyInside (numbered table t) p)) NotInside (f .1) in
-    let h = refuseIf-done (ltb maxTriangles (length table + 2)) TableFull (g .1) in
-    let below : length table ≤ t → ⊥ = λ l. f .0 (le→leb (length table) t l) in
-    let room : maxTriangles < length table + 2 → ⊥ = λ l. h .0 (lt→ltb maxTriangles (length table + 2) l) in
-    record {
-      below = omega arith;
-      inside = passed (strictlyInside (numbered table t) p) (g .0);
-      room = omega arith;
-      is = sym (done-same (h .1));
-    }
+-- a table made that is too full, and one that is not
+pub within-full : (made : Table) → maxTriangles < length made → withinTable made ≡ refused TableFull
+unfolding withinTable refuseIf
+within-full made h = rw (lt-ltb maxTriangles (length made) h)
+
+pub within-fits : (made : Table) → length made ≤ maxTriangles → withinTable made ≡ done made
+unfolding withinTable refuseIf
+within-fits made h = rw (le-ltb maxTriangles (length made) h)
+
+-- two triangles more
+pub splitAt-length : (table : Table) (i : ℕ) (t : Triangle) (p : Point) → length (splitAt table i t p) ≡ length table + 2
+unfolding splitAt
+splitAt-length table i t p = simp (length-append, length-set) refl
+
+-- triangle i split at p
+pub record Split (i : ℕ) (p : Point) (table next : Table) : Type 0 where
+  pub below : i < length table
+  pub inside : T (strictlyInside (numbered table i) p)
+  pub few : length next ≤ maxTriangles
+  pub is : next ≡ splitAt table i (numbered table i) p
+
+-- an accepted split of a triangle with p strictly inside is one
+pub split-done : {i : ℕ} {p : Point} {table next : Table} → i < length table → T (strictlyInside (numbered table i) p)
+    → splitRow i (numbered table i) p table ≡ done next → Split i p table next
+unfolding splitRow
+split-done below inside e = let h = within-done _ e in record { below = below; inside = inside; few = h .1; is = h .0 }
+
+module _ {i : ℕ} {p : Point} {table next : Table} (s : Split i p table next) where
+  -- its three parts have D > 0
+  pub split-parts : T (proper (triangle (numbered table i .a) (numbered table i .b) p))
+      × (T (proper (triangle (numbered table i .b) (numbered table i .c) p)) × T (proper (triangle (numbered table i .c) (numbered table i .a) p)))
+  split-parts = inside-parts (numbered table i) p (s .inside)
+
+  -- what the triangles of the table have, and the parts, every triangle of the new table has
+  pub split-every : {P : Triangle → Type 0} → Every P table → P (triangle (numbered table i .a) (numbered table i .b) p)
+      → P (triangle (numbered table i .b) (numbered table i .c) p) → P (triangle (numbered table i .c) (numbered table i .a) p) → Every P next
+  unfolding splitAt
+  split-every {P} h x y z = rw (s .is) (every-append (set table i _) (every-set table i h x) (every-cons (y, every-cons (z, every-nil P))))
 
 -- ---- take out
 

@@ -4,6 +4,7 @@
 -- Assumes nothing.
 use mathlib.Core.Path.{_≡_, refl, sym, ap, subst}
 use mathlib.Core.List.{List, [], _∷_, List·Memᴰ}
+use mathlib.Core.Logic.{inl, inr}
 use Prim.Native.Nat.{ℕ, _+_}
 use native.Mathlib.Omega.{arith}
 use lib.Dec.{T}
@@ -17,24 +18,24 @@ use Rattle.spec_plane.specs.Triangle.{Triangle, proper, doubledArea}
 use Rattle.spec_charts.specs.Table.{Table, IsTable, numbered, noTriangle}
 use Rattle.spec_charts.specs.Reading.{totalArea}
 use Rattle.spec_charts.specs.Refusals.{done}
-use Rattle.spec_charts.specs.Edits.{Event, load, split, takeOut, flip, sideSplit, triangle, rotations, splitAt, splitTable, takeOutTable, flipTable, sideSplitTable, proposed, eventOn}
+use Rattle.spec_charts.specs.Edits.{Event, load, insert, takeOut, flip, triangle, rotations, splitAt, takeOutTable, flipTable, insertTable, proposed, eventOn}
 use Rattle.laws_charts.proofs.TableLaws.{numbered-proper}
-use Rattle.laws_charts.proofs.TriangleLaws.{named, inside-parts, area-around, area-across}
+use Rattle.laws_charts.proofs.TriangleLaws.{named, area-around, area-across}
 use Rattle.laws_charts.proofs.RotationLaws.{rotations-area, rotations-proper, rotations-apart}
 use Rattle.laws_charts.proofs.GridLaws.{table-proper}
-use Rattle.laws_charts.proofs.EditLaws.{split-done, mergedTriangle, takeOut-done}
+use Rattle.laws_charts.proofs.EditLaws.{Split, split-parts, mergedTriangle, takeOut-done}
 use Rattle.laws_charts.proofs.FlipLaws.{Flipped, flip-done}
-use Rattle.laws_charts.proofs.SideSplitLaws.{sideSplit-done, sideSplit-kept}
+use Rattle.laws_charts.proofs.SideSplitLaws.{sideSplit-kept}
+use Rattle.laws_charts.proofs.InsertLaws.{insert-done}
 use Rattle.laws_charts.proofs.MergeLaws.{taken-sum, merge-sum}
 use Rattle.laws_charts.proofs.EventTable.{event-proposed}
 
 -- a split keeps the sum of the doubled areas
-pub split-area : (t : ℕ) (p : Point) (table next : Table) → splitTable t p table ≡ done next → totalArea next ≡ totalArea table
+split-kept : {i : ℕ} {p : Point} {table next : Table} → Split i p table next → totalArea next ≡ totalArea table
 unfolding totalArea numbered splitAt triangle sumOf
-split-area t p table next e =
-    let s = split-done t p table next e in
-    let u = numbered table t in
-    let d = inside-parts u p (s .inside) in
+split-kept {i} {p} {table} s =
+    let u = numbered table i in
+    let d = split-parts s in
     let area : Triangle → ℕ = λ t. doubledArea t in
     let x = triangle (u .a) (u .b) p in
     let y = triangle (u .b) (u .c) p in
@@ -42,10 +43,16 @@ split-area t p table next e =
     rw (s .is)
     (omega (
       arith,
-      sum-append area (set table t x) (y ∷ z ∷ []),
-      sumOf-set area table t x noTriangle (s .below),
+      sum-append area (set table i x) (y ∷ z ∷ []),
+      sumOf-set area table i x noTriangle (s .below),
       area-around (u .a) (u .b) (u .c) p (d .0) (d .1 .0) (d .1 .1),
     ))
+
+-- an insert keeps the sum of the doubled areas
+pub insert-area : (p : Point) (table next : Table) → Every (λ t. T (proper t)) table → insertTable p table ≡ done next
+    → totalArea next ≡ totalArea table
+insert-area p table next good e =
+    let s = insert-done p table next good e in elim (s .how) [ inl t ↦ split-kept t | inr t ↦ sideSplit-kept t good ]
 
 -- a take-out keeps the sum of the doubled areas
 pub takeOut-area : (p : Point) (table next : Table) → Every (λ t. T (proper t)) table → takeOutTable p table ≡ done next
@@ -92,20 +99,14 @@ flip-area i j table next good e =
     rw (s .is)
     (omega (arith, sumOf-two (λ t. doubledArea t) table i j x y noTriangle (flip-differ s good) (s .belowI) (s .belowJ), flip-both s good))
 
--- a side split keeps the sum of the doubled areas
-pub sideSplit-area : (i : ℕ) (p : Point) (table next : Table) → Every (λ t. T (proper t)) table → sideSplitTable i p table ≡ done next
-    → totalArea next ≡ totalArea table
-sideSplit-area i p table next good e = sideSplit-kept (sideSplit-done i p table next e) good
-
 -- so does each event that is no load, in the table that it proposes
 pub edit-area : (e : Event) (table next : Table) → ((ns : List ℕ) → e ≡ load ns → ⊥) → IsTable table → proposed e table ≡ done next
     → totalArea next ≡ totalArea table
 unfolding proposed
 edit-area (load ns) table next n h d = absurd (n ns refl)
-edit-area (split t p) table next n h d = split-area t p table next d
+edit-area (insert p) table next n h d = insert-area p table next (table-proper h) d
 edit-area (takeOut p) table next n h d = takeOut-area p table next (table-proper h) d
 edit-area (flip i j) table next n h d = flip-area i j table next (table-proper h) d
-edit-area (sideSplit i p) table next n h d = sideSplit-area i p table next (table-proper h) d
 
 -- and in the table that it leaves, where it is accepted
 pub event-area : (e : Event) (table next : Table) → ((ns : List ℕ) → e ≡ load ns → ⊥) → IsTable table → eventOn e table ≡ done next

@@ -1,5 +1,5 @@
--- A split, side split or take-out that is accepted has its point on the grid: one at another point changes nothing.
--- The idea: a triangle holds the point at which it or its side is split, and one that is taken out is a corner.
+-- An insert or take-out that is accepted has its point on the grid: one at another point changes nothing.
+-- The idea: a triangle holds the point that is inserted, and one that is taken out is a corner.
 -- Assumes nothing.
 use mathlib.Core.Path.{_≡_, refl, subst}
 use lib.Dec.{T}
@@ -8,20 +8,19 @@ use Rattle.spec_plane.specs.Triangle.{Triangle}
 use Rattle.spec_plane.proofs.ExtremeLaws.{OnGrid, CornersOnGrid}
 use Rattle.spec_charts.specs.Table.{Table, IsTable, numbered}
 use Rattle.spec_charts.specs.Refusals.{Outcome, refused, done, doneOr}
-use Rattle.spec_charts.specs.Edits.{Event, load, split, takeOut, flip, sideSplit, triangle, hasCorner, endingIn, proposed, eventOn, afterEvent}
+use Rattle.spec_charts.specs.Edits.{Event, load, insert, takeOut, flip, triangle, hasCorner, endingIn, proposed, eventOn, afterEvent}
 use Rattle.laws_charts.proofs.RotationLaws.{rotations-every, endingIn-rotation}
-use Rattle.laws_charts.proofs.GridLaws.{IsTriangle, numbered-triangle, inside-grid}
-use Rattle.laws_charts.proofs.EditLaws.{split-done, takeOut-done}
-use Rattle.laws_charts.proofs.SideSplitLaws.{sideSplit-done}
-use Rattle.laws_charts.proofs.EventTable.{sideSplit-point, event-proposed}
+use Rattle.laws_charts.proofs.GridLaws.{IsTriangle, table-proper, numbered-triangle}
+use Rattle.laws_charts.proofs.EditLaws.{takeOut-done}
+use Rattle.laws_charts.proofs.InsertLaws.{insert-done}
+use Rattle.laws_charts.proofs.EventTable.{insert-point, event-proposed}
 
--- the point of a split, side split or take-out is on the grid
+-- the point of an insert or take-out is on the grid
 abbrev pub PointOnGrid : Event → Type 0
 PointOnGrid (load ns) = Unit {0}
-PointOnGrid (split t p) = OnGrid p
+PointOnGrid (insert p) = OnGrid p
 PointOnGrid (takeOut p) = OnGrid p
 PointOnGrid (flip i j) = Unit {0}
-PointOnGrid (sideSplit t p) = OnGrid p
 
 -- a corner of a triangle on the grid is on the grid
 corner-grid : (p : Point) (t : Triangle) → IsTriangle t → T (hasCorner p t) → OnGrid p
@@ -35,12 +34,10 @@ module _ {table : Table} (h : IsTable table) where
   proposed-point : (e : Event) (next : Table) → proposed e table ≡ done next → PointOnGrid e
   unfolding proposed
   proposed-point (load ns) next d = tt
-  proposed-point (split t p) next d =
-      let s = split-done t p table next d in inside-grid (numbered table t) p (numbered-triangle h t (s .below)) (s .inside)
+  proposed-point (insert p) next d = insert-point h p (insert-done p table next (table-proper h) d)
   proposed-point (takeOut p) next d =
       let s = takeOut-done p table next d in corner-grid p (numbered table (s .k)) (numbered-triangle h (s .k) (s .below)) (s .cornerK)
   proposed-point (flip i j) next d = tt
-  proposed-point (sideSplit i p) next d = sideSplit-point h i p (sideSplit-done i p table next d)
 
   -- an accepted event has its point on the grid
   pub event-point : (e : Event) (next : Table) → eventOn e table ≡ done next → PointOnGrid e

@@ -1,7 +1,7 @@
 -- An accepted event leaves a table of document 01: at most 512 triangles, each with D > 0 and of 16-bit numbers. So the plain
 -- table is one after any list of events.
--- The idea: the parts of a split and of a flip are tested, three triangles around a point make one with their areas' sum, a point on a
--- side makes two with shares of D, and no edit makes a coordinate, but for the point of a split or side split, which a triangle holds.
+-- The idea: the parts of a flip are tested, a point inside makes three with D > 0 and one on a side two with shares of D, three triangles
+-- around a point make one with their areas' sum, and no edit makes a coordinate, but for the point of an insert, which a triangle holds.
 -- Assumes nothing.
 use mathlib.Core.Path.{_≡_, refl, subst}
 use mathlib.Core.List.{List, [], _∷_}
@@ -9,29 +9,29 @@ use mathlib.Core.Logic.{inl, inr}
 use Prim.Native.Nat.{ℕ, _<_}
 use native.Mathlib.Omega.{arith}
 use lib.Dec.{T}
-use lib.ListN.{length, set, length-append, length-set}
+use lib.ListN.{length, set, length-set}
 use Rattle.theory_lists.specs.Lists.{all}
 use Rattle.theory_lists.proofs.Reflects.{reflects-test}
-use Rattle.theory_lists.proofs.ListsLaws.{Every, every-cons, every-uncons, all-reflects}
-use Rattle.theory_lists.proofs.EveryLaws.{every-nil, every-append}
+use Rattle.theory_lists.proofs.ListsLaws.{Every, every-uncons, all-reflects, upTo-to}
+use Rattle.theory_lists.proofs.EveryLaws.{every-nil}
 use Rattle.theory_lists.proofs.EditedLists.{every-set}
 use Rattle.spec_plane.specs.declared.Point.{Point}
 use Rattle.spec_plane.specs.Triangle.{Triangle, proper}
 use Rattle.spec_plane.proofs.ExtremeLaws.{OnGrid}
 use Rattle.spec_charts.specs.Table.{Table, IsTable, numbered}
 use Rattle.spec_charts.specs.Refusals.{Outcome, refused, done, andThen, doneOr}
-use Rattle.spec_charts.specs.Edits.{Event, load, split, takeOut, flip, sideSplit, triangle, rotations, hasCorner, splitAt, endingIn, sixteenBitEvent, proposed, counted, eventOn, afterEvent, afterEvents, plainTable}
-use Rattle.laws_charts.proofs.TriangleLaws.{proper-rotate, inside-parts}
+use Rattle.spec_charts.specs.Edits.{Event, load, insert, takeOut, flip, triangle, rotations, hasCorner, endingIn, sixteenBitEvent, proposed, counted, eventOn, afterEvent, afterEvents, plainTable}
+use Rattle.laws_charts.proofs.TriangleLaws.{proper-rotate}
 use Rattle.laws_charts.proofs.RotationLaws.{rotations-every, endingIn-rotation}
 use Rattle.laws_charts.proofs.LoadTable.{load-table}
 use Rattle.laws_charts.proofs.MergeLaws.{taken-sum, merge-length, merge-every}
-use Rattle.laws_charts.proofs.GridLaws.{IsTriangle, table-proper, table-triangles, numbered-triangle, triangles-table, held-grid, inside-grid}
+use Rattle.laws_charts.proofs.GridLaws.{IsTriangle, table-proper, table-triangles, numbered-triangle, triangles-table, held-grid}
 use Rattle.laws_charts.proofs.OutcomeLaws.{refused-done}
 use Rattle.laws_charts.proofs.CountedLaws.{counted-done}
-use Rattle.laws_charts.proofs.EditLaws.{Split, split-done, mergedTriangle, TakenOut, takeOut-done}
+use Rattle.laws_charts.proofs.EditLaws.{Split, split-parts, split-every, mergedTriangle, TakenOut, takeOut-done}
 use Rattle.laws_charts.proofs.FlipLaws.{Flipped, flip-done}
-use Rattle.laws_charts.proofs.SideFirstLaws.{side-held}
-use Rattle.laws_charts.proofs.SideSplitLaws.{SideSplit, sideSplit-done, sideSplit-every, sideSplit-parts}
+use Rattle.laws_charts.proofs.SideSplitLaws.{SideSplit, sideSplit-every, sideSplit-parts}
+use Rattle.laws_charts.proofs.InsertLaws.{Inserted, insert-done}
 
 -- ---- triangles that edits make
 
@@ -53,17 +53,6 @@ module _ {table : Table} (h : IsTable table) where
 
   at : (i : ℕ) → i < length table → IsTriangle (numbered table i)
   at = numbered-triangle h
-
-  split-table : {next : Table} (t : ℕ) (p : Point) → Split t p table next → IsTable next
-  unfolding splitAt
-  split-table t p s =
-      let g = at t (s .below) in
-      let d = inside-parts (numbered table t) p (s .inside) in
-      let on = inside-grid (numbered table t) p g (s .inside) in
-      let room = s .room in
-      rw (s .is) (triangles-table (simp (length-append, length-set) (omega arith))
-      (every-append (set table t _) (every-set table t good (made _ _ p (d .0) (g .a) (g .b) on))
-      (every-cons (made _ _ p (d .1 .0) (g .b) (g .c) on, every-cons (made _ _ p (d .1 .1) (g .c) (g .a) on, every-nil IsTriangle)))))
 
   ends : (p : Point) (i : ℕ) → i < length table → T (hasCorner p (numbered table i)) → IsTriangle (endingIn p (numbered table i))
   ends p i l c = rotation (numbered table i) (at i l) _ (endingIn-rotation p (numbered table i) c .0)
@@ -91,17 +80,29 @@ module _ {table : Table} (h : IsTable table) where
       (every-set (set table i _) j (every-set table i good (made _ _ _ (s .properI) (t .a) (u .c) (t .c)))
       (made _ _ _ (s .properJ) (u .c) (t .b) (t .c))))
 
-  -- a triangle holds the point of a side split, so it is on the grid
-  pub sideSplit-point : {next : Table} (i : ℕ) (p : Point) → SideSplit i p table next → OnGrid p
-  sideSplit-point i p s = held-grid (numbered table i) p (at i (s .below)) (side-held (numbered table i) p (s .found))
+  -- a triangle holds the point of an insert, so it is on the grid
+  pub insert-point : {next : Table} (p : Point) → Inserted p table next → OnGrid p
+  insert-point p s = held-grid (numbered table (s .i)) p (at (s .i) (upTo-to (s .taken .member))) (rw (s .taken .passes) tt)
 
-  sideSplit-table : {next : Table} (i : ℕ) (p : Point) → SideSplit i p table next → IsTable next
-  sideSplit-table i p s =
-      let on = sideSplit-point i p s in
-      triangles-table (s .few) (sideSplit-every s (table-proper h) good (λ j b r f.
-      let g = rotation (numbered table j) (at j b) r (f .rotation) in
-      let d = sideSplit-parts s (table-proper h) j b f in
-      (made _ p _ (d .first) (g .a) on (g .c), made p _ _ (d .second) on (g .b) (g .c))))
+  insert-table : {next : Table} (p : Point) → Inserted p table next → IsTable next
+  insert-table {next} p s = elim (s .how) [ inl t ↦ split-table t | inr t ↦ sideSplit-table t ]
+    where
+      on : OnGrid p
+      on = insert-point p s
+
+      split-table : {i : ℕ} → Split i p table next → IsTable next
+      split-table {i} t =
+          let g = at i (t .below) in
+          let d = split-parts t in
+          triangles-table (t .few) (split-every t good (made _ _ p (d .0) (g .a) (g .b) on) (made _ _ p (d .1 .0) (g .b) (g .c) on)
+          (made _ _ p (d .1 .1) (g .c) (g .a) on))
+
+      sideSplit-table : {i : ℕ} → SideSplit i p table next → IsTable next
+      sideSplit-table t =
+          triangles-table (t .few) (sideSplit-every t (table-proper h) good (λ j b r f.
+          let g = rotation (numbered table j) (at j b) r (f .rotation) in
+          let d = sideSplit-parts t (table-proper h) j b f in
+          (made _ p _ (d .first) (g .a) on (g .c), made p _ _ (d .second) on (g .b) (g .c))))
 
 -- ---- events
 
@@ -109,10 +110,9 @@ module _ {table : Table} (h : IsTable table) where
 pub proposed-table : (e : Event) (table next : Table) → T (sixteenBitEvent e) → IsTable table → proposed e table ≡ done next → IsTable next
 unfolding sixteenBitEvent proposed
 proposed-table (load ns) table next w h e = load-table ns next w e
-proposed-table (split t p) table next w h e = split-table h t p (split-done t p table next e)
+proposed-table (insert p) table next w h e = insert-table h p (insert-done p table next (table-proper h) e)
 proposed-table (takeOut p) table next w h e = takeOut-table h p (takeOut-done p table next e)
 proposed-table (flip i j) table next w h e = flip-table h i j (flip-done i j table next e)
-proposed-table (sideSplit i p) table next w h e = sideSplit-table h i p (sideSplit-done i p table next e)
 
 -- the table that an accepted event leaves is the one proposed
 pub event-proposed : (e : Event) (table next : Table) → eventOn e table ≡ done next → proposed e table ≡ done next

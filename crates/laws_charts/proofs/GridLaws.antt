@@ -8,19 +8,15 @@ use mathlib.Core.Path.{refl}
 use Prim.Native.Nat.{ℕ, _≤_, _<_, max}
 use native.Mathlib.Omega.{arith}
 use lib.Dec.{T, ltb, nltb→le}
-use lib.IntN.{pos}
 use lib.ListN.{length}
-use lib.Signed.{ltZ, leZ}
 use Rattle.theory_lists.specs.Lists.{all}
-use Rattle.theory_lists.proofs.Reflects.{Reflects, reflects-ltb, reflects-le, reflects-test, reflects-and₃}
+use Rattle.theory_lists.proofs.Reflects.{Reflects, reflects-ltb, reflects-test}
 use Rattle.theory_lists.proofs.ListsLaws.{Every, every-cons, all-reflects, getD-member}
 use Rattle.theory_lists.proofs.EveryLaws.{every-nil, every-imp, every-flatMap}
 use Rattle.theory_lists.proofs.EditedLists.{flatMap-every}
 use Rattle.spec_plane.specs.declared.Point.{Point}
-use Rattle.spec_plane.specs.Point.{orient}
-use Rattle.spec_plane.specs.Triangle.{Triangle, proper, holds, strictlyInside}
+use Rattle.spec_plane.specs.Triangle.{Triangle, proper, holds}
 use Rattle.spec_plane.specs.Box.{Box, apart, triangleBox, triangleMeets, allOuter}
-use Rattle.spec_plane.proofs.OrientLaws.{orientLow, orientHigh, orient-positive, orient-nonneg}
 use Rattle.spec_plane.proofs.ExtremeLaws.{OnGrid}
 use Rattle.laws_separation.proofs.Meets.{holds-meets}
 use Rattle.spec_charts.specs.Table.{Table, IsTable, numbered, noTriangle, maxTriangles, sixteenBit, triangleNumbers, tableNumbers}
@@ -106,19 +102,6 @@ not-or : (x y : Bool) → T (not (x || y)) → T (not x) × T (not y)
 not-or true y h = absurd h
 not-or false y h = (tt, h)
 
--- a point strictly inside is held
-pub inside-holds : (t : Triangle) (p : Point) → T (strictlyInside t p) → T (holds t p)
-unfolding strictlyInside holds
-inside-holds t p h =
-    let g = reflects-and₃ (above (t .a) (t .b)) (above (t .b) (t .c)) (above (t .c) (t .a)) .to h in
-    reflects-and₃ (least (t .a) (t .b)) (least (t .b) (t .c)) (least (t .c) (t .a)) .from (omega arith, (omega arith, omega arith))
-  where
-    above : (q r : Point) → Reflects (ltZ (pos 0) (orient q r p)) (orientLow q r p < orientHigh q r p)
-    above q r = reflects-le (orient-positive q r p)
-
-    least : (q r : Point) → Reflects (leZ (pos 0) (orient q r p)) (orientLow q r p ≤ orientHigh q r p)
-    least q r = reflects-le (orient-nonneg q r p)
-
 -- a point that is held is no farther right or down than the triangle
 held-box : (t : Triangle) (p : Point) → T (proper t) → T (holds t p)
     → (p .x ≤ max (t .a .x) (max (t .b .x) (t .c .x))) × (p .y ≤ max (t .a .y) (max (t .b .y) (t .c .y)))
@@ -143,7 +126,3 @@ held-grid t p h i =
     let gb = h .b in
     let gc = h .c in
     record { x = omega arith; y = omega arith }
-
--- and so is a point strictly inside
-pub inside-grid : (t : Triangle) (p : Point) → IsTriangle t → T (strictlyInside t p) → OnGrid p
-inside-grid t p h i = held-grid t p h (inside-holds t p i)

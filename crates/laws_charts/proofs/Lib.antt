@@ -13,6 +13,7 @@ pub mod SideLaws
 pub mod SideFirstLaws
 pub mod NeighbourLaws
 pub mod SideSplitLaws
+pub mod InsertLaws
 pub mod LoadTable
 pub mod MergeLaws
 pub mod ProposedLaws

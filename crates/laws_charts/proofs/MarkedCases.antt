@@ -9,7 +9,7 @@ use Rattle.spec_plane.specs.Triangle.{Triangle}
 use Rattle.spec_squares.specs.Square.{zOrder}
 use Rattle.spec_charts.specs.Table.{Table, tableNumbers}
 use Rattle.spec_charts.specs.Cells.{cells, cellEntries, entriesOf}
-use Rattle.spec_charts.specs.Edits.{load, split, takeOut, flip, eventOn, plainTable}
+use Rattle.spec_charts.specs.Edits.{load, insert, takeOut, flip, eventOn, plainTable}
 use Rattle.spec_charts.specs.Reading.{totalArea}
 use Rattle.spec_charts.proofs.Evaluate.{evaluate}
 use Rattle.spec_charts.proofs.Written.{at, entryNumbers, cellNumbers, outcomeNumbers, locatedIn, overlaid}
@@ -35,7 +35,7 @@ UV = U ∷ Vt ∷ []
 abbrev q : ℕ
 q = 268435456
 
--- cases 1 to 10, in order; case 6 with the positions of wish 1
+-- cases 1 to 10, in order; case 6 with the positions of wish 1, case 9 as wish 4 has it
 abbrev markedCases : List Row
 markedCases =
     record { given = zOrder (at 3 1) ∷ zOrder (at 2 3) ∷ zOrder (at 0 32768) ∷ []; stated = 7 ∷ 14 ∷ 2147483648 ∷ [] }
@@ -70,14 +70,17 @@ markedCases =
       stated = 9 ∷ 0 ∷ 9 ∷ 0 ∷ [];
     }
     ∷ record {
-      given = tableNumbers (plainTable (load (tableNumbers (U ∷ [])) ∷ split 0 (at 10000 10000) ∷ takeOut (at 10000 10000) ∷ []));
+      given = tableNumbers (plainTable (load (tableNumbers (U ∷ [])) ∷ insert (at 10000 10000) ∷ takeOut (at 10000 10000) ∷ []));
       stated = tableNumbers (U ∷ []);
     }
     ∷ record {
-      given = outcomeNumbers (eventOn (takeOut (at 10000 10000)) (plainTable (load (tableNumbers (U ∷ [])) ∷ split 0 (at 10000 10000) ∷ [])));
+      given = outcomeNumbers (eventOn (takeOut (at 10000 10000)) (plainTable (load (tableNumbers (U ∷ [])) ∷ insert (at 10000 10000) ∷ [])));
       stated = 0 ∷ tableNumbers (U ∷ []);
     }
-    ∷ record { given = outcomeNumbers (eventOn (split 0 (at 32768 32767)) (U ∷ [])); stated = 7 ∷ 0 ∷ [] }
+    ∷ record {
+      given = outcomeNumbers (eventOn (insert (at 32768 32767)) (U ∷ []));
+      stated = 0 ∷ 65535 ∷ 0 ∷ 32768 ∷ 32767 ∷ 0 ∷ 0 ∷ 32768 ∷ 32767 ∷ 0 ∷ 65535 ∷ 0 ∷ 0 ∷ [];
+    }
     ∷ record { given = outcomeNumbers (eventOn (load (0 ∷ 0 ∷ 5 ∷ 5 ∷ 9 ∷ 9 ∷ [])) []); stated = 5 ∷ 0 ∷ [] }
     ∷ record { given = outcomeNumbers (eventOn (load (0 ∷ 0 ∷ 5 ∷ 5 ∷ 9 ∷ 9 ∷ 1 ∷ [])) []); stated = 4 ∷ 0 ∷ [] }
     ∷ []

@@ -6,7 +6,7 @@ use Prim.Native.Nat.{ℕ, _<_}
 use native.Mathlib.Omega.{arith}
 use lib.Dec.{T}
 use Rattle.spec_charts.specs.declared.Refusal.{Refusal}
-use Rattle.spec_charts.specs.declared.Refusal.the-variants.{ShortBuffer, BrokenChain, StaleEntries, BadLength, FaultyTriangle, NoSuchTriangle, NotInside, NotThreeAround, NoFlip, TableFull, TooManyEntries, TooManyPairs, NotOnSide}
+use Rattle.spec_charts.specs.declared.Refusal.the-variants.{ShortBuffer, BrokenChain, StaleEntries, BadLength, FaultyTriangle, NoSuchTriangle, NoHolder, NotThreeAround, NoFlip, TableFull, TooManyEntries, TooManyPairs, AtCorner}
 use Rattle.spec_charts.specs.Refusals.{rowOf, outcomeNumber, Outcome, refused, done, refuseIf}
 
 module _ {A : Type 0} where
@@ -32,13 +32,13 @@ row-positive StaleEntries = omega arith
 row-positive BadLength = omega arith
 row-positive (FaultyTriangle i) = omega arith
 row-positive NoSuchTriangle = omega arith
-row-positive NotInside = omega arith
+row-positive NoHolder = omega arith
 row-positive NotThreeAround = omega arith
 row-positive NoFlip = omega arith
 row-positive TableFull = omega arith
 row-positive TooManyEntries = omega arith
 row-positive TooManyPairs = omega arith
-row-positive NotOnSide = omega arith
+row-positive AtCorner = omega arith
 
 -- so what gives 0 is done
 pub zero-done : {A : Type 0} (o : Outcome A) → outcomeNumber o ≡ 0 → (a : A) × (o ≡ done a)

@@ -6,7 +6,7 @@ use mathlib.Core.List.{[], _∷_}
 use mathlib.Core.Option.{Option, none, some}
 use Prim.Native.Nat.{ℕ, _+_, _≤_, _<_}
 use native.Mathlib.Omega.{arith}
-use lib.Dec.{T, leb, ltb, le→leb, lt→ltb}
+use lib.Dec.{T}
 use lib.ListN.{length, set, length-set, length-append, List·getD-append}
 use lib.Seq.{getD-set-other}
 use Rattle.theory_lists.specs.Lists.{sumOf}
@@ -16,44 +16,31 @@ use Rattle.theory_lists.proofs.SumLaws.{sum-append}
 use Rattle.theory_lists.proofs.EditedLists.{every-set, sumOf-set}
 use Rattle.spec_plane.specs.declared.Point.{Point}
 use Rattle.spec_plane.specs.Triangle.{Triangle, proper, doubledArea}
-use Rattle.spec_plane.specs.Position.{position, OnSide}
+use Rattle.spec_plane.specs.Position.{OnSide}
 use Rattle.spec_charts.specs.Table.{Table, numbered, noTriangle, maxTriangles}
-use Rattle.spec_charts.specs.declared.Refusal.the-variants.{NoSuchTriangle, TableFull}
 use Rattle.spec_charts.specs.Refusals.{done}
 use Rattle.spec_charts.specs.Reading.{totalArea}
-use Rattle.spec_charts.specs.Edits.{triangle, sideFirst, Neighbour, neighbourFrom, sideSplitAt, sideSplitBoth, withinTable, sideSplitRow, sideSplitFirst, sideSplitTable}
-use Rattle.laws_charts.proofs.OutcomeLaws.{refused-done, done-same, refuseIf-done}
+use Rattle.spec_charts.specs.Edits.{triangle, Neighbour, neighbourFrom, sideSplitAt, sideSplitBoth, sideSplitRow}
 use Rattle.laws_charts.proofs.TableLaws.{numbered-proper}
 use Rattle.laws_charts.proofs.RotationLaws.{rotations-area, rotations-proper}
+use Rattle.laws_charts.proofs.EditLaws.{within-done}
 use Rattle.laws_charts.proofs.SideLaws.{side-reversed, SideParts, side-parts}
-use Rattle.laws_charts.proofs.SideFirstLaws.{SideFirst, side-found}
+use Rattle.laws_charts.proofs.SideFirstLaws.{SideFirst}
 use Rattle.laws_charts.proofs.NeighbourLaws.{NeighbourOf, neighbour-found, neighbour-other}
 
 -- triangle i split on a side at p, where t is its rotation with p on ab
 pub record SideSplit (i : ℕ) (p : Point) (table next : Table) : Type 0 where
   pub below : i < length table
   pub t : Triangle
-  pub found : sideFirst (position (numbered table i) p) (numbered table i) ≡ some t
+  pub first : SideFirst (numbered table i) p t
   pub few : length next ≤ maxTriangles
   pub is : next ≡ sideSplitBoth table i t p (neighbourFrom t 0 table)
 
--- an accepted side split is one
-pub sideSplit-done : (i : ℕ) (p : Point) (table next : Table) → sideSplitTable i p table ≡ done next → SideSplit i p table next
-unfolding sideSplitTable sideSplitFirst sideSplitRow withinTable
-sideSplit-done i p table next e =
-    let f = refuseIf-done (leb (length table) i) NoSuchTriangle e in
-    let beyond : length table ≤ i → ⊥ = λ l. f .0 (le→leb (length table) i l) in
-    go (omega arith) (sideFirst (position (numbered table i) p) (numbered table i)) refl (f .1)
-  where
-    go : i < length table → (o : Option Triangle) → sideFirst (position (numbered table i) p) (numbered table i) ≡ o
-        → sideSplitFirst i o p table ≡ done next → SideSplit i p table next
-    go l none q e = absurd (refused-done e)
-    go l (some t) q e =
-        let made = sideSplitBoth table i t p (neighbourFrom t 0 table) in
-        let h = refuseIf-done (ltb maxTriangles (length made)) TableFull e in
-        let is = sym (done-same (h .1)) in
-        let over : maxTriangles < length made → ⊥ = λ k. h .0 (lt→ltb maxTriangles (length made) k) in
-        record { below = l; t = t; found = q; few = omega (arith, ap length is); is = is }
+-- an accepted side split of a triangle with p on a side is one
+pub sideSplit-done : {i : ℕ} {p : Point} {table next : Table} → i < length table → {t : Triangle} → SideFirst (numbered table i) p t
+    → sideSplitRow i t p table ≡ done next → SideSplit i p table next
+unfolding sideSplitRow
+sideSplit-done below {t} first e = let h = within-done _ e in record { below = below; t = t; first = first; few = h .1; is = h .0 }
 
 -- ---- the table that a side split makes
 
@@ -89,14 +76,10 @@ module _ (table : Table) (i : ℕ) (t : Triangle) (p : Point) where
       )
 
 module _ {i : ℕ} {p : Point} {table next : Table} (s : SideSplit i p table next) (good : Every (λ t. T (proper t)) table) where
-  -- t, of which p is on the side ab
-  pub split-first : SideFirst (numbered table i) p (s .t)
-  split-first = side-found (numbered table i) p (numbered-proper table good i (s .below)) (s .found)
-
   -- the neighbour, of which p is on the side ab too
   neighbour-first : {u : Neighbour} → NeighbourOf (s .t) table u → SideFirst (numbered table (u .number)) p (u .rotation)
   neighbour-first {u} n =
-      let on = subst (λ q. OnSide q (u .rotation .b) p) (n .ba) (subst (λ q. OnSide (s .t .b) q p) (n .ab) (side-reversed (split-first .on))) in
+      let on = subst (λ q. OnSide q (u .rotation .b) p) (n .ba) (subst (λ q. OnSide (s .t .b) q p) (n .ab) (side-reversed (s .first .on))) in
       record { rotation = n .rotation; on = on }
 
   -- the two parts of triangle j, in its rotation r
@@ -111,7 +94,7 @@ module _ {i : ℕ} {p : Point} {table next : Table} (s : SideSplit i p table nex
   sideSplit-every {P} h parts = subst (Every P) (sym (s .is)) (go (neighbourFrom (s .t) 0 table) refl)
     where
       here : Every P (sideSplitAt table i (s .t) p)
-      here = let f = parts i (s .below) (s .t) split-first in at-every table i (s .t) p h (f .0) (f .1)
+      here = let f = parts i (s .below) (s .t) (s .first) in at-every table i (s .t) p h (f .0) (f .1)
 
       go : (o : Option Neighbour) → neighbourFrom (s .t) 0 table ≡ o → Every P (sideSplitBoth table i (s .t) p o)
       go none e = here
@@ -134,14 +117,14 @@ module _ {i : ℕ} {p : Point} {table next : Table} (s : SideSplit i p table nex
 
       here : totalArea half ≡ totalArea table
       here =
-          at-area table i (s .t) p (s .below) (rotations-area (numbered table i) (s .t) (split-first .rotation)) (sideSplit-parts i (s .below) split-first)
+          at-area table i (s .t) p (s .below) (rotations-area (numbered table i) (s .t) (s .first .rotation)) (sideSplit-parts i (s .below) (s .first))
 
       go : (o : Option Neighbour) → neighbourFrom (s .t) 0 table ≡ o → totalArea (sideSplitBoth table i (s .t) p o) ≡ totalArea table
       go none e = here
       go (some u) e =
           let n = neighbour-found (s .t) table e in
           let j = u .number in
-          let other = neighbour-other i (numbered-proper table good i (s .below)) (split-first .rotation) n in
+          let other = neighbour-other i (numbered-proper table good i (s .below)) (s .first .rotation) n in
           let same : doubledArea (u .rotation) ≡ doubledArea (numbered half j) =
           rotations-area (numbered table j) (u .rotation) (n .rotation) ∙ ap (λ t. doubledArea t) (sym (at-other table i (s .t) p j (n .below) other)) in
           at-area half j (u .rotation) p (omega (arith, n .below, sideSplitAt-length table i (s .t) p)) same (sideSplit-parts j (n .below) (neighbour-first n)) ∙ here

@@ -19,8 +19,9 @@ use Rattle.laws_histories.proofs.IndexedOverlay.{indexed-overlay}
 -- "Take two charts and a pairs list, all in buffers at least as long as document 01 asks, each chart begun by a load of an empty table.
 -- Then, for every two lists of loads, splits, take-outs and flips, one for each chart, refused calls included, each chart holds document
 -- 01's plain table after the same list, with that table's entries, and the overlay after them answers" by the plain tables, as
--- `HistoriesOverlaid` says. "The lists of edits .. may hold" side splits too (document 02, wish 2): the events are all five. The charts hold
--- anything at first; all that is asked of the events is that the numbers of a load are 16-bit, as document 01's tables are
+-- `HistoriesOverlaid` says. By document 02, wish 4, it is right "after any list of loads, inserts, take-outs and flips": these four are the
+-- events, and an insert splits the triangle that it takes, inside or on a side. The charts hold anything at first; all that is asked of the
+-- events is that the numbers of a load are 16-bit, as document 01's tables are
 pub demand-3 : (c d : Chart) (pairs : List ℕ) → tooShort c ≡ false → tooShort d ≡ false → pairsLength ≤ length pairs
     → (es fs : List Event) → T (all (λ e. sixteenBitEvent e) es) → T (all (λ f. sixteenBitEvent f) fs)
     → HistoriesOverlaid c d pairs es fs (chartAfter (load [] ∷ es) c) (chartAfter (load [] ∷ fs) d)

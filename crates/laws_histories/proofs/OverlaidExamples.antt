@@ -9,7 +9,7 @@ use native.Mathlib.Omega.{arith}
 use lib.IntN.{pos}
 use lib.ListN.{getD, replicate}
 use Rattle.spec_charts.specs.Table.{Table}
-use Rattle.spec_charts.specs.Edits.{load, sideSplit}
+use Rattle.spec_charts.specs.Edits.{load, insert}
 use Rattle.spec_charts.proofs.Written.{at}
 use Rattle.spec_charts.specs.Overlay.{Pair, pair, Earlier, SharesGround}
 use Rattle.spec_calls.specs.Buffers.{Chart, chartTable, chartEntries}
@@ -84,13 +84,13 @@ histories-example : (c d : Chart) (o : Overlaid) (before : List ℕ)
 unfolding evaluate
 histories-example c d o before h = (h .first, (h .second, h .overlaid))
 
--- a side split in either list: accepted on the first, and refused, as the point is inside a triangle, on the second
+-- an insert in either list: accepted on a side on the first, and refused, as the point is a corner, on the second
 abbrev halves : Table
 halves =
     record { a = at 0 0; b = at 32768 0; c = at 0 65535 } ∷ record { a = at 32768 0; b = at 65535 0; c = at 0 65535 } ∷ []
 
-sideSplit-histories-example : (c d : Chart) (o : Overlaid) (before : List ℕ)
-    → HistoriesOverlaid dirty dirty before (load numbersU ∷ sideSplit 0 (at 32768 0) ∷ []) (load numbersA ∷ sideSplit 1 (at 50000 50000) ∷ []) c d o
+insert-histories-example : (c d : Chart) (o : Overlaid) (before : List ℕ)
+    → HistoriesOverlaid dirty dirty before (load numbersU ∷ insert (at 32768 0) ∷ []) (load numbersA ∷ insert (at 0 40000) ∷ []) c d o
     → HoldsTable dirty c halves × (HoldsTable dirty d two × TablesOverlaid halves two before o)
 unfolding evaluate
-sideSplit-histories-example c d o before h = (h .first, (h .second, h .overlaid))
+insert-histories-example c d o before h = (h .first, (h .second, h .overlaid))

@@ -30,36 +30,32 @@ module _ (b : ℕ) where
   unfolding operandBytes chartBytes takesChart wordCount
   bytes-load e = rw e
 
-  pub bytes-split : b ≡ 3 → 7 ≡ operandBytes b
-  unfolding operandBytes chartBytes takesChart wordCount
-  bytes-split e = rw e
-
-pub bytes-two : (b : ℕ) → leb 4 b && leb b 6 ≡ true → 5 ≡ operandBytes b
+pub bytes-two : (b : ℕ) → leb 3 b && leb b 6 ≡ true → 5 ≡ operandBytes b
 unfolding operandBytes chartBytes takesChart wordCount
 bytes-two zero h = cc
 bytes-two (suc zero) h = cc
 bytes-two (suc (suc zero)) h = cc
-bytes-two (suc (suc (suc zero))) h = cc
+bytes-two (suc (suc (suc zero))) h = refl
 bytes-two (suc (suc (suc (suc zero)))) h = refl
 bytes-two (suc (suc (suc (suc (suc zero))))) h = refl
 bytes-two (suc (suc (suc (suc (suc (suc zero)))))) h = refl
 bytes-two (suc (suc (suc (suc (suc (suc (suc b))))))) h =
     let n = suc (suc (suc (suc (suc (suc (suc b)))))) in
-    let e : _≡_ {A = Bool} false true = rw (le-leb 4 n (omega arith), lt-leb n 6 (omega arith)) at h in
+    let e : _≡_ {A = Bool} false true = rw (le-leb 3 n (omega arith), lt-leb n 6 (omega arith)) at h in
     cc
 
-pub bytes-none : (b : ℕ) → (b ≡ 1 → ⊥) → (b ≡ 2 → ⊥) → (b ≡ 3 → ⊥) → leb 4 b && leb b 6 ≡ false → 0 ≡ operandBytes b
+pub bytes-none : (b : ℕ) → (b ≡ 1 → ⊥) → (b ≡ 2 → ⊥) → leb 3 b && leb b 6 ≡ false → 0 ≡ operandBytes b
 unfolding operandBytes chartBytes takesChart wordCount
-bytes-none zero h1 h2 h3 h = refl
-bytes-none (suc zero) h1 h2 h3 h = absurd (h1 refl)
-bytes-none (suc (suc zero)) h1 h2 h3 h = absurd (h2 refl)
-bytes-none (suc (suc (suc zero))) h1 h2 h3 h = absurd (h3 refl)
-bytes-none (suc (suc (suc (suc zero)))) h1 h2 h3 h = cc
-bytes-none (suc (suc (suc (suc (suc zero))))) h1 h2 h3 h = cc
-bytes-none (suc (suc (suc (suc (suc (suc zero)))))) h1 h2 h3 h = cc
-bytes-none (suc (suc (suc (suc (suc (suc (suc b))))))) h1 h2 h3 h =
+bytes-none zero h1 h2 h = refl
+bytes-none (suc zero) h1 h2 h = absurd (h1 refl)
+bytes-none (suc (suc zero)) h1 h2 h = absurd (h2 refl)
+bytes-none (suc (suc (suc zero))) h1 h2 h = cc
+bytes-none (suc (suc (suc (suc zero)))) h1 h2 h = cc
+bytes-none (suc (suc (suc (suc (suc zero))))) h1 h2 h = cc
+bytes-none (suc (suc (suc (suc (suc (suc zero)))))) h1 h2 h = cc
+bytes-none (suc (suc (suc (suc (suc (suc (suc b))))))) h1 h2 h =
     let n = suc (suc (suc (suc (suc (suc (suc b)))))) in
-    rw (le-leb 2 n (omega arith), lt-leb n 6 (omega arith), ne-eqb n 1 (omega arith), ne-eqb n 3 (omega arith), le-leb 4 n (omega arith))
+    rw (le-leb 2 n (omega arith), lt-leb n 6 (omega arith), ne-eqb n 1 (omega arith), le-leb 3 n (omega arith))
 
 -- ---- whether they begin a command
 

@@ -32,10 +32,7 @@ pub fn operand_bytes(b: u8) -> usize
     if b == 2 {
         return 1;
     }
-    if b == 3 {
-        return 7;
-    }
-    if (4 <= b) & (b <= 6) {
+    if (3 <= b) & (b <= 6) {
         return 5;
     }
     0

@@ -5,7 +5,7 @@ ghost use Prim.Native.Nat.{_+_, _≤_, _<_};
 ghost use lib.ListN.{length, drop};
 ghost use Rattle.spec_log.specs.Log.{wordsOf};
 ghost use Rattle.log_lines.specs.Bytes.{Wrote};
-ghost use Rattle.log_bytes.specs.Words.{wordAt, editNumbers, editLength};
+ghost use Rattle.log_bytes.specs.Words.{wordAt, editNumbers};
 
 // A byte in 16 bits.
 fn wide(b: u8) -> u16
@@ -36,16 +36,9 @@ pub fn put_six(held: &[u8; 13], numbers: &mut [u16], at: usize)
     }
 }
 
-// The numbers of an edit's call, and more after them.
-pub fn edit_numbers(held: &[u8; 13]) -> [u16; 4]
+// The numbers of an edit's call.
+pub fn edit_numbers(held: &[u8; 13]) -> [u16; 3]
     ensures { λ r. ⌜ r ≡ editNumbers (now (held .entry)) ⌝ }
 {
-    [wide(held[0]), word(held, 2), word(held, 4), word(held, 6)]
-}
-
-// How many numbers the call of an edit has: four for a split, three for a take-out or a flip.
-pub fn edit_length(b: u8) -> usize
-    ensures { λ r. ⌜ (r ≡ editLength b) × (r ≤ 4) ⌝ }
-{
-    if b == 3 { 4 } else { 3 }
+    [wide(held[0]), word(held, 2), word(held, 4)]
 }

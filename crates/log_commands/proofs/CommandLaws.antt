@@ -9,13 +9,13 @@ use native.Mathlib.Omega.{arith}
 use borrow.Author.Tests.{ne-eqb, leb-true, le-leb}
 use lib.Dec.{leb}
 use lib.ListN.{getD, drop}
-use lib.Seq.{getD-drop, drop-drop}
+use lib.Seq.{getD-drop}
 use Rattle.spec_calls.specs.Buffers.{Chart}
 use Rattle.spec_log.specs.Log.{State, Step, waitStep, loadStep, locateStep, overlayStep, pointOperand, runCommand, takesChart, wordCount, chartBytes, wordsOf, stepOf}
 use Rattle.log_lines.specs.Bytes.{Wrote}
 use Rattle.log_state.specs.State.{Ran}
 use Rattle.log_bytes.specs.Words.{wordAt}
-use Rattle.log_bytes.proofs.WordLaws.{word-after}
+use Rattle.log_bytes.proofs.WordLaws.{step-two}
 use Rattle.log_waiting.specs.Waiting.{waitingIn, Waited}
 use Rattle.log_waiting.proofs.WaitLaws.{wait-charts}
 use Rattle.log_edits.specs.Edits.{Running}
@@ -28,9 +28,8 @@ module _ (b : ℕ) (bytes : List ℕ) (s : State) where
   step-wait e = rw e
 
   pub step-locate : b ≡ 6 → locateStep (getD bytes 1 0) (record { x = wordAt bytes 2; y = wordAt bytes 4 }) s ≡ stepOf b (drop 1 bytes) s
-  unfolding stepOf runCommand wordCount chartBytes takesChart pointOperand
-  step-locate e =
-      rw (e, sym (getD-drop 1 bytes 0 0), drop-drop 1 1 bytes, word-after 2 2 bytes 0 (omega arith), word-after 2 2 bytes 1 (omega arith)) refl
+  unfolding runCommand pointOperand
+  step-locate e = sym (step-two b bytes s (omega arith) (omega arith) ∙ rw e)
 
   pub step-overlay : (b ≡ 1 → ⊥) → (b ≡ 2 → ⊥) → (b ≡ 3 → ⊥) → (b ≡ 4 → ⊥) → (b ≡ 5 → ⊥) → (b ≡ 6 → ⊥) → overlayStep s ≡ stepOf b (drop 1 bytes) s
   unfolding stepOf runCommand

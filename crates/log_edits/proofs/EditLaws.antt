@@ -5,17 +5,19 @@ use mathlib.Core.Path.{_≡_, refl, sym, _∙_, ap, subst}
 use mathlib.Core.List.{List, [], _∷_}
 use Prim.Native.Nat.{ℕ, zero, suc, _+_, _≤_}
 use native.Mathlib.Omega.{arith}
+use borrow.Author.Tests.{le-leb}
 use lib.ListN.{length, getD, take, drop, set, length-drop}
-use lib.Seq.{getD-drop, drop-drop, length-take-le}
+use lib.Seq.{length-take-le}
 use Rattle.spec_charts.specs.Table.{Table, pointAt}
 use Rattle.spec_charts.specs.Refusals.{Outcome}
 use Rattle.spec_charts.specs.Edits.{load, eventOn}
 use Rattle.spec_calls.specs.Buffers.{Chart}
-use Rattle.spec_log.specs.Log.{State, Step, tableIn, withChart, withWaiting, eventStep, loadStep, pointOperand, runCommand, takesChart, wordCount, chartBytes, stepOf}
+use Rattle.spec_log.specs.Log.{State, Step, tableIn, withChart, withWaiting, eventStep, loadStep, pointOperand, runCommand, stepOf}
 use Rattle.replay_calls.specs.Encoding.{IsCall, callLength, callEvent}
+use Rattle.replay_calls.proofs.EncodingLaws.{length-edit}
 use Rattle.log_state.specs.State.{Charts, Ran}
-use Rattle.log_bytes.specs.Words.{wordAt, editLength}
-use Rattle.log_bytes.proofs.WordLaws.{word-after}
+use Rattle.log_bytes.specs.Words.{wordAt, editNumbers}
+use Rattle.log_bytes.proofs.WordLaws.{step-two}
 use Rattle.log_waiting.specs.Waiting.{callHead, waitingIn}
 
 -- the same step, said otherwise
@@ -25,41 +27,33 @@ ran-as {at = at} {next = next} {out = out} {out′ = out′} {d = d} {e = e} is 
 -- ---- commands 3 to 5
 
 -- the numbers of an edit's call
-abbrev editCall : ℕ → List ℕ → List ℕ
-editCall b bytes = take (editLength b) (b ∷ wordAt bytes 2 ∷ wordAt bytes 4 ∷ wordAt bytes 6 ∷ [])
+pub edit-call : (b x y : ℕ) → 3 ≤ b → b ≤ 5 → IsCall (b ∷ x ∷ y ∷ [])
+edit-call b x y h k = record { some = omega arith; whole = length-edit b x (λ e. omega arith) (rw (le-leb 3 b h, le-leb b 5 k)) }
 
-pub edit-call : (b : ℕ) (bytes : List ℕ) → 3 ≤ b → b ≤ 5 → IsCall (editCall b bytes)
-unfolding callLength
-edit-call zero bytes h k = absurd (omega arith)
-edit-call (suc zero) bytes h k = absurd (omega arith)
-edit-call (suc (suc zero)) bytes h k = absurd (omega arith)
-edit-call (suc (suc (suc zero))) bytes h k = record { some = omega arith; whole = refl }
-edit-call (suc (suc (suc (suc zero)))) bytes h k = record { some = omega arith; whole = refl }
-edit-call (suc (suc (suc (suc (suc zero))))) bytes h k = record { some = omega arith; whole = refl }
-edit-call (suc (suc (suc (suc (suc (suc b)))))) bytes h k = absurd (omega arith)
+-- its event is the command's
+step-numbers : (b c x y : ℕ) (s : State) → 3 ≤ b → b ≤ 5
+    → eventStep b c (eventOn (callEvent (b ∷ x ∷ y ∷ [])) (tableIn c s)) s ≡ runCommand b c (x ∷ y ∷ []) s
+unfolding runCommand pointOperand callEvent pointAt
+step-numbers zero c x y s h k = absurd (omega arith)
+step-numbers (suc zero) c x y s h k = absurd (omega arith)
+step-numbers (suc (suc zero)) c x y s h k = absurd (omega arith)
+step-numbers (suc (suc (suc zero))) c x y s h k = refl
+step-numbers (suc (suc (suc (suc zero)))) c x y s h k = refl
+step-numbers (suc (suc (suc (suc (suc zero))))) c x y s h k = refl
+step-numbers (suc (suc (suc (suc (suc (suc b)))))) c x y s h k = absurd (omega arith)
 
 pub step-edit : (b : ℕ) (bytes : List ℕ) (s : State) → 3 ≤ b → b ≤ 5
-    → eventStep (getD (editCall b bytes) 0 0) (getD bytes 1 0) (eventOn (callEvent (editCall b bytes)) (tableIn (getD bytes 1 0) s)) s ≡ stepOf b (drop 1 bytes) s
-unfolding stepOf runCommand wordCount chartBytes takesChart pointOperand callEvent pointAt
-step-edit zero bytes s h k = absurd (omega arith)
-step-edit (suc zero) bytes s h k = absurd (omega arith)
-step-edit (suc (suc zero)) bytes s h k = absurd (omega arith)
-step-edit (suc (suc (suc zero))) bytes s h k =
-    rw (sym (getD-drop 1 bytes 0 0), drop-drop 1 1 bytes, word-after 3 2 bytes 0 (omega arith), word-after 3 2 bytes 1 (omega arith), word-after 3 2 bytes 2 (omega arith)) refl
-step-edit (suc (suc (suc (suc zero)))) bytes s h k =
-    rw (sym (getD-drop 1 bytes 0 0), drop-drop 1 1 bytes, word-after 2 2 bytes 0 (omega arith), word-after 2 2 bytes 1 (omega arith)) refl
-step-edit (suc (suc (suc (suc (suc zero))))) bytes s h k =
-    rw (sym (getD-drop 1 bytes 0 0), drop-drop 1 1 bytes, word-after 2 2 bytes 0 (omega arith), word-after 2 2 bytes 1 (omega arith)) refl
-step-edit (suc (suc (suc (suc (suc (suc b)))))) bytes s h k = absurd (omega arith)
+    → eventStep b (getD bytes 1 0) (eventOn (callEvent (b ∷ wordAt bytes 2 ∷ wordAt bytes 4 ∷ [])) (tableIn (getD bytes 1 0) s)) s ≡ stepOf b (drop 1 bytes) s
+step-edit b bytes s h k = step-numbers b (getD bytes 1 0) (wordAt bytes 2) (wordAt bytes 4) s h k ∙ sym (step-two b bytes s h (omega arith))
 
 -- so the call of an edit is the edit's step
-pub edit-ran : (b : ℕ) (bytes call : List ℕ) → call ≡ editCall b bytes → 3 ≤ b → b ≤ 5 → (s : State)
+pub edit-ran : (bytes call : List ℕ) → call ≡ editNumbers bytes → 3 ≤ getD bytes 0 0 → getD bytes 0 0 ≤ 5 → (s : State)
     → {at next : ℕ} {out out′ : List ℕ} {d e : Chart}
     → Ran (eventStep (getD call 0 0) (getD bytes 1 0) (eventOn (callEvent call) (tableIn (getD bytes 1 0) s)) s) at next out out′ d e
-    → Ran (stepOf b (drop 1 bytes) s) at next out out′ d e
-edit-ran b bytes call is h k s ran =
+    → Ran (stepOf (getD bytes 0 0) (drop 1 bytes) s) at next out out′ d e
+edit-ran bytes call is h k s ran =
     let c = getD bytes 1 0 in
-    ran-as (ap (λ ns. eventStep (getD ns 0 0) c (eventOn (callEvent ns) (tableIn c s)) s) is ∙ step-edit b bytes s h k) ran
+    ran-as (ap (λ ns. eventStep (getD ns 0 0) c (eventOn (callEvent ns) (tableIn c s)) s) is ∙ step-edit (getD bytes 0 0) bytes s h k) ran
 
 -- an event leaves the waiting table
 pub event-waiting : (b c : ℕ) (o : Outcome Table) (s : State) → eventStep b c o s .after .waiting ≡ s .waiting

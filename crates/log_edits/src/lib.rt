@@ -70,11 +70,10 @@ pub fn edit_command(
     ensures { λ r. ⌜ r .at ≤ length (now (out .exit)) ⌝ }
 {
     let numbers = words::edit_numbers(held);
-    let call = &numbers[..words::edit_length(held[0])];
     let c = held[1];
     log_events::event_command(
         c,
-        call,
+        &numbers,
         table0,
         keys0,
         levels0,

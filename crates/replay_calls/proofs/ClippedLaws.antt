@@ -17,7 +17,7 @@ use Rattle.spec_plane.specs.declared.Point.{Point}
 use Rattle.spec_plane.proofs.ExtremeLaws.{OnGrid}
 use Rattle.spec_charts.specs.Table.{Table, IsTable, sixteenBit}
 use Rattle.spec_charts.specs.Refusals.{doneOr}
-use Rattle.spec_charts.specs.Edits.{Event, load, split, takeOut, flip, sideSplit, sixteenBitEvent, afterEvent, afterEvents, plainTable}
+use Rattle.spec_charts.specs.Edits.{Event, load, insert, takeOut, flip, sixteenBitEvent, afterEvent, afterEvents, plainTable}
 use Rattle.spec_charts.proofs.Evaluate.{evaluate}
 use Rattle.laws_charts.proofs.GridLaws.{sixteenBit-reflects}
 use Rattle.laws_charts.proofs.EventTable.{after-event-table, plain-table}
@@ -42,10 +42,9 @@ fits-grid p g =
 point-fits : (e : Event) → PointOnGrid e → T (pointFits e)
 unfolding pointFits
 point-fits (load ns) g = tt
-point-fits (split t p) g = fits-grid p g
+point-fits (insert p) g = fits-grid p g
 point-fits (takeOut p) g = fits-grid p g
 point-fits (flip i j) g = tt
-point-fits (sideSplit t p) g = fits-grid p g
 
 -- the load that is refused changes nothing
 refused-stays : (table : Table) → afterEvent refusedLoad table ≡ table
@@ -66,11 +65,10 @@ refused-expressible : T (expressible refusedLoad)
 unfolding expressible callNumbers sixteenBit all
 refused-expressible = tt
 
--- a command, a triangle and a point
-point-expressible : (k t : ℕ) (p : Point) → k < 65536 → T (sixteenBit (p .x ∷ p .y ∷ [])) → T (sixteenBit (k ∷ min t 65535 ∷ p .x ∷ p .y ∷ []))
-point-expressible k t p h f =
-    sixteenBit-reflects (k ∷ min t 65535 ∷ p .x ∷ p .y ∷ []) .from
-    (every-cons (h, every-cons (omega arith, sixteenBit-reflects (p .x ∷ p .y ∷ []) .to f)))
+-- a command and a point
+point-expressible : (k : ℕ) (p : Point) → k < 65536 → T (sixteenBit (p .x ∷ p .y ∷ [])) → T (sixteenBit (k ∷ p .x ∷ p .y ∷ []))
+point-expressible k p h f =
+    sixteenBit-reflects (k ∷ p .x ∷ p .y ∷ []) .from (every-cons (h, sixteenBit-reflects (p .x ∷ p .y ∷ []) .to f))
 
 -- and is expressible
 shortened-expressible : (e : Event) → T (sixteenBitEvent e) → T (pointFits e) → T (expressible (shortened e))
@@ -82,13 +80,11 @@ shortened-expressible (load ns) w f = go (ltb (length ns) 65536) refl
         let l = ltb-true (length ns) 65536 e in
         sixteenBit-reflects (2 ∷ length ns ∷ ns) .from (every-cons (omega arith, every-cons (l, sixteenBit-reflects ns .to w)))
     go false e = refused-expressible
-shortened-expressible (split t p) w f = point-expressible 3 t p (omega arith) f
-shortened-expressible (takeOut p) w f =
-    sixteenBit-reflects (4 ∷ p .x ∷ p .y ∷ []) .from (every-cons (omega arith, sixteenBit-reflects (p .x ∷ p .y ∷ []) .to f))
+shortened-expressible (insert p) w f = point-expressible 3 p (omega arith) f
+shortened-expressible (takeOut p) w f = point-expressible 4 p (omega arith) f
 shortened-expressible (flip i j) w f =
     sixteenBit-reflects (5 ∷ min i 65535 ∷ min j 65535 ∷ []) .from
     (every-cons (omega arith, every-cons (omega arith, every-cons (omega arith, every-nil (λ n. n < 65536)))))
-shortened-expressible (sideSplit t p) w f = point-expressible 8 t p (omega arith) f
 
 pub clipped-expressible : (e : Event) → T (sixteenBitEvent e) → T (expressible (clipped e))
 unfolding clipped
@@ -105,10 +101,9 @@ expressible-words : (e : Event) → T (expressible e) → T (sixteenBitEvent e)
 unfolding expressible callNumbers sixteenBitEvent
 expressible-words (load ns) h =
     sixteenBit-reflects ns .from (every-uncons (every-uncons (sixteenBit-reflects (2 ∷ length ns ∷ ns) .to h) .1) .1)
-expressible-words (split t p) h = tt
+expressible-words (insert p) h = tt
 expressible-words (takeOut p) h = tt
 expressible-words (flip i j) h = tt
-expressible-words (sideSplit t p) h = tt
 
 clipped-table : (es : List Event) (table : Table) → Every (λ e. T (sixteenBitEvent e)) es → IsTable table
     → afterEvents (map (λ e. clipped e) es) table ≡ afterEvents es table

@@ -3,7 +3,7 @@
 -- Assumes nothing.
 use mathlib.Core.Path.{_≡_, refl, sym, _∙_, ap}
 use mathlib.Core.List.{List, [], _∷_, _++_, flatMap}
-use Prim.Native.Nat.{ℕ, _+_}
+use Prim.Native.Nat.{ℕ}
 use native.Mathlib.Omega.{arith}
 use lib.Dec.{T}
 use lib.ListN.{length, getD, length-append, List·getD-append}
@@ -12,7 +12,7 @@ use Rattle.theory_lists.specs.Lists.{all}
 use Rattle.theory_lists.proofs.ListsLaws.{all-reflects}
 use Rattle.theory_lists.proofs.EveryLaws.{every-flatMap}
 use Rattle.spec_charts.specs.Table.{pointAt, sixteenBit}
-use Rattle.spec_charts.specs.Edits.{Event, load, split, takeOut, flip, sideSplit}
+use Rattle.spec_charts.specs.Edits.{Event, load, insert, takeOut, flip}
 use Rattle.laws_charts.proofs.GridLaws.{sixteenBit-reflects}
 use Rattle.replay_calls.specs.Encoding.{callLength, wholeCall, IsCall, callEvent, decode, callNumbers, encode, expressible}
 use Rattle.replay_calls.proofs.EncodingLaws.{length-two, whole-fits, decode-none, decode-more}
@@ -40,19 +40,17 @@ module _ (call ns : List ℕ) (h : IsCall call) where
 event-call : (e : Event) → IsCall (callNumbers e)
 unfolding callNumbers callLength
 event-call (load ns) = record { some = omega arith; whole = omega arith }
-event-call (split t p) = record { some = omega arith; whole = refl }
+event-call (insert p) = record { some = omega arith; whole = refl }
 event-call (takeOut p) = record { some = omega arith; whole = refl }
 event-call (flip i j) = record { some = omega arith; whole = refl }
-event-call (sideSplit t p) = record { some = omega arith; whole = refl }
 
 -- of that event
 event-same : (e : Event) → callEvent (callNumbers e) ≡ e
 unfolding callNumbers callEvent pointAt
 event-same (load ns) = refl
-event-same (split t p) = refl
+event-same (insert p) = refl
 event-same (takeOut p) = refl
 event-same (flip i j) = refl
-event-same (sideSplit t p) = refl
 
 -- what is written is read
 pub decode-encode : (es : List Event) → decode (encode es) ≡ es

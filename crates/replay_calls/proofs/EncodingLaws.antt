@@ -1,14 +1,14 @@
 -- Lists of calls written as numbers: how long a call is, by its command, and the equations of `decode` that a reader expects.
 -- Assumes nothing.
 use mathlib.Core.Path.{_≡_, refl, sym, _∙_, ap, subst}
-use mathlib.Core.Bool.{Bool, true, false, cond, _||_}
+use mathlib.Core.Bool.{Bool, true, false, cond, _&&_}
 use mathlib.Core.List.{List, [], _∷_, List·Memᴰ, Memᴰ·append-left, Memᴰ·append-right}
 use Prim.Native.Nat.{ℕ, zero, suc, _+_, _-_, _≤_, _<_}
 use native.Mathlib.Nat.{add-zero}
 use native.Mathlib.Omega.{arith}
 use native.Mathlib.Decide.{decLe}
 use borrow.Author.Tests.{eq-eqb, ne-eqb, le-leb, lt-leb, eqb-true, eqb-false}
-use lib.Dec.{T, eqb}
+use lib.Dec.{T, leb, eqb}
 use lib.ListN.{length, getD, take, drop, length-drop, take-append-drop}
 use lib.Seq.{length-take-le, getD-take, getD-drop}
 use Rattle.theory_lists.specs.Lists.{all}
@@ -16,7 +16,7 @@ use Rattle.theory_lists.proofs.Reflects.{reflects-test}
 use Rattle.theory_lists.proofs.ListsLaws.{Every, every-cons, all-reflects, every-places}
 use Rattle.theory_lists.proofs.EveryLaws.{every-nil}
 use Rattle.spec_charts.specs.Table.{pointAt}
-use Rattle.spec_charts.specs.Edits.{load, split, takeOut, flip, sideSplit, sixteenBitEvent}
+use Rattle.spec_charts.specs.Edits.{load, insert, takeOut, flip, sixteenBitEvent}
 use Rattle.laws_charts.proofs.GridLaws.{sixteenBit-reflects}
 use Rattle.replay_calls.specs.Encoding.{callLength, wholeCall, IsCall, callEvent, decodeUpTo, decode}
 
@@ -28,40 +28,33 @@ module _ (k n : ℕ) where
   length-load h = rw (eq-eqb k 2 h)
 
   module _ (l : k ≡ 2 → ⊥) where
-    -- a split or a side split
-    pub length-split : eqb k 3 || eqb k 8 ≡ true → callLength k n ≡ 4
+    -- an insert, a take-out or a flip
+    pub length-edit : leb 3 k && leb k 5 ≡ true → callLength k n ≡ 3
     unfolding callLength
-    length-split h = rw (ne-eqb k 2 l, h)
+    length-edit h = rw (ne-eqb k 2 l, h)
 
-    module _ (s : eqb k 3 || eqb k 8 ≡ false) where
-      -- a take-out or a flip
-      pub length-other : eqb k 4 || eqb k 5 ≡ true → callLength k n ≡ 3
-      unfolding callLength
-      length-other h = rw (ne-eqb k 2 l, s, h)
+    -- no command
+    pub length-none : leb 3 k && leb k 5 ≡ false → callLength k n ≡ 0
+    unfolding callLength
+    length-none h = rw (ne-eqb k 2 l, h)
 
-      -- no command
-      pub length-none : eqb k 4 || eqb k 5 ≡ false → callLength k n ≡ 0
-      unfolding callLength
-      length-none h = rw (ne-eqb k 2 l, s, h)
-
-      -- so what has a length and is no load, no split and no side split has the length 3
-      pub length-three : 0 < callLength k n → callLength k n ≡ 3
-      length-three p = go (eqb k 4 || eqb k 5) refl
-        where
-          go : (b : Bool) → eqb k 4 || eqb k 5 ≡ b → callLength k n ≡ 3
-          go true e = length-other e
-          go false e = absurd (omega (arith, length-none e))
+    -- so what has a length and is no load has the length 3
+    pub length-three : 0 < callLength k n → callLength k n ≡ 3
+    length-three p = go (leb 3 k && leb k 5) refl
+      where
+        go : (b : Bool) → leb 3 k && leb k 5 ≡ b → callLength k n ≡ 3
+        go true e = length-edit e
+        go false e = absurd (omega (arith, length-none e))
 
 -- what has a length has two numbers at least
 pub length-two : (k n : ℕ) → 0 < callLength k n → 2 ≤ callLength k n
 unfolding callLength
-length-two k n p = go (eqb k 2) (eqb k 3 || eqb k 8) (eqb k 4 || eqb k 5) p
+length-two k n p = go (eqb k 2) (leb 3 k && leb k 5) p
   where
-    go : (a b c : Bool) → 0 < cond a (n + 2) (cond b 4 (cond c 3 0)) → 2 ≤ cond a (n + 2) (cond b 4 (cond c 3 0))
-    go true b c h = omega arith
-    go false true c h = omega arith
-    go false false true h = omega arith
-    go false false false h = absurd (omega arith)
+    go : (a b : Bool) → 0 < cond a (n + 2) (cond b 3 0) → 2 ≤ cond a (n + 2) (cond b 3 0)
+    go true b h = omega arith
+    go false true h = omega arith
+    go false false h = absurd (omega arith)
 
 -- ---- the call at the start of a list
 
@@ -183,15 +176,13 @@ module _ {P : ℕ → Type 0} (n : ℕ) (ns : List ℕ) (w : Every P ns) where
 -- the event of 16-bit numbers has 16-bit numbers
 event-words : (ns : List ℕ) → Every (λ n. n < 65536) ns → T (sixteenBitEvent (callEvent ns))
 unfolding callEvent sixteenBitEvent
-event-words ns w = go (eqb (getD ns 0 0) 2) (eqb (getD ns 0 0) 3) (eqb (getD ns 0 0) 8) (eqb (getD ns 0 0) 4)
+event-words ns w = go (eqb (getD ns 0 0) 2) (eqb (getD ns 0 0) 3) (eqb (getD ns 0 0) 4)
   where
-    go : (a b c d : Bool) → T (sixteenBitEvent (cond a (load (drop 2 ns)) (cond b (split (getD ns 1 0) (pointAt ns 2))
-        (cond c (sideSplit (getD ns 1 0) (pointAt ns 2)) (cond d (takeOut (pointAt ns 1)) (flip (getD ns 1 0) (getD ns 2 0)))))))
-    go true b c d = sixteenBit-reflects (drop 2 ns) .from (every-drop 2 ns w)
-    go false true c d = tt
-    go false false true d = tt
-    go false false false true = tt
-    go false false false false = tt
+    go : (a b c : Bool) → T (sixteenBitEvent (cond a (load (drop 2 ns)) (cond b (insert (pointAt ns 1)) (cond c (takeOut (pointAt ns 1)) (flip (getD ns 1 0) (getD ns 2 0))))))
+    go true b c = sixteenBit-reflects (drop 2 ns) .from (every-drop 2 ns w)
+    go false true c = tt
+    go false false true = tt
+    go false false false = tt
 
 upTo-words : (m : ℕ) (ns : List ℕ) → Every (λ n. n < 65536) ns → Every (λ e. T (sixteenBitEvent e)) (decodeUpTo m ns)
 unfolding decodeUpTo

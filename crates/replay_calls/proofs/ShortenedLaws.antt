@@ -1,5 +1,5 @@
--- A load of more than 65,535 numbers comes to what one of 7 numbers comes to, refusal 4, and an edit of triangle t, i or j from 65,536
--- on to what one of 65,535 comes to, refusal 6.
+-- A load of more than 65,535 numbers comes to what one of 7 numbers comes to, refusal 4, and a flip of i or j from 65,536 on
+-- to what one of 65,535 comes to, refusal 6.
 -- Assumes nothing.
 use mathlib.Core.Path.{_≡_, refl, sym, _∙_, ap}
 use mathlib.Core.Bool.{Bool, true, false, cond, or-true}
@@ -10,11 +10,10 @@ use native.Mathlib.Decide.{decLe}
 use borrow.Author.Tests.{lt-ltb, le-leb, ltb-false}
 use lib.Dec.{ltb}
 use lib.ListN.{length}
-use Rattle.spec_plane.specs.declared.Point.{Point}
 use Rattle.spec_charts.specs.Table.{Table, maxTriangles, tableLength}
 use Rattle.spec_charts.specs.declared.Refusal.the-variants.{BadLength, NoSuchTriangle}
 use Rattle.spec_charts.specs.Refusals.{Outcome, refused, refuseIf, andThen}
-use Rattle.spec_charts.specs.Edits.{Event, load, split, takeOut, flip, sideSplit, loadTable, splitTable, flipTable, sideSplitTable, proposed, withinLimit, eventOn}
+use Rattle.spec_charts.specs.Edits.{Event, load, insert, takeOut, flip, loadTable, flipTable, proposed, withinLimit, eventOn}
 use Rattle.laws_charts.proofs.CountedLaws.{event-limited}
 use Rattle.replay_calls.specs.Encoding.{refusedLoad, shortened}
 
@@ -24,14 +23,6 @@ unfolding loadTable refuseIf
 load-long ns h = rw (lt-ltb tableLength (length ns) h, or-true)
 
 -- a triangle that the table does not have
-split-none : (t : ℕ) (p : Point) (table : Table) → length table ≤ t → splitTable t p table ≡ refused NoSuchTriangle
-unfolding splitTable refuseIf
-split-none t p table h = rw (le-leb (length table) t h)
-
-sideSplit-none : (t : ℕ) (p : Point) (table : Table) → length table ≤ t → sideSplitTable t p table ≡ refused NoSuchTriangle
-unfolding sideSplitTable refuseIf
-sideSplit-none t p table h = rw (le-leb (length table) t h)
-
 flip-none-first : (i j : ℕ) (table : Table) → length table ≤ i → flipTable i j table ≡ refused NoSuchTriangle
 unfolding flipTable refuseIf
 flip-none-first i j table h = rw (le-leb (length table) i h)
@@ -55,12 +46,11 @@ module _ (table : Table) (few : length table ≤ maxTriangles) where
       go : (b : Bool) → ltb (length ns) 65536 ≡ b → proposed (cond b (load ns) refusedLoad) table ≡ loadTable ns
       go true e = refl
       go false e = let h = ltb-false (length ns) 65536 e in sym (load-long ns (omega arith))
-  shortened-proposed (split t p) = number-shortened (λ t. splitTable t p table) (λ t h. split-none t p table h) t
+  shortened-proposed (insert p) = refl
   shortened-proposed (takeOut p) = refl
   shortened-proposed (flip i j) =
       number-shortened (λ i. flipTable i (min j 65535) table) (λ i h. flip-none-first i (min j 65535) table h) i
       ∙ number-shortened (λ j. flipTable i j table) (λ j h. flip-none-second i j table h) j
-  shortened-proposed (sideSplit t p) = number-shortened (λ t. sideSplitTable t p table) (λ t h. sideSplit-none t p table h) t
 
   -- it comes to the same on every table, refusal 4 or 6 included
   pub shortened-same : (e : Event) → eventOn (shortened e) table ≡ eventOn e table

@@ -9,13 +9,11 @@ ghost use Rattle.replay_calls.specs.Encoding.{callLength, wholeCall};
 // The commands.
 pub const LOAD: u16 = 2;
 
-pub const SPLIT: u16 = 3;
+pub const INSERT: u16 = 3;
 
 pub const TAKE_OUT: u16 = 4;
 
 pub const FLIP: u16 = 5;
-
-pub const SIDE_SPLIT: u16 = 8;
 
 // How many numbers a call takes with its command, by the command and the number after it; 0 where the command is another.
 fn call_length(command: u16, n: u16) -> usize
@@ -24,10 +22,7 @@ fn call_length(command: u16, n: u16) -> usize
     if command == LOAD {
         return numbers::index(n) + 2;
     }
-    if (command == SPLIT) | (command == SIDE_SPLIT) {
-        return 4;
-    }
-    if (command == TAKE_OUT) | (command == FLIP) {
+    if (INSERT <= command) & (command <= FLIP) {
         return 3;
     }
     0

@@ -1,25 +1,18 @@
 -- One call by its numbers: how many they are, and which call of a chart they make.
 -- Assumes nothing.
 use mathlib.Core.Path.{_≡_, sym, _∙_}
-use mathlib.Core.Bool.{Bool, true, false, _||_}
 use mathlib.Core.List.{List}
 use Prim.Native.Nat.{ℕ, _-_, _≤_}
 use native.Mathlib.Omega.{arith}
-use borrow.Author.Tests.{eq-eqb, ne-eqb, eqb-true}
-use lib.Dec.{eqb}
+use borrow.Author.Tests.{eq-eqb, ne-eqb}
 use lib.ListN.{length, getD, take, drop, length-drop}
 use lib.Seq.{take-all}
-use Rattle.theory_lists.proofs.Reflects.{or-neither}
 use Rattle.spec_charts.specs.Table.{pointAt}
 use Rattle.spec_calls.specs.Buffers.{Chart}
-use Rattle.spec_calls.specs.Calls.{loadCall, splitCall, takeOutCall, flipCall, sideSplitCall}
+use Rattle.spec_calls.specs.Calls.{loadCall, insertCall, takeOutCall, flipCall}
 use Rattle.spec_calls.specs.History.{eventCall}
-use Rattle.replay_calls.specs.Encoding.{IsCall, IsSplit, callEvent}
-use Rattle.replay_calls.proofs.EncodingLaws.{length-load, length-split, length-three}
-
--- one that is not the first of two is the second
-second : (a b : Bool) → a || b ≡ true → a ≡ false → b ≡ true
-second a b e f = rw f at e
+use Rattle.replay_calls.specs.Encoding.{IsCall, callEvent}
+use Rattle.replay_calls.proofs.EncodingLaws.{length-load, length-three}
 
 module _ (ns : List ℕ) where
   abbrev command : ℕ
@@ -34,13 +27,8 @@ module _ (ns : List ℕ) where
     pub load-long : command ≡ 2 → 2 ≤ length ns
     load-long e = let w = h .whole in omega (arith, length-load command next e)
 
-    module _ (l : command ≡ 2 → ⊥) where
-      pub split-numbers : eqb command 3 || eqb command 8 ≡ true → IsSplit ns
-      split-numbers e = record { four = sym (h .whole) ∙ length-split command next l e; command = e }
-
-      pub other-long : eqb command 3 || eqb command 8 ≡ false → length ns ≡ 3
-      other-long s =
-          let w = h .whole in let some = h .some in sym w ∙ length-three command next l s (omega arith)
+    pub edit-long : (command ≡ 2 → ⊥) → length ns ≡ 3
+    edit-long l = let w = h .whole in let some = h .some in sym w ∙ length-three command next l (omega arith)
 
   -- ---- which call
 
@@ -50,25 +38,15 @@ module _ (ns : List ℕ) where
     load-event e =
         rw (eq-eqb command 2 e, take-all (length ns - 2) (drop 2 ns) (omega (arith, length-drop 2 ns)))
 
-    pub split-event : {t : ℕ} → command ≡ 3 → t ≡ getD ns 1 0 → splitCall t (record { x = getD ns 2 0; y = getD ns 3 0 }) c ≡ eventCall (callEvent ns) c
+    pub insert-event : command ≡ 3 → insertCall (record { x = getD ns 1 0; y = getD ns 2 0 }) c ≡ eventCall (callEvent ns) c
     unfolding callEvent eventCall pointAt
-    split-event e t = rw (ne-eqb command 2 (λ f. omega arith), eq-eqb command 3 e, t)
+    insert-event e = rw e
 
-    pub sideSplit-event : {t : ℕ} → IsSplit ns → (command ≡ 3 → ⊥) → t ≡ getD ns 1 0
-        → sideSplitCall t (record { x = getD ns 2 0; y = getD ns 3 0 }) c ≡ eventCall (callEvent ns) c
+    pub takeOut-event : command ≡ 4 → takeOutCall (record { x = getD ns 1 0; y = getD ns 2 0 }) c ≡ eventCall (callEvent ns) c
     unfolding callEvent eventCall pointAt
-    sideSplit-event h n t =
-        let e = second (eqb command 3) (eqb command 8) (h .command) (ne-eqb command 3 n) in
-        let eight = eqb-true command 8 e in
-        rw (ne-eqb command 2 (λ f. omega arith), ne-eqb command 3 n, e, t)
+    takeOut-event e = rw e
 
-    module _ (l : command ≡ 2 → ⊥) where
-      module _ (s : eqb command 3 || eqb command 8 ≡ false) where
-        pub takeOut-event : command ≡ 4 → takeOutCall (record { x = getD ns 1 0; y = getD ns 2 0 }) c ≡ eventCall (callEvent ns) c
-        unfolding callEvent eventCall pointAt
-        takeOut-event e = let n = or-neither (eqb command 3) (eqb command 8) s in rw (ne-eqb command 2 l, n .0, n .1, eq-eqb command 4 e)
-
-        pub flip-event : {i j : ℕ} → (command ≡ 4 → ⊥) → i ≡ getD ns 1 0 → j ≡ getD ns 2 0 → flipCall i j c ≡ eventCall (callEvent ns) c
-        unfolding callEvent eventCall
-        flip-event t i j =
-            let n = or-neither (eqb command 3) (eqb command 8) s in rw (ne-eqb command 2 l, n .0, n .1, ne-eqb command 4 t, i, j)
+    pub flip-event : {i j : ℕ} → (command ≡ 2 → ⊥) → (command ≡ 3 → ⊥) → (command ≡ 4 → ⊥) → i ≡ getD ns 1 0 → j ≡ getD ns 2 0
+        → flipCall i j c ≡ eventCall (callEvent ns) c
+    unfolding callEvent eventCall
+    flip-event l n t i j = rw (ne-eqb command 2 l, ne-eqb command 3 n, ne-eqb command 4 t, i, j)

@@ -7,31 +7,7 @@ ghost use mathlib.Core.Path.{_≡_};
 ghost use Rattle.spec_calls.specs.History.{eventCall};
 ghost use Rattle.spec_calls.specs.Lent.{given};
 ghost use Rattle.base_answers.specs.Outcomes.{left};
-ghost use Rattle.replay_calls.specs.Encoding.{IsCall, IsSplit, callEvent};
-
-// Makes a split or a side split on a chart.
-fn run_split(
-    call: &[u16],
-    table: &mut [u16],
-    keys: &mut [u32],
-    levels: &mut [u8],
-    items: &mut [u16],
-    triangles: usize,
-    entries: usize,
-) -> Changed
-    requires { ⌜ IsSplit (now call) ⌝ }
-    ensures { λ r. ⌜ left table keys levels items r ≡ eventCall (callEvent (now (call .entry))) (given table keys levels items triangles entries) ⌝ }
-{
-    let t = numbers::index(call[1]);
-    let p = Point {
-        x: call[2],
-        y: call[3],
-    };
-    if call[0] == replay_calls::SPLIT {
-        return call_edits::split(table, keys, levels, items, triangles, entries, t, p);
-    }
-    call_edits::side_split(table, keys, levels, items, triangles, entries, t, p)
-}
+ghost use Rattle.replay_calls.specs.Encoding.{IsCall, callEvent};
 
 // Makes a call on a chart. The numbers are those of one whole call.
 pub fn run_call(
@@ -50,14 +26,14 @@ pub fn run_call(
         let words = &call[2..call.len()];
         return call_load::load(words, table, keys, levels, items, triangles, entries);
     }
-    if (call[0] == replay_calls::SPLIT) | (call[0] == replay_calls::SIDE_SPLIT) {
-        return run_split(call, table, keys, levels, items, triangles, entries);
+    let p = Point {
+        x: call[1],
+        y: call[2],
+    };
+    if call[0] == replay_calls::INSERT {
+        return call_edits::insert(table, keys, levels, items, triangles, entries, p);
     }
     if call[0] == replay_calls::TAKE_OUT {
-        let p = Point {
-            x: call[1],
-            y: call[2],
-        };
         return call_edits::take_out(table, keys, levels, items, triangles, entries, p);
     }
     let i = numbers::index(call[1]);

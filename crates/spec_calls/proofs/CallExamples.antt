@@ -12,14 +12,14 @@ use Rattle.spec_plane.specs.declared.Position.the-variants.{OnAb, Outside}
 use Rattle.spec_plane.specs.Triangle.{Triangle}
 use Rattle.spec_charts.specs.Table.{Table, tableLength}
 use Rattle.spec_charts.specs.Cells.{entriesOf, maxEntries}
-use Rattle.spec_charts.specs.declared.Refusal.the-variants.{ShortBuffer, BrokenChain, StaleEntries, NoSuchTriangle, TooManyPairs, NotOnSide}
+use Rattle.spec_charts.specs.declared.Refusal.the-variants.{ShortBuffer, BrokenChain, StaleEntries, NoHolder, TooManyPairs, AtCorner}
 use Rattle.spec_charts.specs.Refusals.{rowOf, refused, done, refuseIf, andThen}
-use Rattle.spec_charts.specs.Edits.{Event, load, split, takeOut, flip, sideSplit, sideSplitTable, proposed, limited, withinLimit, counted, eventOn}
+use Rattle.spec_charts.specs.Edits.{Event, load, insert, takeOut, flip, insertTable, proposed, limited, withinLimit, counted, eventOn}
 use Rattle.spec_charts.proofs.Written.{at}
 use Rattle.spec_charts.proofs.RefusalsExamples.{rows}
 use Rattle.spec_charts.proofs.EditExamples.{tri}
 use Rattle.spec_calls.specs.Buffers.{Chart, chartOf, tooShort, chainRule, indexed, indexedChart, chartTable}
-use Rattle.spec_calls.specs.Calls.{Overlaid, ifLong, ifChained, ifIndexed, changedBy, loadCall, editCall, splitCall, takeOutCall, flipCall, sideSplitCall, reading, locateCall, soundCall, areaCall, pairsRefused, overlaidBy, overlayCall}
+use Rattle.spec_calls.specs.Calls.{Overlaid, ifLong, ifChained, ifIndexed, changedBy, loadCall, editCall, insertCall, takeOutCall, flipCall, reading, locateCall, soundCall, areaCall, pairsRefused, overlaidBy, overlayCall}
 use Rattle.spec_calls.specs.History.{eventCall, chartAfter}
 use Rattle.spec_calls.proofs.Evaluate.{evaluate}
 
@@ -89,7 +89,7 @@ changedBy-example : (c : Chart)
     ∷ record { number = 10; value = 0; chart = c }
     ∷ record { number = 11; value = 0; chart = c }
     ∷ record { number = 12; value = 0; chart = c }
-    ∷ record { number = 13; value = 0; chart = c }
+    ∷ record { number = 14; value = 0; chart = c }
     ∷ []
 unfolding evaluate
 changedBy-example c = refl
@@ -127,28 +127,27 @@ unfolding evaluate
 editCall-example e = refl
 
 -- which event each call is
-edit-calls-example : (t i j : ℕ) (p : Point) (c : Chart)
-    → splitCall t p c ∷ takeOutCall p c ∷ flipCall i j c ∷ sideSplitCall t p c ∷ []
-    ≡ editCall (split t p) c ∷ editCall (takeOut p) c ∷ editCall (flip i j) c ∷ editCall (sideSplit t p) c ∷ []
-edit-calls-example t i j p c = refl
+edit-calls-example : (i j : ℕ) (p : Point) (c : Chart)
+    → insertCall p c ∷ takeOutCall p c ∷ flipCall i j c ∷ [] ≡ editCall (insert p) c ∷ editCall (takeOut p) c ∷ editCall (flip i j) c ∷ []
+edit-calls-example i j p c = refl
 
--- 1, 2 and 3, then 6 of a triangle that is not there; then 13, inside U, at two corners and next to its side
-sideSplitCall-example :
-    map (λ c. sideSplitCall 9 (at 7 3) c) (short ∷ broken ∷ stale ∷ chartU ∷ [])
-    ++ map (λ p. sideSplitCall 0 p chartU) (at 7 3 ∷ at 0 65535 ∷ at 65535 0 ∷ at 32768 32768 ∷ [])
+-- 1, 2 and 3, then 7 outside of U, next to its side; then 14, at each corner
+insertCall-example :
+    map (λ c. insertCall (at 32768 32768) c) (short ∷ broken ∷ stale ∷ chartU ∷ [])
+    ++ map (λ p. insertCall p chartU) (at 0 0 ∷ at 65535 0 ∷ at 0 65535 ∷ [])
     ≡ changedBy short (refused ShortBuffer)
     ∷ changedBy broken (refused BrokenChain)
     ∷ changedBy stale (refused StaleEntries)
-    ∷ changedBy chartU (refused NoSuchTriangle)
-    ∷ replicate 4 (changedBy chartU (refused NotOnSide))
+    ∷ changedBy chartU (refused NoHolder)
+    ∷ replicate 3 (changedBy chartU (refused AtCorner))
 unfolding evaluate
-sideSplitCall-example = refl
+insertCall-example = refl
 
--- any chart that 1, 2 and 3 let pass: 6, 13 and 10 by its table, and 11 by the entries of the new one
-sideSplitCall-passed-example : (t : ℕ) (p : Point) (c : Chart) → tooShort c ≡ false → chainRule c ≡ true → indexed c ≡ true
-    → sideSplitCall t p c ≡ changedBy c (andThen (sideSplitTable t p (chartTable c)) (λ u. limited (length (entriesOf u)) u))
+-- any chart that 1, 2 and 3 let pass: 7, 14 and 10 by its table, and 11 by the entries of the new one
+insertCall-passed-example : (p : Point) (c : Chart) → tooShort c ≡ false → chainRule c ≡ true → indexed c ≡ true
+    → insertCall p c ≡ changedBy c (andThen (insertTable p (chartTable c)) (λ u. limited (length (entriesOf u)) u))
 unfolding editCall ifIndexed ifChained ifLong refuseIf eventOn proposed counted withinLimit
-sideSplitCall-passed-example t p c long chained stored = rw (long, chained, stored)
+insertCall-passed-example p c long chained stored = rw (long, chained, stored)
 
 -- Readers
 
@@ -186,7 +185,7 @@ areaCall-example = refl
 
 -- only 12 writes the pairs
 pairsRefused-example : (before : List ℕ)
-    → map (λ r. pairsRefused r before) (NotOnSide ∷ take 11 rows) ≡ replicate 12 before
+    → map (λ r. pairsRefused r before) (AtCorner ∷ take 11 rows) ≡ replicate 12 before
 unfolding evaluate
 pairsRefused-example before = refl
 
@@ -195,8 +194,8 @@ unfolding evaluate
 pairsRefused-many-example = refl
 
 overlaidBy-example : (before : List ℕ)
-    → map (λ r. overlaidBy before (refused r)) (NotOnSide ∷ take 11 rows)
-    ≡ map (λ r. record { number = rowOf r .number; pairCount = 0; meets = 0; pairs = before }) (NotOnSide ∷ take 11 rows)
+    → map (λ r. overlaidBy before (refused r)) (AtCorner ∷ take 11 rows)
+    ≡ map (λ r. record { number = rowOf r .number; pairCount = 0; meets = 0; pairs = before }) (AtCorner ∷ take 11 rows)
 unfolding evaluate
 overlaidBy-example before = refl
 
@@ -237,8 +236,8 @@ overlay-refused-example = refl
 
 -- the event says which call
 eventCall-example : (ns : List ℕ) (c : Chart)
-    → map (λ e. eventCall e c) (load ns ∷ split 3 (at 5 7) ∷ takeOut (at 5 7) ∷ flip 3 5 ∷ sideSplit 3 (at 5 7) ∷ [])
-    ≡ loadCall ns c ∷ splitCall 3 (at 5 7) c ∷ takeOutCall (at 5 7) c ∷ flipCall 3 5 c ∷ sideSplitCall 3 (at 5 7) c ∷ []
+    → map (λ e. eventCall e c) (load ns ∷ insert (at 5 7) ∷ takeOut (at 5 7) ∷ flip 3 5 ∷ [])
+    ≡ loadCall ns c ∷ insertCall (at 5 7) c ∷ takeOutCall (at 5 7) c ∷ flipCall 3 5 c ∷ []
 unfolding eventCall
 eventCall-example ns c = refl
 

@@ -2,20 +2,19 @@
 -- Assumes nothing.
 use mathlib.Core.Path.{_≡_, refl}
 use mathlib.Core.Bool.{true, false}
-use mathlib.Core.List.{List, [], _∷_, _++_, map}
+use mathlib.Core.List.{List, [], _∷_, map}
 use Prim.Native.Nat.{ℕ, _<_}
 use native.Mathlib.Omega.{arith}
 use borrow.Author.Tests.{lt-leb}
 use lib.ListN.{length, take, replicate}
 use Rattle.theory_orthtree.specs.Entries.{entry}
-use Rattle.spec_plane.specs.declared.Point.{Point}
 use Rattle.spec_charts.specs.Table.{noTriangle}
 use Rattle.spec_charts.specs.declared.Refusal.the-variants.{FaultyTriangle}
 use Rattle.spec_charts.specs.Refusals.{refused, done}
-use Rattle.spec_charts.specs.Edits.{split, flip, sideSplit}
+use Rattle.spec_charts.specs.Edits.{flip}
 use Rattle.spec_charts.specs.Overlay.{pair}
 use Rattle.spec_calls.specs.Buffers.{Chart, chartOf, Roomy, padded, zipEntries, chartTable, chartEntries, tableRule, entryCountFits, entriesRule, chainRule, sameEntries, chartWith}
-use Rattle.spec_calls.specs.Calls.{changedBy, editCall, splitCall, flipCall, sideSplitCall, areaCall, overlaidBy}
+use Rattle.spec_calls.specs.Calls.{changedBy, editCall, flipCall, areaCall, overlaidBy}
 use Rattle.spec_calls.specs.History.{eventCall}
 use Rattle.spec_calls.specs.Lent.{Held, held}
 use Rattle.spec_calls.proofs.Evaluate.{evaluate}
@@ -114,17 +113,11 @@ changedBy-large : (c : Chart) → changedBy c (refused (FaultyTriangle 500000000
 unfolding changedBy
 changedBy-large c = refl
 
-edit-large : (p : Point) (c : Chart)
-    → splitCall 4294967296 p c ∷ flipCall 4294967296 4294967297 c ∷ eventCall (split 4294967296 p) c ∷ eventCall (flip 4294967296 4294967297) c ∷ []
-    ≡ editCall (split 4294967296 p) c ∷ editCall (flip 4294967296 4294967297) c ∷ editCall (split 4294967296 p) c ∷ editCall (flip 4294967296 4294967297) c ∷ []
+flip-large : (c : Chart)
+    → flipCall 4294967296 4294967297 c ∷ eventCall (flip 4294967296 4294967297) c ∷ []
+    ≡ editCall (flip 4294967296 4294967297) c ∷ editCall (flip 4294967296 4294967297) c ∷ []
 unfolding eventCall
-edit-large p c = refl
-
-sideSplit-large : (p : Point) (c : Chart)
-    → sideSplitCall 4294967296 p c ∷ eventCall (sideSplit 4294967296 p) c ∷ []
-    ≡ editCall (sideSplit 4294967296 p) c ∷ editCall (sideSplit 4294967296 p) c ∷ []
-unfolding eventCall
-sideSplit-large p c = refl
+flip-large c = refl
 
 -- two triangles of doubled area 10^10 and 6 × 10^10, in one cell
 abbrev wide : Chart

@@ -14,7 +14,7 @@ use Rattle.spec_charts.specs.Table.{Table}
 use Rattle.spec_charts.specs.declared.Refusal.{Refusal}
 use Rattle.spec_charts.specs.declared.Refusal.the-variants.{ShortBuffer, BrokenChain, StaleEntries, TooManyPairs}
 use Rattle.spec_charts.specs.Refusals.{rowOf, Outcome, refused, done, refuseIf, outcomeNumber, doneOr}
-use Rattle.spec_charts.specs.Edits.{Event, load, split, takeOut, flip, sideSplit, eventOn}
+use Rattle.spec_charts.specs.Edits.{Event, load, insert, takeOut, flip, eventOn}
 use Rattle.spec_charts.specs.Overlay.{OverlayAnswer, pairNumbers, overlayOf}
 use Rattle.spec_calls.specs.Buffers.{Chart, tooShort, chainRule, indexed, indexedChart, chartTable, chartEntries, padded, pairsLength}
 use Rattle.spec_charts.specs.Reading.{located, foundPosition, listing, sound, totalArea}
@@ -50,21 +50,18 @@ changedBy c (done t) = record { number = 0; value = 0; chart = indexedChart c t 
 unfoldable pub loadCall : List ℕ → Chart → Changed
 loadCall ns c = changedBy c (ifLong c (eventOn (load ns) (chartTable c)))
 
--- split, take-out, flip and side split: 1, 2 and 3, then what the event comes to on the chart's table
+-- insert, take-out and flip: 1, 2 and 3, then what the event comes to on the chart's table
 unfoldable pub editCall : Event → Chart → Changed
 editCall e c = changedBy c (ifIndexed c (eventOn e (chartTable c)))
 
-abbrev pub splitCall : ℕ → Point → Chart → Changed
-splitCall t p = editCall (split t p)
+abbrev pub insertCall : Point → Chart → Changed
+insertCall p = editCall (insert p)
 
 abbrev pub takeOutCall : Point → Chart → Changed
 takeOutCall p = editCall (takeOut p)
 
 abbrev pub flipCall : ℕ → ℕ → Chart → Changed
 flipCall i j = editCall (flip i j)
-
-abbrev pub sideSplitCall : ℕ → Point → Chart → Changed
-sideSplitCall t p = editCall (sideSplit t p)
 
 -- Readers
 

@@ -1,17 +1,16 @@
 -- Document 01, "Overlay": lists of events on a chart.
 -- Assumes nothing.
 use mathlib.Core.List.{List, [], _∷_}
-use Rattle.spec_charts.specs.Edits.{Event, load, split, takeOut, flip, sideSplit}
+use Rattle.spec_charts.specs.Edits.{Event, load, insert, takeOut, flip}
 use Rattle.spec_calls.specs.Buffers.{Chart}
 use Rattle.spec_calls.specs.Calls.{Changed, loadCall, editCall}
 
 -- the call of an event
 unfoldable pub eventCall : Event → Chart → Changed
 eventCall (load ns) c = loadCall ns c
-eventCall (split t p) c = editCall (split t p) c
+eventCall (insert p) c = editCall (insert p) c
 eventCall (takeOut p) c = editCall (takeOut p) c
 eventCall (flip i j) c = editCall (flip i j) c
-eventCall (sideSplit t p) c = editCall (sideSplit t p) c
 
 -- "Each later call gets its chart's table, three entry lists and both counts as the call before it on that chart left or
 -- returned them"

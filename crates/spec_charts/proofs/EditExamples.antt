@@ -1,4 +1,4 @@
--- Examples of Edits.antt, the parts: what each step of a split, a take-out and a flip makes of its arguments.
+-- Examples of Edits.antt, the parts: what each step of a load, a take-out and a flip makes of its arguments, and what an event is.
 -- Assumes nothing.
 use mathlib.Core.Path.{_≡_, refl}
 use mathlib.Core.Bool.{true, false}
@@ -11,7 +11,7 @@ use Rattle.spec_charts.specs.Table.{Table}
 use Rattle.spec_charts.specs.Cells.{entriesOf}
 use Rattle.spec_charts.specs.declared.Refusal.the-variants.{FaultyTriangle, NotThreeAround, NoFlip}
 use Rattle.spec_charts.specs.Refusals.{Outcome, refused, done, andThen, doneOr}
-use Rattle.spec_charts.specs.Edits.{triangle, rotations, faulty, refuseFaulty, givenTable, loadTable, splitAt, hasCorner, endingIn, closesRound, mergeAround, mergeThree, takeOutThree, sharesSide, flipAs, flipWith, flipAmong, Event, load, split, takeOut, flip, sideSplit, sixteenBitEvent, proposed, limited, eventOn, afterEvents}
+use Rattle.spec_charts.specs.Edits.{triangle, rotations, faulty, refuseFaulty, givenTable, loadTable, hasCorner, endingIn, closesRound, mergeAround, mergeThree, takeOutThree, sharesSide, flipAs, flipWith, flipAmong, Event, load, insert, takeOut, flip, sixteenBitEvent, proposed, limited, eventOn, afterEvents}
 use Rattle.spec_charts.proofs.Evaluate.{evaluate}
 use Rattle.spec_charts.proofs.Written.{at}
 
@@ -63,14 +63,6 @@ loadTable-example : map (λ ns. loadTable ns) ([] ∷ (10 ∷ 20 ∷ 50 ∷ 11 �
     ≡ done [] ∷ done (tri pa pb pc ∷ []) ∷ done (tri pa pb pc ∷ tri pc pa pb ∷ []) ∷ []
 unfolding evaluate
 loadTable-example = refl
-
--- Split
-
--- the triangle given, not the one that stands at the place, is cut up; its place gets (a,b,p), the others are appended in order
-splitAt-example : (q r s : Triangle) (a b c p : Point)
-    → splitAt (q ∷ r ∷ s ∷ []) 1 (tri a b c) p ≡ q ∷ tri a b p ∷ s ∷ tri b c p ∷ tri c a p ∷ []
-unfolding evaluate
-splitAt-example q r s a b c p = refl
 
 -- Take out
 
@@ -170,8 +162,8 @@ flipAmong-example q r s = refl
 -- only a load's numbers have a range
 sixteen-bit-event-example :
     map (λ e. sixteenBitEvent e)
-    (load (0 ∷ 65535 ∷ []) ∷ load (0 ∷ 65536 ∷ []) ∷ split 65536 (at 65536 65536) ∷ takeOut (at 65536 65536) ∷ flip 65536 65536 ∷ sideSplit 65536 (at 65536 65536) ∷ [])
-    ≡ true ∷ false ∷ true ∷ true ∷ true ∷ true ∷ []
+    (load (0 ∷ 65535 ∷ []) ∷ load (0 ∷ 65536 ∷ []) ∷ insert (at 65536 65536) ∷ takeOut (at 65536 65536) ∷ flip 65536 65536 ∷ [])
+    ≡ true ∷ false ∷ true ∷ true ∷ true ∷ []
 unfolding evaluate
 sixteen-bit-event-example = refl
 
@@ -179,10 +171,9 @@ sixteen-bit-event-example = refl
 limit-example : (e : Event) (table : Table) → eventOn e table ≡ andThen (proposed e table) (λ t. limited (length (entriesOf t)) t)
 unfolding evaluate
 limit-example (load ns) table = refl
-limit-example (split t p) table = refl
+limit-example (insert p) table = refl
 limit-example (takeOut p) table = refl
 limit-example (flip i j) table = refl
-limit-example (sideSplit t p) table = refl
 
 -- a refused event leaves the table, an accepted one makes its own; the next goes on from there
 after-example : (e f : Event) (table : Table)

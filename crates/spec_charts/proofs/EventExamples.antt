@@ -1,4 +1,4 @@
--- Examples of Edits.antt, the events: every rotation of the triangles, every order, every refusal alone.
+-- Examples of Edits.antt, take-out, flip and the events: every rotation of the triangles, every order, every refusal alone.
 -- Assumes nothing.
 use mathlib.Core.Path.{_≡_, refl}
 use mathlib.Core.List.{List, [], _∷_, _++_, map, flatMap}
@@ -6,9 +6,9 @@ use Prim.Native.Nat.{ℕ}
 use lib.ListN.{replicate}
 use Rattle.spec_plane.specs.Triangle.{Triangle}
 use Rattle.spec_charts.specs.Table.{Table, tableNumbers}
-use Rattle.spec_charts.specs.declared.Refusal.the-variants.{NoSuchTriangle, NotInside, NotThreeAround, NoFlip, TableFull}
-use Rattle.spec_charts.specs.Refusals.{refused, done, outcomeNumber}
-use Rattle.spec_charts.specs.Edits.{rotations, splitTable, takeOutTable, flipTable, load, split, takeOut, flip, proposed, plainTable}
+use Rattle.spec_charts.specs.declared.Refusal.the-variants.{NoSuchTriangle, NotThreeAround, NoFlip}
+use Rattle.spec_charts.specs.Refusals.{refused, done}
+use Rattle.spec_charts.specs.Edits.{rotations, takeOutTable, flipTable, insertTable, load, insert, takeOut, flip, proposed, plainTable}
 use Rattle.spec_charts.proofs.Evaluate.{evaluate}
 use Rattle.spec_charts.proofs.Written.{at}
 use Rattle.spec_charts.proofs.EditExamples.{pa, pb, pc, pd, pp, tri}
@@ -22,40 +22,6 @@ r = tri (at 1 33) (at 90 2) (at 60 81)
 
 abbrev s : Triangle
 s = tri (at 2 3) (at 91 2) (at 61 82)
-
--- Split
-
--- at each corner, on each side, and next to each side outside: 7
-split-inside-example :
-    map (λ p. outcomeNumber (splitTable 1 p (q ∷ tri (at 10 10) (at 50 20) (at 20 60) ∷ [])))
-    (at 10 10 ∷ at 50 20 ∷ at 20 60 ∷ at 30 15 ∷ at 35 40 ∷ at 15 35 ∷ at 30 14 ∷ at 36 40 ∷ at 14 35 ∷ [])
-    ≡ replicate 9 7
-unfolding evaluate
-split-inside-example = refl
-
--- next to each side inside
-split-done-example :
-    map (λ p. splitTable 1 p (q ∷ tri (at 10 10) (at 50 20) (at 20 60) ∷ s ∷ [])) (at 30 16 ∷ at 34 40 ∷ at 16 35 ∷ [])
-    ≡ map (λ p. done (q ∷ tri (at 10 10) (at 50 20) p ∷ s ∷ tri (at 50 20) (at 20 60) p ∷ tri (at 20 60) (at 10 10) p ∷ [])) (at 30 16 ∷ at 34 40 ∷ at 16 35 ∷ [])
-unfolding evaluate
-split-done-example = refl
-
--- of 511 triangles: 6 before 10, 7 before 10, and 10; of 510 the last may be split
-split-full-example :
-    splitTable 511 pp (replicate 511 (tri pa pb pc))
-    ∷ splitTable 510 pa (replicate 511 (tri pa pb pc))
-    ∷ splitTable 510 pp (replicate 511 (tri pa pb pc))
-    ∷ splitTable 509 pp (replicate 510 (tri pa pb pc))
-    ∷ splitTable 510 pp (replicate 510 (tri pa pb pc))
-    ∷ []
-    ≡ refused NoSuchTriangle
-    ∷ refused NotInside
-    ∷ refused TableFull
-    ∷ done (replicate 509 (tri pa pb pc) ++ (tri pa pb pp ∷ tri pb pc pp ∷ tri pc pa pp ∷ []))
-    ∷ refused NoSuchTriangle
-    ∷ []
-unfolding evaluate
-split-full-example = refl
 
 -- Take out
 
@@ -139,19 +105,19 @@ flip-nine-example = refl
 
 -- the event says which edit
 proposed-example : (t : Table)
-    → map (λ e. proposed e t) (split 3 pp ∷ takeOut pp ∷ flip 3 5 ∷ []) ≡ splitTable 3 pp t ∷ takeOutTable pp t ∷ flipTable 3 5 t ∷ []
+    → map (λ e. proposed e t) (insert pp ∷ takeOut pp ∷ flip 3 5 ∷ []) ≡ insertTable pp t ∷ takeOutTable pp t ∷ flipTable 3 5 t ∷ []
 unfolding evaluate
 proposed-example t = refl
 
--- accepted one after another, a refused one among them: load, flip, split, a take-out of another point; then the split's point
+-- accepted one after another, a refused one among them: load, flip, insert, a take-out of another point; then the point inserted
 -- is taken out; then a load in place of it all
 abbrev loaded : List ℕ
 unfolding evaluate
 loaded = tableNumbers (tri pa pb pc ∷ tri pb pa pd ∷ [])
 
 accepted-example :
-    plainTable (load loaded ∷ flip 0 1 ∷ split 1 (at 35 30) ∷ takeOut pa ∷ [])
-    ∷ plainTable (load loaded ∷ flip 0 1 ∷ split 1 (at 35 30) ∷ takeOut (at 35 30) ∷ flip 1 0 ∷ [])
+    plainTable (load loaded ∷ flip 0 1 ∷ insert (at 35 30) ∷ takeOut pa ∷ [])
+    ∷ plainTable (load loaded ∷ flip 0 1 ∷ insert (at 35 30) ∷ takeOut (at 35 30) ∷ flip 1 0 ∷ [])
     ∷ plainTable (load loaded ∷ flip 0 1 ∷ load (31 ∷ 70 ∷ 10 ∷ 20 ∷ 50 ∷ 11 ∷ []) ∷ load (1 ∷ []) ∷ [])
     ∷ []
     ≡ (tri pa pd pc ∷ tri pd pb (at 35 30) ∷ tri pb pc (at 35 30) ∷ tri pc pd (at 35 30) ∷ [])

@@ -10,7 +10,7 @@ use Rattle.theory_lists.specs.Lists.{filter}
 use Rattle.spec_charts.specs.Table.{Table, tableNumbers}
 use Rattle.spec_charts.specs.Cells.{entriesOf}
 use Rattle.spec_charts.specs.Refusals.{outcomeNumber}
-use Rattle.spec_charts.specs.Edits.{givenTable, load, split, takeOut, flip, proposed, limited, plainTable}
+use Rattle.spec_charts.specs.Edits.{givenTable, load, insert, takeOut, flip, proposed, limited, plainTable}
 use Rattle.spec_charts.specs.Overlay.{overlayOf, withinPairs}
 use Rattle.spec_charts.specs.Reading.{listing, sound, totalArea}
 use Rattle.spec_charts.proofs.Evaluate.{evaluate}
@@ -63,11 +63,17 @@ deep-example = refl
 
 -- Edits
 
--- triangle 1 is split; the new ones are appended
-split-example : outcomeNumbers (proposed (split 1 (at 50000 50000)) tableA)
+-- inside triangle 1, which is split; the new ones are appended
+insert-example : outcomeNumbers (proposed (insert (at 50000 50000)) tableA)
     ≡ 0 ∷ 40000 ∷ 5000 ∷ 45000 ∷ 5000 ∷ 60000 ∷ 45000 ∷ 65535 ∷ 65535 ∷ 0 ∷ 40000 ∷ 50000 ∷ 50000 ∷ 0 ∷ 40000 ∷ 60000 ∷ 45000 ∷ 50000 ∷ 50000 ∷ 60000 ∷ 45000 ∷ 65535 ∷ 65535 ∷ 50000 ∷ 50000 ∷ []
 unfolding evaluate
-split-example = refl
+insert-example = refl
+
+-- on side ab of triangle 1
+insert-side-example : outcomeNumbers (proposed (insert (at 26214 50214)) tableA)
+    ≡ 0 ∷ 40000 ∷ 5000 ∷ 45000 ∷ 5000 ∷ 60000 ∷ 45000 ∷ 65535 ∷ 65535 ∷ 26214 ∷ 50214 ∷ 60000 ∷ 45000 ∷ 26214 ∷ 50214 ∷ 0 ∷ 40000 ∷ 60000 ∷ 45000 ∷ []
+unfolding evaluate
+insert-side-example = refl
 
 -- the three triangles around (9,9) at places 0, 2 and 4; the lowest place stays, the others move down
 takeOut-example : outcomeNumbers
@@ -113,15 +119,16 @@ flip-refused-example :
 unfolding evaluate
 flip-refused-example = refl
 
--- a corner is not strictly inside; no such triangle; a table of 511 is too full for two more, one of 510 is not
-split-refused-example :
-    outcomeNumbers (proposed (split 0 (at 45000 5000)) tableA)
-    ++ outcomeNumbers (proposed (split 2 (at 45000 5000)) tableA)
-    ++ outcomeNumbers (proposed (split 7 (at 2 1)) (replicate 511 (record { a = at 0 0; b = at 9 0; c = at 0 5 })))
-    ++ take 1 (outcomeNumbers (proposed (split 7 (at 2 1)) (replicate 510 (record { a = at 0 0; b = at 9 0; c = at 0 5 }))))
-    ≡ 7 ∷ 0 ∷ 6 ∷ 0 ∷ 10 ∷ 0 ∷ 0 ∷ []
+-- a corner of one triangle, the corner of both; no triangle holds the point; a table of 511 is too full for two more, one of 510 is not
+insert-refused-example :
+    outcomeNumbers (proposed (insert (at 45000 5000)) tableA)
+    ++ outcomeNumbers (proposed (insert (at 60000 45000)) tableA)
+    ++ outcomeNumbers (proposed (insert (at 5000 45000)) tableA)
+    ++ outcomeNumbers (proposed (insert (at 2 1)) (replicate 511 (record { a = at 0 0; b = at 9 0; c = at 0 5 })))
+    ++ take 1 (outcomeNumbers (proposed (insert (at 2 1)) (replicate 510 (record { a = at 0 0; b = at 9 0; c = at 0 5 }))))
+    ≡ 14 ∷ 0 ∷ 14 ∷ 0 ∷ 7 ∷ 0 ∷ 10 ∷ 0 ∷ 0 ∷ []
 unfolding evaluate
-split-refused-example = refl
+insert-refused-example = refl
 
 -- the lowest faulty triangle of two; nine numbers; 3,072 numbers are not too many, 3,078 are
 load-refused-example :
@@ -140,8 +147,8 @@ limit-of-entries-example = refl
 
 -- Lists of events
 
--- a refused event changes nothing: the split is at a corner, the flip has no shared side
-history-example : tableNumbers (plainTable (load numbersA ∷ split 1 (at 45000 5000) ∷ load (1 ∷ []) ∷ flip 0 1 ∷ [])) ≡ numbersA
+-- a refused event changes nothing: the insert is at a corner, the flip has no shared side
+history-example : tableNumbers (plainTable (load numbersA ∷ insert (at 45000 5000) ∷ load (1 ∷ []) ∷ flip 0 1 ∷ [])) ≡ numbersA
 unfolding evaluate
 history-example = refl
 

@@ -13,18 +13,18 @@ use lib.ListN.{length, drop, replicate}
 use Rattle.theory_orthtree.specs.Entries.{Entry, entry}
 use Rattle.spec_plane.specs.Triangle.{Triangle}
 use Rattle.spec_squares.specs.declared.Square.{Square}
-use Rattle.spec_plane.specs.declared.Position.the-variants.{Inside, OnBc, AtA}
+use Rattle.spec_plane.specs.declared.Position.the-variants.{Inside, OnAb, OnBc, AtA}
 use Rattle.spec_charts.specs.Table.{Table, Drawn, sixteenBit, pointAt, triangleAt, tableOf, triangleNumbers, tableNumbers, noTriangle, numbered}
 use Rattle.spec_charts.specs.Cells.{cellsIn, stopped, orMark, entryOf}
-use Rattle.spec_charts.specs.declared.Refusal.the-variants.{FaultyTriangle, NoFlip, TableFull, TooManyPairs}
+use Rattle.spec_charts.specs.declared.Refusal.the-variants.{FaultyTriangle, NoFlip, TableFull, TooManyPairs, AtCorner}
 use Rattle.spec_charts.specs.Refusals.{alone, rowOf, refused, done, outcomeValue, doneOr}
-use Rattle.spec_charts.specs.Edits.{refuseFaulty, givenTable, loadTable, splitAt, splitTable, mergeAround, mergeThree, takeOutThree, flipAs, flipWith, flipAmong, flipTable, sideFirst, neighbourOr, neighbourFrom, sideSplitAt, sideSplitBoth, withinTable, sideSplitRow, sideSplitFirst, sideSplitTable, split, flip, sideSplit, proposed, limited}
+use Rattle.spec_charts.specs.Edits.{refuseFaulty, givenTable, loadTable, mergeAround, mergeThree, takeOutThree, flipAs, flipWith, flipAmong, flipTable, withinTable, splitAt, splitRow, sideFirst, neighbourOr, neighbourFrom, sideSplitAt, sideSplitBoth, sideSplitRow, lowestHolder, insertOnSide, insertIn, insertTaken, insertTable, flip, proposed, limited}
 use Rattle.spec_charts.specs.Overlay.{pair, Earlier, pairNumbers, pairListed, pairsListed, withinPairs, SharesGround, keysOf, rangesOverlap}
 use Rattle.spec_charts.specs.Reading.{listing, located, foundPosition, totalArea}
 use Rattle.spec_charts.proofs.Evaluate.{evaluate}
 use Rattle.spec_charts.proofs.Written.{at, outcomeNumbers}
 use Rattle.spec_charts.proofs.EditExamples.{pa, pb, pc, pd, pp, tri}
-use Rattle.spec_charts.proofs.SideSplitExamples.{neighbour}
+use Rattle.spec_charts.proofs.InsertExamples.{neighbour}
 
 -- pp is inside `near`, and `next` has a side of it; `far` is far from both
 abbrev near : Triangle
@@ -139,20 +139,6 @@ loadTable-large : map (λ n. outcomeNumbers (loadTable (replicate n 9))) (516 �
 unfolding evaluate
 loadTable-large = refl
 
--- a place beyond the end is not written
-splitAt-large : splitAt (far ∷ []) 4294967296 near pp ≡ far ∷ tri pb pc pp ∷ tri pc pa pp ∷ []
-unfolding evaluate
-splitAt-large = refl
-
--- no such triangle; pp is inside triangle 512, and the table is full
-splitTable-large : outcomeNumbers (splitTable 4294967296 pp four) ∷ outcomeNumbers (splitTable 512 pp deep) ∷ [] ≡ (6 ∷ 0 ∷ []) ∷ (10 ∷ 0 ∷ []) ∷ []
-unfolding evaluate
-splitTable-large = refl
-
-splitTable-256 : drop 255 (doneOr [] (splitTable 256 pp deep256)) ≡ far ∷ tri pa pb pp ∷ tri pb pc pp ∷ tri pc pa pp ∷ []
-unfolding evaluate
-splitTable-256 = refl
-
 mergeAround-large : mergeAround four 4294967296 4294967297 4294967298 near ≡ four
 unfolding evaluate
 mergeAround-large = refl
@@ -192,7 +178,20 @@ flipTable-last : drop 511 (doneOr [] (flipTable 512 513 deep)) ≡ far ∷ tri p
 unfolding evaluate
 flipTable-last = refl
 
--- Side split
+-- Insert
+
+withinTable-large : map (λ n. withinTable (replicate n far)) (513 ∷ 768 ∷ 65536 ∷ []) ≡ replicate 3 (refused TableFull)
+unfolding evaluate
+withinTable-large = refl
+
+-- a place beyond the end is not written
+splitAt-large : splitAt (far ∷ []) 4294967296 near pp ≡ far ∷ tri pb pc pp ∷ tri pc pa pp ∷ []
+unfolding evaluate
+splitAt-large = refl
+
+splitRow-large : splitRow 4294967296 near pp (far ∷ []) ≡ done (far ∷ tri pb pc pp ∷ tri pc pa pp ∷ [])
+unfolding evaluate
+splitRow-large = refl
 
 sideFirst-large : sideFirst OnBc (tri (at 5000000011 12) (at 13 5000000014) (at 5000000015 5000000016))
     ≡ some (tri (at 13 5000000014) (at 5000000015 5000000016) (at 5000000011 12))
@@ -233,44 +232,52 @@ sideSplitBoth-large :
 unfolding evaluate
 sideSplitBoth-large = refl
 
-withinTable-large : map (λ n. withinTable (replicate n far)) (513 ∷ 768 ∷ 65536 ∷ []) ≡ replicate 3 (refused TableFull)
-unfolding evaluate
-withinTable-large = refl
-
 -- the neighbour is triangle 0
-sideSplitRow-large : sideSplitRow 4294967297 near pp four ∷ sideSplitFirst 4294967297 (some near) pp four ∷ []
-    ≡ replicate 2 (done (tri pb pp pd ∷ far ∷ near ∷ far ∷ tri pp pb pc ∷ tri pp pa pd ∷ []))
+sideSplitRow-large :
+    sideSplitRow 4294967297 near pp four ∷ insertOnSide 4294967297 (some near) pp four ∷ insertIn 4294967297 near OnAb pp four ∷ []
+    ≡ replicate 3 (done (tri pb pp pd ∷ far ∷ near ∷ far ∷ tri pp pb pc ∷ tri pp pa pd ∷ []))
 unfolding evaluate
 sideSplitRow-large = refl
 
--- (30,15) is on the side of both
+insertIn-large : insertIn 4294967296 near Inside pp (far ∷ []) ≡ done (far ∷ tri pb pc pp ∷ tri pc pa pp ∷ [])
+unfolding evaluate
+insertIn-large = refl
+
+-- near holds pp as triangle 256 and as triangle 512
+lowestHolder-large : map (λ table. lowestHolder pp table) (deep256 ∷ deep ∷ []) ≡ some 256 ∷ some 512 ∷ []
+unfolding evaluate
+lowestHolder-large = refl
+
+-- of six zeros, which stand for a triangle beyond the end, every point is a corner; triangle 256
+insertTaken-large : insertTaken (some 4294967296) pp (near ∷ far ∷ []) ∷ [] ≡ refused AtCorner ∷ []
+unfolding evaluate
+insertTaken-large = refl
+
+insertTaken-256 : drop 255 (doneOr [] (insertTaken (some 256) pp deep256)) ≡ far ∷ tri pa pb pp ∷ tri pb pc pp ∷ tri pc pa pp ∷ []
+unfolding evaluate
+insertTaken-256 = refl
+
+-- (30,15) is on the side of both, (30,16) is inside the first
 abbrev halved : Triangle
 halved = tri (at 10 10) (at 50 20) (at 20 60)
 
 abbrev beyond : Triangle
 beyond = tri (at 50 20) (at 10 10) (at 40 3)
 
--- no such triangle; (30,15) is on a side of triangle 512, and the table is full
-sideSplitTable-large :
-    outcomeNumbers (sideSplitTable 4294967296 (at 30 15) (halved ∷ far ∷ []))
-    ∷ outcomeNumbers (sideSplitTable 512 (at 30 15) (replicate 512 far ++ (halved ∷ [])))
-    ∷ []
-    ≡ (6 ∷ 0 ∷ []) ∷ (10 ∷ 0 ∷ []) ∷ []
-unfolding evaluate
-sideSplitTable-large = refl
-
--- triangle 256 with the neighbour 258, and the other way
-sideSplitTable-256 :
-    map (λ i. drop 255 (doneOr [] (sideSplitTable i (at 30 15) (replicate 256 far ++ (halved ∷ far ∷ beyond ∷ []))))) (256 ∷ 258 ∷ [])
+-- triangle 256 is taken: with the neighbour 258, the other way, and inside
+insertTable-256 :
+    map (λ table. drop 255 (doneOr [] (insertTable (at 30 15) (replicate 256 far ++ table)))) ((halved ∷ far ∷ beyond ∷ []) ∷ (beyond ∷ far ∷ halved ∷ []) ∷ [])
+    ++ (drop 255 (doneOr [] (insertTable (at 30 16) (replicate 256 far ++ (halved ∷ beyond ∷ [])))) ∷ [])
     ≡ (far ∷ tri (at 10 10) (at 30 15) (at 20 60) ∷ far ∷ tri (at 50 20) (at 30 15) (at 40 3) ∷ tri (at 30 15) (at 50 20) (at 20 60) ∷ tri (at 30 15) (at 10 10) (at 40 3) ∷ [])
-    ∷ (far ∷ tri (at 10 10) (at 30 15) (at 20 60) ∷ far ∷ tri (at 50 20) (at 30 15) (at 40 3) ∷ tri (at 30 15) (at 10 10) (at 40 3) ∷ tri (at 30 15) (at 50 20) (at 20 60) ∷ [])
+    ∷ (far ∷ tri (at 50 20) (at 30 15) (at 40 3) ∷ far ∷ tri (at 10 10) (at 30 15) (at 20 60) ∷ tri (at 30 15) (at 10 10) (at 40 3) ∷ tri (at 30 15) (at 50 20) (at 20 60) ∷ [])
+    ∷ (far ∷ tri (at 10 10) (at 50 20) (at 30 16) ∷ beyond ∷ tri (at 50 20) (at 20 60) (at 30 16) ∷ tri (at 20 60) (at 10 10) (at 30 16) ∷ [])
     ∷ []
 unfolding evaluate
-sideSplitTable-256 = refl
+insertTable-256 = refl
 
 -- Events
 
-proposed-large : map (λ e. outcomeNumbers (proposed e four)) (split 4294967296 pp ∷ flip 4294967296 2 ∷ flip 0 4294967298 ∷ sideSplit 4294967296 pp ∷ []) ≡ replicate 4 (6 ∷ 0 ∷ [])
+proposed-large : map (λ e. outcomeNumbers (proposed e four)) (flip 4294967296 2 ∷ flip 0 4294967298 ∷ []) ≡ replicate 2 (6 ∷ 0 ∷ [])
 unfolding evaluate
 proposed-large = refl
 

@@ -4,7 +4,7 @@ pub mod TableExamples
 pub mod RefusalsExamples
 pub mod EditExamples
 pub mod EventExamples
-pub mod SideSplitExamples
+pub mod InsertExamples
 pub mod CellsExamples
 pub mod OverlayExamples
 pub mod ReadingExamples

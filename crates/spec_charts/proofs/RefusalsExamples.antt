@@ -5,7 +5,7 @@ use mathlib.Core.Bool.{true, false}
 use mathlib.Core.List.{List, [], _∷_, map}
 use Prim.Native.Nat.{ℕ, suc}
 use Rattle.spec_charts.specs.declared.Refusal.{Refusal}
-use Rattle.spec_charts.specs.declared.Refusal.the-variants.{ShortBuffer, BrokenChain, StaleEntries, BadLength, FaultyTriangle, NoSuchTriangle, NotInside, NotThreeAround, NoFlip, TableFull, TooManyEntries, TooManyPairs, NotOnSide}
+use Rattle.spec_charts.specs.declared.Refusal.the-variants.{ShortBuffer, BrokenChain, StaleEntries, BadLength, FaultyTriangle, NoSuchTriangle, NoHolder, NotThreeAround, NoFlip, TableFull, TooManyEntries, TooManyPairs, AtCorner}
 use Rattle.spec_charts.specs.Refusals.{rowOf, Outcome, refused, done, refuseIf, andThen, outcomeNumber, outcomeValue, doneOr}
 use Rattle.spec_charts.proofs.Evaluate.{evaluate}
 
@@ -18,16 +18,16 @@ rows =
     ∷ BadLength
     ∷ FaultyTriangle 7
     ∷ NoSuchTriangle
-    ∷ NotInside
+    ∷ NoHolder
     ∷ NotThreeAround
     ∷ NoFlip
     ∷ TableFull
     ∷ TooManyEntries
     ∷ TooManyPairs
-    ∷ NotOnSide
+    ∷ AtCorner
     ∷ []
 
-number-example : map (λ r. rowOf r .number) rows ≡ 1 ∷ 2 ∷ 3 ∷ 4 ∷ 5 ∷ 6 ∷ 7 ∷ 8 ∷ 9 ∷ 10 ∷ 11 ∷ 12 ∷ 13 ∷ []
+number-example : map (λ r. rowOf r .number) rows ≡ 1 ∷ 2 ∷ 3 ∷ 4 ∷ 5 ∷ 6 ∷ 7 ∷ 8 ∷ 9 ∷ 10 ∷ 11 ∷ 12 ∷ 14 ∷ []
 unfolding evaluate
 number-example = refl
 

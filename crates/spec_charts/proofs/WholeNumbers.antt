@@ -1,24 +1,21 @@
 -- Numbers and lists count whole, however large: what rows and records say of any table, any list and any number.
 -- Assumes nothing.
 use mathlib.Core.Path.{_≡_, refl, ap}
-use mathlib.Core.Bool.{Bool, true, false, not, _||_}
+use mathlib.Core.Bool.{Bool, true, false, _||_}
 use mathlib.Core.List.{List, [], _∷_, map}
-use Prim.Native.Nat.{ℕ, _+_, _*_, _/_, _%_, _≤_, _<_}
+use Prim.Native.Nat.{ℕ, _*_, _/_, _%_, _≤_, _<_}
 use borrow.Author.Tests.{le-leb, lt-leb, lt-ltb, ne-eqb}
-use lib.Dec.{leb, ltb}
 use lib.ListN.{length}
-use Rattle.theory_lists.specs.Lists.{upTo, all}
-use Rattle.theory_orthtree.specs.Entries.{Entry}
+use Rattle.theory_lists.specs.Lists.{first, upTo, all}
 use Rattle.spec_plane.specs.declared.Point.{Point}
-use Rattle.spec_plane.specs.Triangle.{proper, strictlyInside}
-use Rattle.spec_plane.specs.Position.{position}
+use Rattle.spec_plane.specs.Triangle.{proper, holds}
 use Rattle.spec_plane.specs.Interior.{CommonInterior}
 use Rattle.spec_squares.specs.declared.Square.{Square}
-use Rattle.spec_charts.specs.Table.{Table, IsTable, Drawn, triangleAt, tableOf, numbered, maxTriangles, numbersPerTriangle, tableLength}
+use Rattle.spec_charts.specs.Table.{Table, IsTable, Drawn, triangleAt, tableOf, numbered}
 use Rattle.spec_charts.specs.Cells.{orMark, trianglesMeeting, entryOf, cellEntries}
-use Rattle.spec_charts.specs.declared.Refusal.the-variants.{BadLength, NoSuchTriangle, NotInside, TableFull}
-use Rattle.spec_charts.specs.Refusals.{refused, done, refuseIf}
-use Rattle.spec_charts.specs.Edits.{givenTable, loadTable, splitAt, splitTable, rotations, flipAmong, flipTable, sideFirst, withinTable, sideSplitFirst, sideSplitTable}
+use Rattle.spec_charts.specs.declared.Refusal.the-variants.{BadLength, NoSuchTriangle, TableFull}
+use Rattle.spec_charts.specs.Refusals.{refused, refuseIf}
+use Rattle.spec_charts.specs.Edits.{givenTable, loadTable, rotations, flipAmong, flipTable, withinTable, lowestHolder}
 use Rattle.spec_charts.specs.Overlay.{SharesGround}
 
 or-true : (b : Bool) → b || true ≡ true
@@ -67,18 +64,6 @@ load-uneven : (ns : List ℕ) → (length ns % 6 ≡ 0 → ⊥) → loadTable ns
 unfolding loadTable refuseIf
 load-uneven ns h = rw (ne-eqb (length ns % 6) 0 h)
 
-module _ (t : ℕ) (p : Point) (table : Table) where
-  split-none : length table ≤ t → splitTable t p table ≡ refused NoSuchTriangle
-  unfolding splitTable refuseIf
-  split-none h = rw (le-leb (length table) t h)
-
-  -- a triangle that is there, by its number
-  split-there : t < length table → splitTable t p table
-      ≡ refuseIf (not (strictlyInside (numbered table t) p)) NotInside
-      (refuseIf (ltb maxTriangles (length table + 2)) TableFull (done (splitAt table t (numbered table t) p)))
-  unfolding splitTable refuseIf
-  split-there h = rw (lt-leb (length table) t h)
-
 module _ (i j : ℕ) (table : Table) where
   flip-none : length table ≤ i → flipTable i j table ≡ refused NoSuchTriangle
   unfolding flipTable refuseIf
@@ -92,21 +77,15 @@ module _ (i j : ℕ) (table : Table) where
   unfolding flipTable refuseIf
   flip-there h k = rw (lt-leb (length table) i h, lt-leb (length table) j k)
 
-module _ (i : ℕ) (p : Point) (table : Table) where
-  sideSplit-none : length table ≤ i → sideSplitTable i p table ≡ refused NoSuchTriangle
-  unfolding sideSplitTable refuseIf
-  sideSplit-none h = rw (le-leb (length table) i h)
-
-  -- a triangle that is there, by its number
-  sideSplit-there : i < length table → sideSplitTable i p table
-      ≡ sideSplitFirst i (sideFirst (position (numbered table i) p) (numbered table i)) p table
-  unfolding sideSplitTable refuseIf
-  sideSplit-there h = rw (lt-leb (length table) i h)
-
 -- any more triangles than 512 are too many
 within-most : (table : Table) → 512 < length table → withinTable table ≡ refused TableFull
 unfolding withinTable refuseIf
 within-most table h = rw (lt-ltb 512 (length table) h)
+
+-- every triangle is asked, by its number
+holder-all : (p : Point) (table : Table) → lowestHolder p table ≡ first (λ i. holds (numbered table i) p) (upTo (length table))
+unfolding lowestHolder
+holder-all p table = refl
 
 -- Overlay
 

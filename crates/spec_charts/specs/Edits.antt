@@ -1,22 +1,22 @@
--- Document 01, "Edits on the plain table", and document 02, wish 2: the five events, and what each makes of a table or why it is
--- refused.
+-- Document 01, "Edits on the plain table", and document 02, wishes 2 and 4: the four events, and what each makes of a table or why it
+-- is refused.
 -- Assumes nothing.
-use mathlib.Core.Bool.{Bool, true, false, not, _&&_, _||_}
+use mathlib.Core.Bool.{Bool, true, false, cond, not, _&&_, _||_}
 use mathlib.Core.List.{List, [], _∷_, _++_}
 use mathlib.Core.Option.{Option, none, some}
-use Prim.Native.Nat.{ℕ, suc, _+_, _/_, _%_}
+use Prim.Native.Nat.{ℕ, suc, _/_, _%_}
 use lib.Dec.{leb, ltb, eqb}
 use lib.ListN.{length, set}
-use Rattle.theory_lists.specs.Lists.{first, placesFrom, without}
+use Rattle.theory_lists.specs.Lists.{first, placesFrom, upTo, without}
 use Rattle.spec_plane.specs.declared.Point.{Point}
 use Rattle.spec_plane.specs.Point.{samePoint}
 use Rattle.spec_plane.specs.declared.Position.{Position}
 use Rattle.spec_plane.specs.declared.Position.the-variants.{Inside, OnAb, OnBc, OnCa, AtA, AtB, AtC, Outside}
-use Rattle.spec_plane.specs.Triangle.{Triangle, proper, strictlyInside}
-use Rattle.spec_plane.specs.Position.{position}
+use Rattle.spec_plane.specs.Triangle.{Triangle, proper, holds}
+use Rattle.spec_plane.specs.Position.{position, isInside}
 use Rattle.spec_charts.specs.Table.{Table, numbered, tableOf, maxTriangles, numbersPerTriangle, tableLength, sixteenBit}
 use Rattle.spec_charts.specs.Cells.{entriesOf, maxEntries}
-use Rattle.spec_charts.specs.declared.Refusal.the-variants.{BadLength, FaultyTriangle, NoSuchTriangle, NotInside, NotThreeAround, NoFlip, TableFull, TooManyEntries, NotOnSide}
+use Rattle.spec_charts.specs.declared.Refusal.the-variants.{BadLength, FaultyTriangle, NoSuchTriangle, NoHolder, NotThreeAround, NoFlip, TableFull, TooManyEntries, AtCorner}
 use Rattle.spec_charts.specs.Refusals.{Outcome, refused, done, refuseIf, andThen, doneOr}
 
 -- a triangle by its corners
@@ -51,20 +51,6 @@ unfoldable pub loadTable : List ℕ → Outcome Table
 loadTable ns =
     refuseIf (not (eqb (length ns % numbersPerTriangle) 0) || ltb tableLength (length ns)) BadLength
     (refuseFaulty (faulty (givenTable ns)) (givenTable ns))
-
--- Split: insertion of a vertex into a triangle
-
--- "(a,b,c) at t becomes (a,b,p); (b,c,p) and (c,a,p) are appended in that order"
-unfoldable pub splitAt : Table → ℕ → Triangle → Point → Table
-splitAt table t s p =
-    set table t (madeFrom s (s .a) (s .b) p) ++ (madeFrom s (s .b) (s .c) p ∷ madeFrom s (s .c) (s .a) p ∷ [])
-
--- "Split t at p"
-unfoldable pub splitTable : ℕ → Point → Table → Outcome Table
-splitTable t p table =
-    refuseIf (leb (length table) t) NoSuchTriangle
-    (refuseIf (not (strictlyInside (numbered table t) p)) NotInside
-    (refuseIf (ltb maxTriangles (length table + 2)) TableFull (done (splitAt table t (numbered table t) p))))
 
 -- Take out: removal of a vertex with three triangles around it
 
@@ -144,6 +130,23 @@ flipTable i j table =
     refuseIf (leb (length table) i || leb (length table) j) NoSuchTriangle
     (flipAmong table i j (rotations (numbered table j)) (rotations (numbered table i)))
 
+-- Insert: one call to add a point (document 02, wish 4), by a split or a side split of the triangle taken
+
+-- refusal 10: "Table full counts the triangles really added", so it is the table made that has over 512
+unfoldable pub withinTable : Table → Outcome Table
+withinTable next = refuseIf (ltb maxTriangles (length next)) TableFull (done next)
+
+-- Split: insertion of a vertex into a triangle
+
+-- "(a,b,c) at t becomes (a,b,p); (b,c,p) and (c,a,p) are appended in that order": t is triangle i
+unfoldable pub splitAt : Table → ℕ → Triangle → Point → Table
+splitAt table i t p =
+    set table i (madeFrom t (t .a) (t .b) p) ++ (madeFrom t (t .b) (t .c) p ∷ madeFrom t (t .c) (t .a) p ∷ [])
+
+-- the split of triangle i, which is t and has p strictly inside
+unfoldable pub splitRow : ℕ → Triangle → Point → Table → Outcome Table
+splitRow i t p table = withinTable (splitAt table i t p)
+
 -- Side split: insertion of a vertex on a side (document 02, wish 2)
 
 -- "Rotate t to (a,b,c) with p on ab", by where p lies: there is no such rotation where p is on no side, or at an end of one
@@ -182,51 +185,57 @@ unfoldable pub sideSplitBoth : Table → ℕ → Triangle → Point → Option N
 sideSplitBoth table i t p none = sideSplitAt table i t p
 sideSplitBoth table i t p (some u) = sideSplitAt (sideSplitAt table i t p) (u .number) (u .rotation) p
 
--- refusal 10: "Table full counts the triangles really added", so it is the table made that has over 512
-unfoldable pub withinTable : Table → Outcome Table
-withinTable next = refuseIf (ltb maxTriangles (length next)) TableFull (done next)
-
 -- the side split of triangle i, of which t is the rotation (a,b,c) with p on ab
 unfoldable pub sideSplitRow : ℕ → Triangle → Point → Table → Outcome Table
 sideSplitRow i t p table = withinTable (sideSplitBoth table i t p (neighbourFrom t 0 table))
 
--- refusal 13: "p is not on such a side of t"
-unfoldable pub sideSplitFirst : ℕ → Option Triangle → Point → Table → Outcome Table
-sideSplitFirst i none p table = refused NotOnSide
-sideSplitFirst i (some t) p table = sideSplitRow i t p table
+-- The triangle taken
 
--- "a side split of triangle t at p, with p on a side and not at its ends"
-unfoldable pub sideSplitTable : ℕ → Point → Table → Outcome Table
-sideSplitTable i p table =
-    refuseIf (leb (length table) i) NoSuchTriangle
-    (sideSplitFirst i (sideFirst (position (numbered table i) p) (numbered table i)) p table)
+-- "The lowest numbered triangle that holds p"
+unfoldable pub lowestHolder : Point → Table → Option ℕ
+lowestHolder p table = first (λ i. holds (numbered table i) p) (upTo (length table))
+
+-- "on a side, the side split"; else refusal 14, "p is a corner of the triangle taken": it holds p, and p is neither inside nor on a side
+unfoldable pub insertOnSide : ℕ → Option Triangle → Point → Table → Outcome Table
+insertOnSide i none p table = refused AtCorner
+insertOnSide i (some t) p table = sideSplitRow i t p table
+
+-- "inside it, the old split is done; on a side, the side split": triangle i is t, and p lies at w by it
+unfoldable pub insertIn : ℕ → Triangle → Position → Point → Table → Outcome Table
+insertIn i t w p table = cond (isInside w) (splitRow i t p table) (insertOnSide i (sideFirst w t) p table)
+
+-- refusal 7: "no triangle of the table holds p"; else the triangle taken is split
+unfoldable pub insertTaken : Option ℕ → Point → Table → Outcome Table
+insertTaken none p table = refused NoHolder
+insertTaken (some i) p table = insertIn i (numbered table i) (position (numbered table i) p) p table
+
+-- "insert p"
+unfoldable pub insertTable : Point → Table → Outcome Table
+insertTable p table = insertTaken (lowestHolder p table) p table
 
 -- Events
 
--- a load with the numbers given, a split of t at p, a take-out of p, a flip of i and j, a side split of t at p
+-- a load with the numbers given, an insert of p, a take-out of p, a flip of i and j
 pub data Event : Type 0 where
   load : List ℕ → Event
-  split : ℕ → Point → Event
+  insert : Point → Event
   takeOut : Point → Event
   flip : ℕ → ℕ → Event
-  sideSplit : ℕ → Point → Event
 
--- the numbers of a load are 16-bit. Of the other events no number needs a range: a point at which a triangle or its side is split lies
--- in it, and the rest only names triangles and corners
+-- the numbers of a load are 16-bit. Of the other events no number needs a range: a triangle holds the point that is inserted, and the
+-- rest only names triangles and corners
 unfoldable pub sixteenBitEvent : Event → Bool
 sixteenBitEvent (load ns) = sixteenBit ns
-sixteenBitEvent (split t p) = true
+sixteenBitEvent (insert p) = true
 sixteenBitEvent (takeOut p) = true
 sixteenBitEvent (flip i j) = true
-sixteenBitEvent (sideSplit t p) = true
 
 -- the table that an event would make of the plain table, before its entries are counted
 unfoldable pub proposed : Event → Table → Outcome Table
 proposed (load ns) table = loadTable ns
-proposed (split t p) table = splitTable t p table
+proposed (insert p) table = insertTable p table
 proposed (takeOut p) table = takeOutTable p table
 proposed (flip i j) table = flipTable i j table
-proposed (sideSplit t p) table = sideSplitTable t p table
 
 -- refusal 11: "the new table has over 16,384 entries", where it has n
 unfoldable pub limited : ℕ → Table → Outcome Table
@@ -239,10 +248,9 @@ withinLimit table = limited (length (entriesOf table)) table
 -- refusal 11, by event: which events' new tables have their entries counted
 unfoldable pub counted : Event → Table → Outcome Table
 counted (load ns) table = withinLimit table
-counted (split t p) table = withinLimit table
+counted (insert p) table = withinLimit table
 counted (takeOut p) table = withinLimit table
 counted (flip i j) table = withinLimit table
-counted (sideSplit t p) table = withinLimit table
 
 -- what an event comes to on a plain table: refused with a number from 4 up, or the new plain table
 unfoldable pub eventOn : Event → Table → Outcome Table

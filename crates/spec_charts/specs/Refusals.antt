@@ -4,7 +4,7 @@
 use mathlib.Core.Bool.{Bool, true, false}
 use Prim.Native.Nat.{ℕ}
 use Rattle.spec_charts.specs.declared.Refusal.{Refusal}
-use Rattle.spec_charts.specs.declared.Refusal.the-variants.{ShortBuffer, BrokenChain, StaleEntries, BadLength, FaultyTriangle, NoSuchTriangle, NotInside, NotThreeAround, NoFlip, TableFull, TooManyEntries, TooManyPairs, NotOnSide}
+use Rattle.spec_charts.specs.declared.Refusal.the-variants.{ShortBuffer, BrokenChain, StaleEntries, BadLength, FaultyTriangle, NoSuchTriangle, NoHolder, NotThreeAround, NoFlip, TableFull, TooManyEntries, TooManyPairs, AtCorner}
 
 -- what a row returns: its number, and the number beside it
 pub record Row : Type 0 where
@@ -23,13 +23,13 @@ rowOf StaleEntries = alone 3
 rowOf BadLength = alone 4
 rowOf (FaultyTriangle i) = record { number = 5; value = i }
 rowOf NoSuchTriangle = alone 6
-rowOf NotInside = alone 7
+rowOf NoHolder = alone 7
 rowOf NotThreeAround = alone 8
 rowOf NoFlip = alone 9
 rowOf TableFull = alone 10
 rowOf TooManyEntries = alone 11
 rowOf TooManyPairs = alone 12
-rowOf NotOnSide = alone 13
+rowOf AtCorner = alone 14
 
 -- what a call or an event comes to: a refusal, or what it is done with
 pub data Outcome {ℓ} (A : Type ℓ) : Type ℓ where

@@ -14,18 +14,18 @@ pub enum Refusal {
     FaultyTriangle(usize),
     // "a triangle number ≥ n"
     NoSuchTriangle,
-    // "p not strictly inside t"
-    NotInside,
+    // "no triangle of the table holds p" (document 02, wish 4)
+    NoHolder,
     // "the three triangles are not so"
     NotThreeAround,
     // "no such shared side, or a new D ≤ 0"
     NoFlip,
-    // "n + 2 > 512"
+    // "Table full counts the triangles really added" (document 02, wish 2)
     TableFull,
     // "the new table has over 16,384 entries"
     TooManyEntries,
     // "over 4,096 pairs"
     TooManyPairs,
-    // "p is not on such a side of t" (document 02, wish 2)
-    NotOnSide,
+    // "p is a corner of the triangle taken" (document 02, wish 4)
+    AtCorner,
 }

@@ -12,7 +12,7 @@ use Rattle.spec_charts.specs.Table.{Table}
 use Rattle.spec_charts.specs.Cells.{entriesOf}
 use Rattle.spec_charts.specs.declared.Refusal.the-variants.{BrokenChain, FaultyTriangle, NotThreeAround}
 use Rattle.spec_charts.specs.Refusals.{refused, done}
-use Rattle.spec_charts.specs.Edits.{load, split, takeOut, flip, eventOn}
+use Rattle.spec_charts.specs.Edits.{load, insert, takeOut, flip, eventOn}
 use Rattle.spec_charts.specs.Overlay.{Pair}
 use Rattle.spec_charts.proofs.Written.{at}
 use Rattle.spec_charts.proofs.RefusalsExamples.{rows}
@@ -46,7 +46,7 @@ with-waiting-example t u ns ms = refl
 
 -- only 5 has its triangle after it
 refusals-example : map (λ r. refusalNumbers r) rows
-    ≡ (1 ∷ []) ∷ (2 ∷ []) ∷ (3 ∷ []) ∷ (4 ∷ []) ∷ (5 ∷ 7 ∷ []) ∷ (6 ∷ []) ∷ (7 ∷ []) ∷ (8 ∷ []) ∷ (9 ∷ []) ∷ (10 ∷ []) ∷ (11 ∷ []) ∷ (12 ∷ []) ∷ (13 ∷ []) ∷ []
+    ≡ (1 ∷ []) ∷ (2 ∷ []) ∷ (3 ∷ []) ∷ (4 ∷ []) ∷ (5 ∷ 7 ∷ []) ∷ (6 ∷ []) ∷ (7 ∷ []) ∷ (8 ∷ []) ∷ (9 ∷ []) ∷ (10 ∷ []) ∷ (11 ∷ []) ∷ (12 ∷ []) ∷ (14 ∷ []) ∷ []
 unfolding evaluate
 refusals-example = refl
 
@@ -191,7 +191,7 @@ run-example : (c : ℕ) (s : State)
     ∷ []
     ≡ waitStep (5000000003 ∷ 6000000005 ∷ 7000000007 ∷ []) s
     ∷ loadStep c s
-    ∷ eventStep 3 c (eventOn (split 5000000003 (at 6000000005 7000000007)) (tableIn c s)) s
+    ∷ eventStep 3 c (eventOn (insert (at 5000000003 6000000005)) (tableIn c s)) s
     ∷ eventStep 4 c (eventOn (takeOut (at 5000000003 6000000005)) (tableIn c s)) s
     ∷ eventStep 5 c (eventOn (flip 5000000003 6000000005) (tableIn c s)) s
     ∷ locateStep c (at 5000000003 6000000005) s
@@ -209,7 +209,7 @@ run-none-example c ws s = refl
 -- operands that are not there are 0
 run-short-example : (c : ℕ) (s : State)
     → runCommand 3 c [] s ∷ runCommand 5 c [] s ∷ []
-    ≡ eventStep 3 c (eventOn (split 0 (at 0 0)) (tableIn c s)) s ∷ eventStep 5 c (eventOn (flip 0 0) (tableIn c s)) s ∷ []
+    ≡ eventStep 3 c (eventOn (insert (at 0 0)) (tableIn c s)) s ∷ eventStep 5 c (eventOn (flip 0 0) (tableIn c s)) s ∷ []
 unfolding evaluate
 run-short-example c s = refl
 
@@ -219,7 +219,7 @@ step-example : (s : State)
     ∷ stepOf 2 (1 ∷ 99 ∷ []) s
     ∷ stepOf 2 [] s
     ∷ stepOf 2 (4294967296 ∷ []) s
-    ∷ stepOf 3 (1 ∷ 99 ∷ 234 ∷ 85 ∷ 195 ∷ 71 ∷ 156 ∷ 99 ∷ []) s
+    ∷ stepOf 3 (1 ∷ 99 ∷ 234 ∷ 85 ∷ 195 ∷ 99 ∷ []) s
     ∷ stepOf 4 (0 ∷ 99 ∷ 234 ∷ 85 ∷ 195 ∷ 99 ∷ []) s
     ∷ stepOf 5 (1 ∷ 99 ∷ 234 ∷ 85 ∷ 195 ∷ 99 ∷ []) s
     ∷ stepOf 6 (0 ∷ 99 ∷ 234 ∷ 85 ∷ 195 ∷ 99 ∷ []) s
@@ -230,7 +230,7 @@ step-example : (s : State)
     ∷ loadStep 1 s
     ∷ loadStep 0 s
     ∷ loadStep 4294967296 s
-    ∷ eventStep 3 1 (eventOn (split 60003 (at 50005 40007)) (s .chart1)) s
+    ∷ eventStep 3 1 (eventOn (insert (at 60003 50005)) (s .chart1)) s
     ∷ eventStep 4 0 (eventOn (takeOut (at 60003 50005)) (s .chart0)) s
     ∷ eventStep 5 1 (eventOn (flip 60003 50005) (s .chart1)) s
     ∷ locateStep 0 (at 60003 50005) s

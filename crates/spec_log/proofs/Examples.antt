@@ -16,9 +16,9 @@ log-example : logOf
 unfolding evaluate
 log-example = refl
 
--- an empty load, a refused edit, and then a byte that is no command, at offset 10
-bad-example : logOf (2 ∷ 1 ∷ 3 ∷ 0 ∷ 0 ∷ 1 ∷ 9 ∷ 0 ∷ 9 ∷ 0 ∷ 8 ∷ 7 ∷ [])
-    ≡ 111 ∷ 118 ∷ 101 ∷ 114 ∷ 108 ∷ 97 ∷ 121 ∷ 32 ∷ 108 ∷ 111 ∷ 103 ∷ 10 ∷ 50 ∷ 32 ∷ 48 ∷ 32 ∷ 49 ∷ 10 ∷ 51 ∷ 32 ∷ 54 ∷ 10 ∷ 98 ∷ 97 ∷ 100 ∷ 32 ∷ 49 ∷ 48 ∷ 10 ∷ []
+-- two empty loads, an insert that no triangle holds, and then a byte that is no command, at offset 10
+bad-example : logOf (2 ∷ 1 ∷ 2 ∷ 0 ∷ 3 ∷ 0 ∷ 0 ∷ 1 ∷ 9 ∷ 0 ∷ 8 ∷ 7 ∷ [])
+    ≡ 111 ∷ 118 ∷ 101 ∷ 114 ∷ 108 ∷ 97 ∷ 121 ∷ 32 ∷ 108 ∷ 111 ∷ 103 ∷ 10 ∷ 50 ∷ 32 ∷ 48 ∷ 32 ∷ 49 ∷ 10 ∷ 50 ∷ 32 ∷ 48 ∷ 32 ∷ 49 ∷ 10 ∷ 51 ∷ 32 ∷ 55 ∷ 10 ∷ 98 ∷ 97 ∷ 100 ∷ 32 ∷ 49 ∷ 48 ∷ 10 ∷ []
 unfolding evaluate
 bad-example = refl
 
@@ -49,17 +49,23 @@ locate-log-example : logOf (1 ∷ 64 ∷ 156 ∷ 136 ∷ 19 ∷ 200 ∷ 175 ∷ 
 unfolding evaluate
 locate-log-example = refl
 
--- a faulty triangle at place 1 and, later, at place 0; a split that is refused; the chart stays as it was
-refused-log-example : logOf (1 ∷ 64 ∷ 156 ∷ 136 ∷ 19 ∷ 200 ∷ 175 ∷ 136 ∷ 19 ∷ 96 ∷ 234 ∷ 200 ∷ 175 ∷ 1 ∷ 1 ∷ 0 ∷ 1 ∷ 0 ∷ 2 ∷ 0 ∷ 2 ∷ 0 ∷ 3 ∷ 0 ∷ 3 ∷ 0 ∷ 2 ∷ 1 ∷ 1 ∷ 64 ∷ 156 ∷ 136 ∷ 19 ∷ 200 ∷ 175 ∷ 136 ∷ 19 ∷ 96 ∷ 234 ∷ 200 ∷ 175 ∷ 1 ∷ 255 ∷ 255 ∷ 255 ∷ 255 ∷ 0 ∷ 0 ∷ 64 ∷ 156 ∷ 96 ∷ 234 ∷ 200 ∷ 175 ∷ 2 ∷ 1 ∷ 1 ∷ 1 ∷ 0 ∷ 1 ∷ 0 ∷ 2 ∷ 0 ∷ 2 ∷ 0 ∷ 3 ∷ 0 ∷ 3 ∷ 0 ∷ 2 ∷ 1 ∷ 3 ∷ 1 ∷ 1 ∷ 0 ∷ 200 ∷ 175 ∷ 136 ∷ 19 ∷ 6 ∷ 1 ∷ 80 ∷ 195 ∷ 80 ∷ 195 ∷ [])
-    ≡ 111 ∷ 118 ∷ 101 ∷ 114 ∷ 108 ∷ 97 ∷ 121 ∷ 32 ∷ 108 ∷ 111 ∷ 103 ∷ 10 ∷ 50 ∷ 32 ∷ 53 ∷ 32 ∷ 49 ∷ 10 ∷ 50 ∷ 32 ∷ 48 ∷ 32 ∷ 50 ∷ 48 ∷ 10 ∷ 50 ∷ 32 ∷ 53 ∷ 32 ∷ 48 ∷ 10 ∷ 51 ∷ 32 ∷ 55 ∷ 10 ∷ 54 ∷ 32 ∷ 48 ∷ 32 ∷ 49 ∷ 32 ∷ 48 ∷ 10 ∷ []
+-- a faulty triangle at place 1 and, later, at place 0; an insert at a corner; the chart stays as it was
+refused-log-example : logOf (1 ∷ 64 ∷ 156 ∷ 136 ∷ 19 ∷ 200 ∷ 175 ∷ 136 ∷ 19 ∷ 96 ∷ 234 ∷ 200 ∷ 175 ∷ 1 ∷ 1 ∷ 0 ∷ 1 ∷ 0 ∷ 2 ∷ 0 ∷ 2 ∷ 0 ∷ 3 ∷ 0 ∷ 3 ∷ 0 ∷ 2 ∷ 1 ∷ 1 ∷ 64 ∷ 156 ∷ 136 ∷ 19 ∷ 200 ∷ 175 ∷ 136 ∷ 19 ∷ 96 ∷ 234 ∷ 200 ∷ 175 ∷ 1 ∷ 255 ∷ 255 ∷ 255 ∷ 255 ∷ 0 ∷ 0 ∷ 64 ∷ 156 ∷ 96 ∷ 234 ∷ 200 ∷ 175 ∷ 2 ∷ 1 ∷ 1 ∷ 1 ∷ 0 ∷ 1 ∷ 0 ∷ 2 ∷ 0 ∷ 2 ∷ 0 ∷ 3 ∷ 0 ∷ 3 ∷ 0 ∷ 2 ∷ 1 ∷ 3 ∷ 1 ∷ 200 ∷ 175 ∷ 136 ∷ 19 ∷ 6 ∷ 1 ∷ 80 ∷ 195 ∷ 80 ∷ 195 ∷ [])
+    ≡ 111 ∷ 118 ∷ 101 ∷ 114 ∷ 108 ∷ 97 ∷ 121 ∷ 32 ∷ 108 ∷ 111 ∷ 103 ∷ 10 ∷ 50 ∷ 32 ∷ 53 ∷ 32 ∷ 49 ∷ 10 ∷ 50 ∷ 32 ∷ 48 ∷ 32 ∷ 50 ∷ 48 ∷ 10 ∷ 50 ∷ 32 ∷ 53 ∷ 32 ∷ 48 ∷ 10 ∷ 51 ∷ 32 ∷ 49 ∷ 52 ∷ 10 ∷ 54 ∷ 32 ∷ 48 ∷ 32 ∷ 49 ∷ 32 ∷ 48 ∷ 10 ∷ []
 unfolding evaluate
 refused-log-example = refl
 
--- a flip of 0 and 1, a split of triangle 1, a point in one of its parts, and its take-out
-edit-log-example : logOf (1 ∷ 60 ∷ 0 ∷ 10 ∷ 0 ∷ 70 ∷ 0 ∷ 50 ∷ 0 ∷ 0 ∷ 0 ∷ 0 ∷ 0 ∷ 1 ∷ 5 ∷ 0 ∷ 40 ∷ 0 ∷ 0 ∷ 0 ∷ 0 ∷ 0 ∷ 70 ∷ 0 ∷ 50 ∷ 0 ∷ 2 ∷ 0 ∷ 5 ∷ 0 ∷ 0 ∷ 0 ∷ 1 ∷ 0 ∷ 6 ∷ 0 ∷ 1 ∷ 0 ∷ 1 ∷ 0 ∷ 3 ∷ 0 ∷ 1 ∷ 0 ∷ 10 ∷ 0 ∷ 20 ∷ 0 ∷ 6 ∷ 0 ∷ 2 ∷ 0 ∷ 10 ∷ 0 ∷ 4 ∷ 0 ∷ 10 ∷ 0 ∷ 20 ∷ 0 ∷ [])
+-- a flip of 0 and 1, an insert inside triangle 1, a point in one of its parts, and its take-out
+edit-log-example : logOf (1 ∷ 60 ∷ 0 ∷ 10 ∷ 0 ∷ 70 ∷ 0 ∷ 50 ∷ 0 ∷ 0 ∷ 0 ∷ 0 ∷ 0 ∷ 1 ∷ 5 ∷ 0 ∷ 40 ∷ 0 ∷ 0 ∷ 0 ∷ 0 ∷ 0 ∷ 70 ∷ 0 ∷ 50 ∷ 0 ∷ 2 ∷ 0 ∷ 5 ∷ 0 ∷ 0 ∷ 0 ∷ 1 ∷ 0 ∷ 6 ∷ 0 ∷ 1 ∷ 0 ∷ 1 ∷ 0 ∷ 3 ∷ 0 ∷ 10 ∷ 0 ∷ 20 ∷ 0 ∷ 6 ∷ 0 ∷ 2 ∷ 0 ∷ 10 ∷ 0 ∷ 4 ∷ 0 ∷ 10 ∷ 0 ∷ 20 ∷ 0 ∷ [])
     ≡ 111 ∷ 118 ∷ 101 ∷ 114 ∷ 108 ∷ 97 ∷ 121 ∷ 32 ∷ 108 ∷ 111 ∷ 103 ∷ 10 ∷ 50 ∷ 32 ∷ 48 ∷ 32 ∷ 52 ∷ 49 ∷ 10 ∷ 53 ∷ 32 ∷ 48 ∷ 32 ∷ 52 ∷ 48 ∷ 10 ∷ 54 ∷ 32 ∷ 48 ∷ 32 ∷ 49 ∷ 32 ∷ 48 ∷ 10 ∷ 51 ∷ 32 ∷ 48 ∷ 32 ∷ 53 ∷ 51 ∷ 10 ∷ 54 ∷ 32 ∷ 48 ∷ 32 ∷ 49 ∷ 32 ∷ 48 ∷ 10 ∷ 52 ∷ 32 ∷ 48 ∷ 32 ∷ 52 ∷ 48 ∷ 10 ∷ []
 unfolding evaluate
 edit-log-example = refl
+
+-- an insert on a side of U: document 01's case 9, accepted by wish 4
+side-log-example : logOf (1 ∷ 0 ∷ 0 ∷ 0 ∷ 0 ∷ 255 ∷ 255 ∷ 0 ∷ 0 ∷ 0 ∷ 0 ∷ 255 ∷ 255 ∷ 2 ∷ 0 ∷ 3 ∷ 0 ∷ 0 ∷ 128 ∷ 255 ∷ 127 ∷ [])
+    ≡ 111 ∷ 118 ∷ 101 ∷ 114 ∷ 108 ∷ 97 ∷ 121 ∷ 32 ∷ 108 ∷ 111 ∷ 103 ∷ 10 ∷ 50 ∷ 32 ∷ 48 ∷ 32 ∷ 55 ∷ 10 ∷ 51 ∷ 32 ∷ 48 ∷ 32 ∷ 49 ∷ 52 ∷ 10 ∷ []
+unfolding evaluate
+side-log-example = refl
 
 -- an overlay with too many pairs prints two numbers
 over-log-example : overlayLines (refused TooManyPairs) ≡ 55 ∷ 32 ∷ 49 ∷ 50 ∷ 10 ∷ []

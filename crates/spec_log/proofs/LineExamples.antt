@@ -68,9 +68,9 @@ bad-line-example = refl
 
 -- Bytes
 
--- x before y; an operand that is not there is 0, however far its place is beyond the last
-operand-example : map (λ k. pointOperand (5000000005 ∷ 60006 ∷ 7000000007 ∷ []) k) (0 ∷ 1 ∷ 2 ∷ 3 ∷ 4294967295 ∷ 4294967296 ∷ [])
-    ≡ at 5000000005 60006 ∷ at 60006 7000000007 ∷ at 7000000007 0 ∷ at 0 0 ∷ at 0 0 ∷ at 0 0 ∷ []
+-- x before y; an operand that is not there is 0
+operand-example : map (λ ws. pointOperand ws) ([] ∷ (5000000005 ∷ []) ∷ (60006 ∷ 7000000007 ∷ []) ∷ (5000000005 ∷ 60006 ∷ 7000000007 ∷ []) ∷ [])
+    ≡ at 0 0 ∷ at 5000000005 0 ∷ at 60006 7000000007 ∷ at 5000000005 60006 ∷ []
 unfolding evaluate
 operand-example = refl
 
@@ -87,7 +87,7 @@ takes-chart-example : map (λ b. takesChart b) bytes ≡ replicate 2 false ++ re
 unfolding evaluate
 takes-chart-example = refl
 
-words-example : map (λ b. wordCount b) bytes ≡ 0 ∷ 6 ∷ 0 ∷ 3 ∷ 2 ∷ 2 ∷ 2 ∷ replicate 6 0
+words-example : map (λ b. wordCount b) bytes ≡ 0 ∷ 6 ∷ 0 ∷ replicate 4 2 ++ replicate 6 0
 unfolding evaluate
 words-example = refl
 
@@ -95,7 +95,7 @@ chart-bytes-example : map (λ b. chartBytes b) bytes ≡ 0 ∷ 0 ∷ 1 ∷ 1 ∷
 unfolding evaluate
 chart-bytes-example = refl
 
-operand-bytes-example : map (λ b. operandBytes b) bytes ≡ 0 ∷ 12 ∷ 1 ∷ 7 ∷ 5 ∷ 5 ∷ 5 ∷ replicate 6 0
+operand-bytes-example : map (λ b. operandBytes b) bytes ≡ 0 ∷ 12 ∷ 1 ∷ replicate 4 5 ++ replicate 6 0
 unfolding evaluate
 operand-bytes-example = refl
 

@@ -15,7 +15,7 @@ use Rattle.spec_charts.specs.Cells.{entriesOf}
 use Rattle.spec_charts.specs.declared.Refusal.{Refusal}
 use Rattle.spec_charts.specs.declared.Refusal.the-variants.{BadLength, FaultyTriangle}
 use Rattle.spec_charts.specs.Refusals.{rowOf, Outcome, refused, done, doneOr}
-use Rattle.spec_charts.specs.Edits.{load, split, takeOut, flip, eventOn}
+use Rattle.spec_charts.specs.Edits.{load, insert, takeOut, flip, eventOn}
 use Rattle.spec_charts.specs.Overlay.{OverlayAnswer, overlayOf}
 use Rattle.spec_charts.specs.Reading.{located, foundPosition}
 
@@ -126,19 +126,19 @@ overlayStep s = record {
   after = s;
 }
 
--- the point at places k and k + 1 of the operands
-unfoldable pub pointOperand : List ℕ → ℕ → Point
-pointOperand ws k = record { x = getD ws k 0; y = getD ws (k + 1) 0 }
+-- the point of the operands x y
+unfoldable pub pointOperand : List ℕ → Point
+pointOperand ws = record { x = getD ws 0 0; y = getD ws 1 0 }
 
 -- a command with its chart and its 16-bit operands, all of them there
 unfoldable pub runCommand : ℕ → ℕ → List ℕ → State → Step
 runCommand b c ws s =
     cond (eqb b 1) (waitStep ws s)
     (cond (eqb b 2) (loadStep c s)
-    (cond (eqb b 3) (eventStep 3 c (eventOn (split (getD ws 0 0) (pointOperand ws 1)) (tableIn c s)) s)
-    (cond (eqb b 4) (eventStep 4 c (eventOn (takeOut (pointOperand ws 0)) (tableIn c s)) s)
+    (cond (eqb b 3) (eventStep 3 c (eventOn (insert (pointOperand ws)) (tableIn c s)) s)
+    (cond (eqb b 4) (eventStep 4 c (eventOn (takeOut (pointOperand ws)) (tableIn c s)) s)
     (cond (eqb b 5) (eventStep 5 c (eventOn (flip (getD ws 0 0) (getD ws 1 0)) (tableIn c s)) s)
-    (cond (eqb b 6) (locateStep c (pointOperand ws 0) s) (overlayStep s))))))
+    (cond (eqb b 6) (locateStep c (pointOperand ws) s) (overlayStep s))))))
 
 -- Reading
 
@@ -150,9 +150,9 @@ known b = leb 1 b && leb b 7
 unfoldable pub takesChart : ℕ → Bool
 takesChart b = leb 2 b && leb b 6
 
--- how many 16-bit operands a command has: six for a triangle, three for t x y, two for x y or i j
+-- how many 16-bit operands a command has: six for a triangle, two for x y or i j
 unfoldable pub wordCount : ℕ → ℕ
-wordCount b = cond (eqb b 1) numbersPerTriangle (cond (eqb b 3) 3 (cond (leb 4 b && leb b 6) 2 0))
+wordCount b = cond (eqb b 1) numbersPerTriangle (cond (leb 3 b && leb b 6) 2 0)
 
 -- how many bytes c is
 unfoldable pub chartBytes : ℕ → ℕ

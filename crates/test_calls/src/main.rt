@@ -4,8 +4,8 @@
 // 16-bit number a and two 32-bit numbers b and c, low byte first. A call goes by the chart of the buffer.
 //   1 load of the a numbers that follow, two bytes each    2 locate (b, c)    3 cell listing of (b, c)    4 soundness
 //   5 doubled area    6 put b at place a of a buffer    7 lend a places of a buffer    8 counts b and c
-//   9 put b at every place of a buffer    10 split triangle b at (c mod 65536, c / 65536)    11 take out (b, c)    12 flip b, c
-//   13 overlay of the chart and chart a    14 side split of triangle b at (c mod 65536, c / 65536)
+//   9 put b at every place of a buffer    10 insert (b, c)    11 take out (b, c)    12 flip b, c
+//   13 overlay of the chart and chart a
 // Each call prints a line: its name, what it answers, and a checksum of all places of the chart's buffers, lent or not; an overlay
 // one of all places of both charts and of the pairs.
 

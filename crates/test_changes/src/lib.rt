@@ -31,10 +31,7 @@ fn change(
         return call_load::load(given, t, k, v, i, n, m);
     }
     if what == 10 {
-        return call_edits::split(t, k, v, i, n, m, b as usize, point(c, c / 65536));
-    }
-    if what == 14 {
-        return call_edits::side_split(t, k, v, i, n, m, b as usize, point(c, c / 65536));
+        return call_edits::insert(t, k, v, i, n, m, point(b, c));
     }
     if what == 11 {
         return call_edits::take_out(t, k, v, i, n, m, point(b, c));

@@ -23,11 +23,7 @@ fn print_name(what: u8) {
         return;
     }
     if what == 10 {
-        say(b"split");
-        return;
-    }
-    if what == 14 {
-        say(b"side_split");
+        say(b"insert");
         return;
     }
     if what == 11 {

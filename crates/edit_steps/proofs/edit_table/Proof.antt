@@ -17,10 +17,10 @@ proposal c e = proposed (eventOf e) (tableOf (c .args .table .now) (c .args .n))
 returns : tie.Need-returns
 unfolding proposed
 returns c =
-    let split-table : tie.After-split-table = search needs in
+    let insert-table : tie.After-insert-table = search needs in
     let edit : tie.After-edit = search needs in
     let top : tie.Start = search needs in
-    (split-table .split-table .ensures .0 ∙ ap (proposal top) (sym (edit .edit .given .1)), search needs)
+    (insert-table .insert-table .ensures .0 ∙ ap (proposal top) (sym (edit .edit .given .1)), search needs)
 
 returns-2 : tie.Need-returns-2
 unfolding proposed
@@ -38,16 +38,7 @@ returns-3 c =
     let top : tie.Start = search needs in
     (flip-table .flip-table .ensures .0 ∙ ap (proposal top) (sym (edit3 .edit3 .given .1)), search needs)
 
-returns-4 : tie.Need-returns-4
-unfolding proposed
-returns-4 c =
-    let side-split-table : tie.After-side-split-table = search needs in
-    let edit4 : tie.After-edit4 = search needs in
-    let top : tie.Start = search needs in
-    (side-split-table .side-split-table .ensures .0 ∙ ap (proposal top) (sym (edit4 .edit4 .given .1)), search needs)
-
 pub edit-table-spec : {M : Type 1} → statement M
 edit-table-spec =
     tie.close (tie.spec (λ c. search needs) (λ c κs. search needs) (λ c. search needs) (λ c κs. search needs) (λ c. search needs)
-    (λ c κs. search needs) (λ c. search needs) (λ c κs. search needs) (λ c. search needs) returns (λ c. search needs) returns-2 (λ c. search needs) returns-3
-    (λ c. search needs) returns-4)
+    (λ c κs. search needs) (λ c. search needs) returns (λ c. search needs) returns-2 (λ c. search needs) returns-3)

@@ -1,7 +1,7 @@
 use mathlib.Core.Path.{sym, _∙_, ap}
 use Prim.Native.Nat.{_+_}
 use borrow.Author.Needs.{needs}
-use Rattle.replay_calls.proofs.EncodingLaws.{length-load, length-split, length-other, length-none}
+use Rattle.replay_calls.proofs.EncodingLaws.{length-load, length-edit, length-none}
 use Rattle.replay_calls.proofs.call_length.Statement.{statement}
 use Rattle.replay_calls.proofs.call_length.Tie as tie
 
@@ -16,22 +16,14 @@ returns-2 : tie.Need-returns-2
 returns-2 c =
     let else1 : tie.Else1 = search needs in
     let top : tie.Start = search needs in
-    let a = top .args in sym (length-split (a .command) (a .n) (else1 .if1 .left) (c .if2 .taken))
+    let a = top .args in sym (length-edit (a .command) (a .n) (else1 .if1 .left) (c .if2 .taken))
 
 returns-3 : tie.Need-returns-3
 returns-3 c =
-    let else2 : tie.Else2 = search needs in
     let else1 : tie.Else1 = search needs in
     let top : tie.Start = search needs in
-    let a = top .args in sym (length-other (a .command) (a .n) (else1 .if1 .left) (else2 .if2 .left) (c .if3 .taken))
-
-returns-4 : tie.Need-returns-4
-returns-4 c =
-    let else2 : tie.Else2 = search needs in
-    let else1 : tie.Else1 = search needs in
-    let top : tie.Start = search needs in
-    let a = top .args in sym (length-none (a .command) (a .n) (else1 .if1 .left) (else2 .if2 .left) (c .if3 .left))
+    let a = top .args in sym (length-none (a .command) (a .n) (else1 .if1 .left) (c .if2 .left))
 
 pub call-length-spec : {M : Type 1} → statement M
 call-length-spec =
-    tie.close (tie.spec (λ c κs. search needs) (λ c. search needs) returns returns-2 returns-3 returns-4)
+    tie.close (tie.spec (λ c κs. search needs) (λ c. search needs) returns returns-2 returns-3)

@@ -7,7 +7,7 @@ use borrow.Author.Needs.{needs}
 use lib.ListN.{length}
 use Rattle.spec_calls.specs.Buffers.{Chart}
 use Rattle.spec_calls.specs.Lent.{held}
-use Rattle.replay_lists.proofs.CallLaws.{load-long, split-numbers, other-long, load-event, takeOut-event, flip-event}
+use Rattle.replay_lists.proofs.CallLaws.{load-long, edit-long, load-event, insert-event, takeOut-event, flip-event}
 use Rattle.replay_lists.proofs.call_steps.run_call.Statement.{statement}
 use Rattle.replay_lists.proofs.call_steps.run_call.Tie as tie
 
@@ -44,33 +44,25 @@ returns c =
     let top = then1-to-top then1 in
     load .load .ensures ∙ load-event (numbers top) (chart top) (then1 .if1 .taken)
 
-run-split-requires : tie.Need-run-split-requires
-run-split-requires c κs =
-    let then2 : tie.Then2 = search needs in
-    let else1 : tie.Else1 = search needs in
-    let top = else1-to-top else1 in
-    split-numbers (numbers top) (top .pre) (else1 .if1 .left) (then2 .if2 .taken)
+-- the numbers of an edit are three
+long : (c : tie.Else1) → let top = else1-to-top c in length (numbers top) ≡ 3
+long c = let top = else1-to-top c in edit-long (numbers top) (top .pre) (c .if1 .left)
 
 returns-2 : tie.Need-returns-2
 returns-2 c =
-    let run-split : tie.After-run-split = search needs in
-    run-split .run-split .ensures
-
--- the numbers of a take-out or a flip are three
-long : (c : tie.Else2) → let else1 : tie.Else1 = search needs in let top = else1-to-top else1 in length (numbers top) ≡ 3
-long c =
+    let insert : tie.After-insert = search needs in
+    let then2 : tie.Then2 = search needs in
     let else1 : tie.Else1 = search needs in
     let top = else1-to-top else1 in
-    other-long (numbers top) (top .pre) (else1 .if1 .left) (c .if2 .left)
+    insert .insert .ensures ∙ insert-event (numbers top) (chart top) (then2 .if2 .taken)
 
 returns-3 : tie.Need-returns-3
 returns-3 c =
     let take-out : tie.After-take-out = search needs in
     let then3 : tie.Then3 = search needs in
-    let else2 : tie.Else2 = search needs in
     let else1 : tie.Else1 = search needs in
     let top = else1-to-top else1 in
-    take-out .take-out .ensures ∙ takeOut-event (numbers top) (chart top) (else1 .if1 .left) (else2 .if2 .left) (then3 .if3 .taken)
+    take-out .take-out .ensures ∙ takeOut-event (numbers top) (chart top) (then3 .if3 .taken)
 
 returns-4 : tie.Need-returns-4
 returns-4 c =
@@ -86,10 +78,11 @@ returns-4 c =
 pub run-call-spec : {M : Type 1} → statement M
 run-call-spec =
     tie.close (tie.spec (λ c. search needs) sub-words part-words-start (λ c. search needs) (λ c κs. search needs) (λ c. search needs)
-    (λ c. search needs) (λ c. search needs) (λ c. search needs) returns (λ c. search needs) (λ c. search needs) run-split-requires
-    (λ c. search needs) (λ c. search needs) (λ c. search needs) (λ c. search needs) returns-2 (λ c. search needs)
-    (λ c. let else2 : tie.Else2 = search needs in omega (arith, long else2))
-    (λ c. let else2 : tie.Else2 = search needs in omega (arith, long else2)) (λ c κs. search needs) (λ c. search needs) (λ c. search needs)
-    (λ c. search needs) (λ c. search needs) returns-3 (λ c. let else2 : tie.Else2 = search needs in omega (arith, long else2))
-    (λ c κs. search needs) (λ c. let else2 : tie.Else2 = search needs in omega (arith, long else2)) (λ c κs. search needs)
-    (λ c κs. search needs) (λ c. search needs) (λ c. search needs) (λ c. search needs) (λ c. search needs) returns-4)
+    (λ c. search needs) (λ c. search needs) (λ c. search needs) returns
+    (λ c. let else1 : tie.Else1 = search needs in omega (arith, long else1))
+    (λ c. let else1 : tie.Else1 = search needs in omega (arith, long else1)) (λ c. search needs) (λ c κs. search needs) (λ c. search needs)
+    (λ c. search needs) (λ c. search needs) (λ c. search needs) returns-2 (λ c. search needs) (λ c κs. search needs) (λ c. search needs)
+    (λ c. search needs) (λ c. search needs) (λ c. search needs) returns-3
+    (λ c. let else1 : tie.Else1 = search needs in omega (arith, long else1)) (λ c κs. search needs)
+    (λ c. let else1 : tie.Else1 = search needs in omega (arith, long else1)) (λ c κs. search needs) (λ c κs. search needs) (λ c. search needs)
+    (λ c. search needs) (λ c. search needs) (λ c. search needs) returns-4)
