@@ -248,8 +248,8 @@ lowestHolder-large : map (λ table. lowestHolder pp table) (deep256 ∷ deep ∷
 unfolding evaluate
 lowestHolder-large = refl
 
--- of six zeros, which stand for a triangle beyond the end, every point is a corner; triangle 256
-insertTaken-large : insertTaken (some 4294967296) pp (near ∷ far ∷ []) ∷ [] ≡ refused AtCorner ∷ []
+-- of six zeros, which stand for a triangle beyond the end, every point is a corner
+insertTaken-large : insertTaken (some 4294967296) pp (near ∷ far ∷ []) ≡ refused AtCorner
 unfolding evaluate
 insertTaken-large = refl
 
