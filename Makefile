@@ -9,7 +9,7 @@ run.by := bash tests/demo.sh
 
 test.does := the whole gate: proofs, must-fail edits, programs, reference model, definitions executed, pages; .ci/run calls it
 test.needs := rt rustc python3 cc c++ ld objcopy nm pkg-config valgrind
-test.takes := some 35 minutes
+test.takes := 35 to 60 minutes
 test.by := bash tests/run.sh
 
 lib.does := proves the exports and builds target/lib/libjirdtungsten.a and .so; docs/LIBRARY.md says their use
