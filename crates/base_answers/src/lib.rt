@@ -1,5 +1,7 @@
 // What the public calls answer. Document 01's number and value for each case are definitions in specs/, and functions here.
 
+#![tactic(auto)]
+
 ghost use Rattle.std.specs.Prelude.{◌≡◌, false};
 ghost use Rattle.std.proofs.Math.Option.{none};
 ghost use Rattle.spec_charts.specs.Refusals.{row_of, outcome_number, outcome_value, done_or};
@@ -9,14 +11,14 @@ use spec_charts::Refusal;
 use spec_plane::Position;
 
 // How judging a chart, a load, an edit, a window or an overlay went.
-#[derive(Drop)]
+#[derive(Clone, Copy)]
 pub enum Verdict {
     Accepted,
     Refused(Refusal),
 }
 
 // A load or an edit: how it went, and the chart's counts after it.
-#[derive(Drop)]
+#[derive(Clone, Copy)]
 pub struct Changed {
     pub verdict: Verdict,
     pub triangles: usize,
@@ -24,7 +26,7 @@ pub struct Changed {
 }
 
 // The triangle under a point, and where the point lies by it.
-#[derive(Drop)]
+#[derive(Clone, Copy)]
 pub enum Located {
     At(u16, Position),
     Nowhere,
@@ -32,7 +34,7 @@ pub enum Located {
 }
 
 // Whether no two triangles have a common interior point.
-#[derive(Drop)]
+#[derive(Clone, Copy)]
 pub enum Soundness {
     Sound,
     Unsound,
@@ -40,21 +42,21 @@ pub enum Soundness {
 }
 
 // The doubled area of a table.
-#[derive(Drop)]
+#[derive(Clone, Copy)]
 pub enum Area {
     Sum(u64),
     Refused(Refusal),
 }
 
 // A window: how it went, and how many triangles are listed.
-#[derive(Drop)]
+#[derive(Clone, Copy)]
 pub struct Windowed {
     pub verdict: Verdict,
     pub listed: usize,
 }
 
 // An overlay: how it went, the pairs listed and the meetings.
-#[derive(Drop)]
+#[derive(Clone, Copy)]
 pub struct Overlaid {
     pub verdict: Verdict,
     pub pairs: usize,

@@ -1,5 +1,7 @@
 // An entry packed into one number: key, level and item at places 32, 16 and 0. Nothing else knows the places.
 
+#![tactic(auto)]
+
 ghost use Rattle.std.specs.Prelude.{◌≡◌, ◌+◌, ◌≤◌, ◌<◌};
 ghost use Rattle.theory_orthtree.specs.Entries.{entry, empty_mark};
 ghost use Rattle.base_entries.specs.Packed.{key_weight, head_of, max_head, packed, key_of, level_of, item_of};

@@ -10,7 +10,7 @@ use spec_plane::Point;
 
 // A bounding box. Its sides are numbers of a table, of 16 bits each: so many boxes as possible are compared side by side. The box of a
 // square reaches up to 65536 and does not fit: that is a `Frame` of quadtree_shapes.
-#[derive(Drop)]
+#[derive(Clone, Copy)]
 pub struct Bounds {
     pub left: u16,
     pub top: u16,

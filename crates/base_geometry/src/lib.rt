@@ -1,5 +1,7 @@
 // Numbers, D, triangles, bounding boxes.
 
+#![tactic(auto)]
+
 pub mod bounds;
 pub mod geometry;
 pub mod numbers;

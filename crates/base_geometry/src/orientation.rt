@@ -14,7 +14,7 @@ fn product(a: u16, b: u16) -> u64
 }
 
 // A difference of two sums of products.
-#[derive(Drop)]
+#[derive(Clone, Copy)]
 pub struct Difference {
     pub high: u64,
     pub low: u64,

@@ -14,7 +14,7 @@ use spec_plane::Point;
 pub const HIGH: u64 = 1099511627776;
 
 // Where the corners of a triangle lie from a.
-#[derive(Drop)]
+#[derive(Clone, Copy)]
 pub struct Offsets {
     pub a: Offset,
     pub b: Offset,
@@ -22,7 +22,7 @@ pub struct Offsets {
 }
 
 // D at the corners of a triangle, raised.
-#[derive(Drop)]
+#[derive(Clone, Copy)]
 pub struct Raised {
     pub a: u64,
     pub b: u64,

@@ -7,7 +7,7 @@ ghost use Rattle.base_interiors.specs.Differences.{SideOf, SmallSide, SmallOffse
 use spec_plane::Point;
 
 // Those of the side from p to q, q.x - p.x and p.y - q.y, and what a raised D has of them alone.
-#[derive(Drop)]
+#[derive(Clone, Copy)]
 pub struct SideDifferences {
     pub dx: u64,
     pub dy: u64,
@@ -16,7 +16,7 @@ pub struct SideDifferences {
 
 // What the test of a pair is handed of its first triangle: 65536 less the coordinates of a, the differences of the sides at a, and the
 // doubled area, raised three times. The differences of bc are what the other two leave, and so is D.
-#[derive(Drop)]
+#[derive(Clone, Copy)]
 pub struct Differences {
     pub x: u64,
     pub y: u64,
@@ -26,7 +26,7 @@ pub struct Differences {
 }
 
 // Where a point lies from a: x and y less those of a, each with 65536 added.
-#[derive(Drop)]
+#[derive(Clone, Copy)]
 pub struct Offset {
     pub x: u64,
     pub y: u64,

@@ -1,6 +1,8 @@
 // Whether two triangles have a common interior point. The coordinate differences of the first triangle's sides are worked out once
 // (`differences`) and handed to the test of each pair.
 
+#![tactic(auto)]
+
 mod corners;
 pub mod differences;
 

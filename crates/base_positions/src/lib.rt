@@ -1,5 +1,7 @@
 // Where a point lies by a triangle: the one test of a point against a triangle, and what is read from its answer.
 
+#![tactic(auto)]
+
 ghost use Rattle.std.specs.Prelude.{◌≡◌};
 ghost use Rattle.spec_plane.specs.Triangle.{triangle_of};
 ghost use Rattle.spec_plane.specs.Position.{position, position_of, position_number, is_held, is_inside};

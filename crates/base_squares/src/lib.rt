@@ -1,5 +1,7 @@
 // The square of a key: its corner from the key's bits.
 
+#![tactic(auto)]
+
 ghost use Rattle.std.specs.Prelude.{◌≡◌, ◌<◌};
 ghost use Rattle.theory_orthtree.specs.Morton.{key_coordinate};
 ghost use Rattle.spec_squares.specs.Square.{depth, square_of_key};

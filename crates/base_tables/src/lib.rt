@@ -1,6 +1,8 @@
 // Tables of triangles: how many numbers a triangle and a table have, and the rows of a table, read and written. Nothing else
 // knows where the numbers of a triangle stand.
 
+#![tactic(auto)]
+
 ghost use Rattle.std.specs.Prelude.{◌≡◌, [], ◌∷◌, ◌+◌, ◌*◌, ◌≤◌, length};
 ghost use Rattle.std.proofs.lemmas.List.Edits.{sets};
 ghost use Rattle.spec_plane.specs.Triangle.{corners, triangle_of};

@@ -1,5 +1,7 @@
 // Doubled area: the sum over a chart's table.
 
+#![tactic(auto)]
+
 ghost use Rattle.std.specs.Prelude.{◌≡◌, true, ◌<◌};
 ghost use Rattle.spec_plane.specs.Triangle.{proper, triangle_of, doubled_area};
 ghost use Rattle.spec_charts.specs.Table.{Drawn, table_of};

@@ -1,6 +1,8 @@
 // The public calls insert, take-out and flip of a chart. Each answers how it went and the counts that the chart has now; a refusal leaves
 // lists and counts as they were.
 
+#![tactic(auto)]
+
 mod chart_edit;
 
 ghost use Rattle.std.specs.Prelude.{◌≡◌};

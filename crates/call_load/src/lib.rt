@@ -1,5 +1,7 @@
 // Load: a table given as numbers becomes the chart.
 
+#![tactic(auto)]
+
 mod load_checks;
 
 ghost use Rattle.std.specs.Prelude.{◌≡◌};

@@ -1,5 +1,7 @@
 // Overlay: the pairs of triangles that have a common interior point and are listed in overlapping cells, and the meetings.
 
+#![tactic(auto)]
+
 mod overlay_answers;
 
 ghost use Rattle.std.specs.Prelude.{◌≡◌};

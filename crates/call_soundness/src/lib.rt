@@ -1,5 +1,7 @@
 // Soundness of a chart.
 
+#![tactic(auto)]
+
 mod disjoint;
 
 ghost use Rattle.std.specs.Prelude.{◌≡◌};

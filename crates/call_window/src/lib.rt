@@ -1,5 +1,7 @@
 // Window: the triangles of a chart that have a point in common with a rectangle.
 
+#![tactic(auto)]
+
 ghost use Rattle.std.specs.Prelude.{◌≡◌, true, false, ◌≤◌, length};
 ghost use Rattle.spec_window.specs.Window.{window_of, empty_window, window_length};
 ghost use Rattle.spec_calls.specs.Buffers.{too_short, chain_rule, chart_table, chart_entries};

@@ -1,5 +1,7 @@
 // The entries of a table in the three entry lists of a chart.
 
+#![tactic(auto)]
+
 ghost use Rattle.std.specs.Prelude.{◌≤◌, length, take};
 ghost use Rattle.spec_charts.specs.Table.{table_of, Drawn};
 ghost use Rattle.spec_charts.specs.Cells.{entries_of, max_entries};

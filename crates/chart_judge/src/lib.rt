@@ -1,5 +1,7 @@
 // Refusals 1, 2 and 3 of a chart, before an edit.
 
+#![tactic(auto)]
+
 mod entry_checks;
 
 ghost use Rattle.std.specs.Prelude.{◌≡◌, true};

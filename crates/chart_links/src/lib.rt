@@ -1,6 +1,8 @@
 // The chain rule between an entry and the next, without a branch: an `if` between two numbers makes none. A fault is a number that is 0
 // where nothing is wrong, so that faults are joined by `|`.
 
+#![tactic(auto)]
+
 ghost use Rattle.std.specs.Prelude.{◌≡◌, ◌||◌, ℕ, ◌+◌, ◌*◌, ◌≤◌, leb, eqb};
 ghost use Rattle.theory_orthtree.specs.Entries.{span, entry};
 ghost use Rattle.spec_squares.specs.Square.{arity, depth};

@@ -1,5 +1,7 @@
 // The chain rule of a chart's lent buffers, and refusals 1 and 2.
 
+#![tactic(auto)]
+
 mod entry_chains;
 
 ghost use Rattle.std.specs.Prelude.{◌≡◌, Bool, true, false, List, ℕ, ◌+◌, ◌*◌, ◌≤◌, length};

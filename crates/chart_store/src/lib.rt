@@ -1,5 +1,7 @@
 // A new table stored in a chart with its entries: what loads and edits share.
 
+#![tactic(auto)]
+
 ghost use Rattle.std.specs.Prelude.{◌≡◌, false};
 ghost use Rattle.spec_charts.specs.Table.{Drawn, table_of};
 ghost use Rattle.spec_charts.specs.Edits.{within_limit};

@@ -1,6 +1,8 @@
 // Flip: the side that two triangles of a plain table share is exchanged for the other diagonal. The new table is written into a
 // scratch table.
 
+#![tactic(auto)]
+
 ghost use Rattle.std.specs.Prelude.{◌≡◌, ◌≤◌};
 ghost use Rattle.spec_plane.specs.Triangle.{triangle_of};
 ghost use Rattle.spec_charts.specs.Table.{max_triangles, table_of};

@@ -7,7 +7,7 @@ ghost use Rattle.edit_insert.specs.Holders.{HolderFound};
 use spec_plane::{Point, Position};
 
 // Who holds the point: no triangle, or one by its number, and where the point lies by it.
-#[derive(Drop)]
+#[derive(Clone, Copy)]
 pub enum Holder {
     Nobody,
     Triangle(usize, Position),

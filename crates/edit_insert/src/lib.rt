@@ -1,6 +1,8 @@
 // Insert: the lowest numbered triangle of a plain table that holds the point is split, inside or on a side. The new table is written into
 // a scratch table.
 
+#![tactic(auto)]
+
 mod holders;
 
 ghost use Rattle.std.specs.Prelude.{◌≡◌, ◌≤◌, ◌<◌};

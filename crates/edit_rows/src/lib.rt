@@ -1,6 +1,8 @@
 // What the edits of plain tables share: how an edit went, rows of one table copied behind those of another, and equal points.
 // Nothing here knows entries.
 
+#![tactic(auto)]
+
 ghost use Rattle.std.specs.Prelude.{◌≡◌, ◌++◌, ◌+◌, ◌-◌, ◌*◌, ◌≤◌, ◌<◌, length, drop, set};
 ghost use Rattle.spec_plane.specs.Point.{same_point};
 ghost use Rattle.spec_plane.specs.Triangle.{triangle_of};
@@ -10,7 +12,7 @@ use spec_charts::Refusal;
 use spec_plane::Point;
 
 // How an edit of a plain table went: the scratch table holds so many triangles, or nothing is made.
-#[derive(Drop)]
+#[derive(Clone, Copy)]
 pub enum Edited {
     Made(usize),
     Refused(Refusal),

@@ -1,6 +1,8 @@
 // Side split: insertion of a vertex on a side of a triangle of a plain table, and of the triangle on the other side of it. The new table
 // is written into a scratch table.
 
+#![tactic(auto)]
+
 mod neighbours;
 mod row_split;
 

@@ -9,7 +9,7 @@ ghost use Rattle.edit_side_split.specs.Sides.{beside_neighbour};
 use spec_plane::Point;
 
 // What is on the other side: no triangle, or one by its number and the number of its rotation.
-#[derive(Drop)]
+#[derive(Clone, Copy)]
 pub enum Beside {
     Nobody,
     Triangle(usize, usize),

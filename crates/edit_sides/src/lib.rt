@@ -1,5 +1,7 @@
 // Sides that two triangles share: the test, and the rotation of one that starts with a side of the other.
 
+#![tactic(auto)]
+
 ghost use Rattle.std.specs.Prelude.{◌≡◌};
 ghost use Rattle.spec_plane.specs.Triangle.{triangle_of};
 ghost use Rattle.spec_charts.specs.Edits.{rotations, shares_side};

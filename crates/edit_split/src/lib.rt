@@ -1,5 +1,7 @@
 // Split: insertion of a vertex into a triangle of a plain table. The new table is written into a scratch table.
 
+#![tactic(auto)]
+
 mod triangle_split;
 
 ghost use Rattle.std.specs.Prelude.{◌≡◌, ◌≤◌, ◌<◌};

@@ -1,5 +1,7 @@
 // The star of a vertex: the triangles of a plain table that have a point as a corner, one after another, and each rotated to end in it.
 
+#![tactic(auto)]
+
 ghost use Rattle.std.specs.Prelude.{◌≡◌, ◌+◌, ◌*◌, ◌≤◌, length};
 ghost use Rattle.spec_plane.specs.Triangle.{triangle_of};
 ghost use Rattle.spec_charts.specs.Table.{numbers_per_triangle, triangle_at, table_of};

@@ -1,5 +1,7 @@
 // The steps of an edit of a chart: the plain table is edited, and what is made is stored or the refusal answered.
 
+#![tactic(auto)]
+
 ghost use Rattle.std.specs.Prelude.{◌≡◌, false, ◌≤◌};
 ghost use Rattle.spec_charts.specs.Table.{Drawn, max_triangles, table_of};
 ghost use Rattle.spec_charts.specs.Refusals.{and_then};
@@ -19,7 +21,7 @@ use spec_charts::Refusal;
 use spec_plane::Point;
 
 // An edit of a chart.
-#[derive(Drop)]
+#[derive(Clone, Copy)]
 pub enum Edit {
     Insert(Point),
     TakeOut(Point),

@@ -1,5 +1,7 @@
 // Take-out: removal of a vertex with three triangles around it from a plain table. The new table is written into a scratch table.
 
+#![tactic(auto)]
+
 mod triangle_merge;
 
 ghost use Rattle.std.specs.Prelude.{◌≡◌, ◌≤◌};

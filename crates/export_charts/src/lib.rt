@@ -1,5 +1,7 @@
 // The other calls for C, on numbers and slices: load, the edits, soundness, doubled area, and where the part that cell listing gives lies.
 
+#![tactic(auto)]
+
 ghost use Rattle.std.specs.Prelude.{◌≡◌, ◌+◌, take, drop};
 ghost use Rattle.spec_calls.specs.Calls.{load_call, insert_call, take_out_call, flip_call, sound_call, area_call, listing_call};
 ghost use Rattle.spec_calls.specs.Lent.{given};
@@ -11,7 +13,7 @@ use spec_plane::Point;
 
 // What a load or an edit answers: document 01's number, the triangle of refusal 5 or else 0, and the chart's counts.
 #[repr(C)]
-#[derive(Drop)]
+#[derive(Clone, Copy)]
 pub struct JirdChanged {
     pub number: u32,
     pub value: usize,
@@ -21,7 +23,7 @@ pub struct JirdChanged {
 
 // What soundness answers: document 01's number, and 1 for yes or 0 for no.
 #[repr(C)]
-#[derive(Drop)]
+#[derive(Clone, Copy)]
 pub struct JirdSounded {
     pub number: u32,
     pub sound: u32,
@@ -29,7 +31,7 @@ pub struct JirdSounded {
 
 // What doubled area answers: document 01's number, and the sum.
 #[repr(C)]
-#[derive(Drop)]
+#[derive(Clone, Copy)]
 pub struct JirdMeasured {
     pub number: u32,
     pub area: u64,
@@ -37,7 +39,7 @@ pub struct JirdMeasured {
 
 // A part of the items: its first place, and how many.
 #[repr(C)]
-#[derive(Drop)]
+#[derive(Clone, Copy)]
 pub struct JirdPart {
     pub start: usize,
     pub length: usize,

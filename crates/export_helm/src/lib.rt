@@ -1,5 +1,7 @@
 // Locate, overlay and window for C, on numbers and slices: the calls that the helm display asks while it draws, and no other export.
 
+#![tactic(auto)]
+
 ghost use Rattle.std.specs.Prelude.{◌≡◌};
 ghost use Rattle.spec_calls.specs.Calls.{locate_call, window_call, overlay_call};
 ghost use Rattle.spec_calls.specs.Lent.{given};
@@ -10,7 +12,7 @@ use spec_plane::Point;
 
 // What locate answers: document 01's number, the triangle or 65535, and the number of the position, 7 for outside.
 #[repr(C)]
-#[derive(Drop)]
+#[derive(Clone, Copy)]
 pub struct JirdLocated {
     pub number: u32,
     pub triangle: u32,
@@ -19,7 +21,7 @@ pub struct JirdLocated {
 
 // What overlay answers: document 01's number, the pair count and the meetings.
 #[repr(C)]
-#[derive(Drop)]
+#[derive(Clone, Copy)]
 pub struct JirdOverlaid {
     pub number: u32,
     pub pairs: usize,
@@ -28,7 +30,7 @@ pub struct JirdOverlaid {
 
 // What window answers: document 02's number, and how many triangles are listed.
 #[repr(C)]
-#[derive(Drop)]
+#[derive(Clone, Copy)]
 pub struct JirdWindowed {
     pub number: u32,
     pub listed: usize,

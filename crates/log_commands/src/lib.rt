@@ -1,5 +1,7 @@
 // A whole command, from its bytes to what it prints.
 
+#![tactic(auto)]
+
 ghost use Rattle.std.specs.Prelude.{◌≡◌, ◌+◌, ◌≤◌, ◌<◌, length};
 ghost use Rattle.spec_calls.specs.Buffers.{pairs_length};
 ghost use Rattle.log_waiting.specs.Waiting.{Whole, waiting_length};
@@ -12,7 +14,7 @@ use log_events::BothCounts;
 use spec_plane::Point;
 
 // The counts and how many numbers wait after a command, and the place after what it printed.
-#[derive(Drop)]
+#[derive(Clone, Copy)]
 pub struct Done {
     pub counts: BothCounts,
     pub waits: usize,

@@ -1,5 +1,7 @@
 // Commands 2 to 5: what waits is loaded, and a chart is edited.
 
+#![tactic(auto)]
+
 ghost use Rattle.std.specs.Prelude.{◌+◌, ◌≤◌, length, get_or};
 ghost use Rattle.log_events.specs.Events.{line_room};
 ghost use Rattle.log_waiting.specs.Waiting.{Whole, waiting_length};

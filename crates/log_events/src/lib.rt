@@ -1,5 +1,7 @@
 // Commands 2 to 5: a call on one of two charts, and the line that is printed of it.
 
+#![tactic(auto)]
+
 ghost use Rattle.std.specs.Prelude.{◌≡◌, ◌+◌, ◌≤◌, length};
 ghost use Rattle.spec_charts.specs.Refusals.{outcome_number, outcome_value};
 ghost use Rattle.spec_log.specs.Log.{line};
@@ -15,14 +17,14 @@ use log_lines::put_line;
 use replay_lists::Counts;
 
 // The counts of both charts.
-#[derive(Drop)]
+#[derive(Clone, Copy)]
 pub struct BothCounts {
     pub first: Counts,
     pub second: Counts,
 }
 
 // How a call went, and the counts of both charts after it.
-#[derive(Drop)]
+#[derive(Clone, Copy)]
 pub struct Told {
     pub changed: Changed,
     pub counts: BothCounts,
@@ -111,7 +113,7 @@ fn put_told(command: u16, changed: Changed, out: &mut [u8], at: usize) -> usize
 }
 
 // The counts after a command, and the place after what it printed.
-#[derive(Drop)]
+#[derive(Clone, Copy)]
 pub struct Printed {
     pub counts: BothCounts,
     pub at: usize,

@@ -1,5 +1,7 @@
 // Lines of the log, written into a list of bytes from a place on. Each function gives back the place after what it wrote.
 
+#![tactic(auto)]
+
 ghost use Rattle.std.specs.Prelude.{◌≡◌, [], ◌∷◌, ◌+◌, ◌*◌, ◌≤◌, ◌<◌, length};
 ghost use Rattle.spec_log.specs.Log.{decimal, spaced, line, heading, bad_line};
 ghost use Rattle.log_lines.specs.Bytes.{Wrote, pair_lines, pair_bytes};

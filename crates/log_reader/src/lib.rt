@@ -1,5 +1,7 @@
 // The command program on slices: its input byte by byte, in portions of any length, and what it prints.
 
+#![tactic(auto)]
+
 ghost use Rattle.std.specs.Prelude.{◌≡◌, false, ◌+◌, ◌^◌, ◌≤◌, ◌<◌, length, take};
 ghost use Rattle.spec_calls.specs.Buffers.{pairs_length};
 ghost use Rattle.log_portions.specs.Portions.{Reading, feed_byte, feed, finish as Portions·finish};
@@ -16,7 +18,7 @@ use log_events::BothCounts;
 
 // What is kept between two bytes: the bytes of a command that is not whole and how many they are, the offset of the next command
 // byte, whether `bad` was printed, how many numbers wait, and the counts of both charts.
-#[derive(Drop)]
+#[derive(Clone, Copy)]
 pub struct Reader {
     pub held: [u8; 13],
     pub count: usize,
@@ -27,7 +29,7 @@ pub struct Reader {
 }
 
 // The reader after a byte, and the place after what it printed.
-#[derive(Drop)]
+#[derive(Clone, Copy)]
 struct Fed {
     reader: Reader,
     at: usize,
@@ -130,7 +132,7 @@ fn feed_byte(
 }
 
 // What a portion came to: the reader after it, how many of its bytes were read, and the place after what they printed.
-#[derive(Drop)]
+#[derive(Clone, Copy)]
 pub struct Portion {
     pub reader: Reader,
     pub used: usize,

@@ -1,5 +1,7 @@
 // Commands 6 and 7: the triangle under a point of one of two charts, and the overlay of both.
 
+#![tactic(auto)]
+
 ghost use Rattle.std.specs.Prelude.{◌≡◌, ◌+◌, ◌≤◌, length};
 ghost use Rattle.spec_charts.specs.Overlay.{max_pairs};
 ghost use Rattle.spec_calls.specs.Buffers.{pairs_length};

@@ -1,5 +1,7 @@
 // Command 1: a triangle more waits, or `1 4` is printed.
 
+#![tactic(auto)]
+
 ghost use Rattle.std.specs.Prelude.{◌+◌, ◌≤◌, length, drop};
 ghost use Rattle.spec_log.specs.Log.{words_of};
 ghost use Rattle.log_events.specs.Events.{line_room};
@@ -14,7 +16,7 @@ pub const CALL_HEAD: usize = 2;
 const TABLE_LENGTH: usize = 3072;
 
 // How many numbers wait after a command, and the place after what it printed.
-#[derive(Drop)]
+#[derive(Clone, Copy)]
 pub struct Waiting {
     pub waits: usize,
     pub at: usize,

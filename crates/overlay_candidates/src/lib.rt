@@ -1,5 +1,7 @@
 // The candidates of a row of marks: the marked places whose boxes overlap, listed without a branch but for each mark.
 
+#![tactic(auto)]
+
 ghost use Rattle.std.specs.Prelude.{◌+◌, ◌*◌, ◌<◌};
 ghost use Rattle.spec_charts.specs.Table.{max_triangles};
 ghost use Rattle.base_geometry.specs.Bounds.{bounds_box};

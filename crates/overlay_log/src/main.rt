@@ -4,6 +4,8 @@
 // What a portion prints is written before more input is asked for. The program ends at a bad command, where the input ends or a read
 // fails, and, without a message, where nobody takes its output.
 
+#![tactic(auto)]
+
 ghost use Rattle.std.specs.Prelude.{◌≡◌, ◌+◌, ◌^◌, ◌≤◌, ◌<◌, length};
 ghost use Rattle.spec_calls.specs.Buffers.{pairs_length};
 ghost use Rattle.log_readers.specs.Readers.{overlay_room};
@@ -14,7 +16,7 @@ use libc::{STDIN_FILENO, STDOUT_FILENO};
 use log_reader::Reader;
 
 // The reader after a portion, and whether there is more to do: `bad` was not printed, and the output is taken.
-#[derive(Drop)]
+#[derive(Clone, Copy)]
 struct Served {
     reader: Reader,
     going: bool,

@@ -1,5 +1,7 @@
 // Pairs of items as rows of bits: a row for each item of the first list, and one for the mark.
 
+#![tactic(auto)]
+
 pub mod bitsets;
 
 ghost use Rattle.std.specs.Prelude.{◌≡◌, ◌+◌, ◌≤◌, length};

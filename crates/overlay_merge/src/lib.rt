@@ -3,6 +3,8 @@
 // of the two ends, so one of its two runs is a single cell, and every cell of the one overlaps every cell of the other.
 // Of the tree only the end of its keys is needed, where its last cells end.
 
+#![tactic(auto)]
+
 mod runs;
 
 ghost use Rattle.std.specs.Prelude.{◌≤◌, ◌<◌, length};
@@ -10,7 +12,7 @@ ghost use Rattle.overlay_marks.specs.PairMarks.{rows_length};
 ghost use Rattle.overlay_merge.specs.Merge.{keyed, lent, EntriesFit, EmptyRows, BlockMarked, Merged};
 
 // A block: the places after its two runs, and how many pairs of cells it has.
-#[derive(Drop)]
+#[derive(Clone, Copy)]
 pub struct Marked {
     pub first: usize,
     pub second: usize,

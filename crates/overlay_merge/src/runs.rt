@@ -48,7 +48,7 @@ fn cell_step(before: u32, key: u32) -> usize
 }
 
 // A run of entries: the place after it, and how many cells it has.
-#[derive(Drop)]
+#[derive(Clone, Copy)]
 pub struct Run {
     pub end: usize,
     pub cells: usize,

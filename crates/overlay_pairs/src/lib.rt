@@ -1,6 +1,8 @@
 // The pairs of an overlay, from two tables and a table of marks: the marked pairs that have a common interior point, written in
 // ascending order. A row's candidates are listed first; products are needed for these alone.
 
+#![tactic(auto)]
+
 mod pair_rows;
 pub mod pair_writes;
 

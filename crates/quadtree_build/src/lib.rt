@@ -1,5 +1,7 @@
 // The packed entries of a table, built in scratch of its own. All scratch is cleared first, so a small table has small scratch.
 
+#![tactic(auto)]
+
 mod quadtree;
 
 ghost use Rattle.std.specs.Prelude.{◌≤◌};

@@ -9,7 +9,7 @@ use quadtree_shapes::shapes::Frame;
 use spec_squares::Square;
 
 // A square with its key.
-#[derive(Drop)]
+#[derive(Clone, Copy)]
 pub struct KeyedSquare {
     pub square: Square,
     pub key: u64,

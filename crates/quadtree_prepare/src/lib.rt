@@ -1,6 +1,8 @@
 // What depends on a triangle alone, worked out once for a table: the numbers of its sides and its box by which `shapes` tests
 // boxes, the offsets V(p) of its sides, and its corners as one number each.
 
+#![tactic(auto)]
+
 ghost use Rattle.std.specs.Prelude.{◌≡◌, ◌+◌, ◌≤◌, length};
 ghost use Rattle.std.proofs.lemmas.List.Edits.{sets};
 ghost use Rattle.spec_plane.specs.Point.{distance as Point·distance};

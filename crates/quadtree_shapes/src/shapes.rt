@@ -33,7 +33,7 @@ pub const WHOLE_BOX: usize = TRIANGLE_SIDES * SIDE_NUMBERS;
 
 // A box of the grid: left ≤ right ≤ 65536 and top ≤ bottom ≤ 65536, which `Bounds` of base_geometry does not hold. It is compared with one
 // box at a time and its sides are factors of products, so it has the products' width.
-#[derive(Drop)]
+#[derive(Clone, Copy)]
 pub struct Frame {
     pub left: u64,
     pub top: u64,

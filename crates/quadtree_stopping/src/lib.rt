@@ -1,5 +1,7 @@
 // The stopping test: a square is stopped at level 16, or if some point is an end of every side that meets it.
 
+#![tactic(auto)]
+
 ghost use Rattle.std.specs.Prelude.{◌≡◌, ◌+◌, ◌*◌, ◌≤◌, length};
 ghost use Rattle.spec_charts.specs.Table.{triangle_at};
 ghost use Rattle.spec_charts.specs.Cells.{common_end, stopped};
@@ -13,7 +15,7 @@ use quadtree_shapes::{shapes, side_masks};
 use spec_squares::Square;
 
 // The corners of a triangle, each as one number.
-#[derive(Drop)]
+#[derive(Clone, Copy)]
 pub struct Corners {
     pub a: u32,
     pub b: u32,
@@ -34,7 +36,7 @@ fn corners_at(corners: &[u32], i: usize) -> Corners
 }
 
 // A candidate: its place on the stack, and the mask of its sides that meet the frame.
-#[derive(Drop)]
+#[derive(Clone, Copy)]
 pub struct Met {
     pub at: usize,
     pub mask: u32,

@@ -1,5 +1,7 @@
 // The items of the cell over a point, by keys alone: the last cell at or below the point's key.
 
+#![tactic(auto)]
+
 pub mod morton;
 mod search;
 
@@ -11,7 +13,7 @@ use base_entries::MARK;
 use spec_plane::Point;
 
 // A part of the items: from the first place up to the second.
-#[derive(Drop)]
+#[derive(Clone, Copy)]
 pub struct Part {
     pub from: usize,
     pub to: usize,

@@ -22,7 +22,7 @@ fn below(keys: &[u32], n: usize, b: u64) -> usize
 }
 
 // The places of a cell's entries: from the first up to the second.
-#[derive(Drop)]
+#[derive(Clone, Copy)]
 pub struct Cell {
     pub from: usize,
     pub to: usize,

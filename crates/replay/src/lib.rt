@@ -1,5 +1,7 @@
 // Two lists of calls, one for each chart, and the overlay of the two charts after them: demand 3 as running code.
 
+#![tactic(auto)]
+
 ghost use Rattle.std.specs.Prelude.{◌≡◌};
 ghost use Rattle.replay.specs.Replay.{lent_chart, ReplayedLent};
 
@@ -7,7 +9,7 @@ use base_answers::Overlaid;
 use replay_lists::{Counts, run_history};
 
 // The counts of both charts, and the overlay's answer.
-#[derive(Drop)]
+#[derive(Clone, Copy)]
 pub struct ReplayAnswer {
     pub first: Counts,
     pub second: Counts,

@@ -1,5 +1,7 @@
 // Lists of calls written as numbers: where a whole call stands, and how many numbers it takes.
 
+#![tactic(auto)]
+
 ghost use Rattle.std.specs.Prelude.{◌≡◌, ◌≤◌, length, drop};
 ghost use Rattle.replay_calls.specs.Encoding.{call_length, whole_call};
 

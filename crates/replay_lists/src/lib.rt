@@ -1,5 +1,7 @@
 // Lists of calls, written as numbers, run on a chart.
 
+#![tactic(auto)]
+
 pub mod call_steps;
 
 ghost use Rattle.std.specs.Prelude.{◌≡◌, [], ◌∷◌};
@@ -9,7 +11,7 @@ ghost use Rattle.spec_calls.specs.Lent.{given, left_chart};
 ghost use Rattle.replay_calls.specs.Encoding.{decode};
 
 // The counts of a chart.
-#[derive(Drop)]
+#[derive(Clone, Copy)]
 pub struct Counts {
     pub triangles: usize,
     pub entries: usize,

@@ -1,7 +1,9 @@
 // Document 01 on plain tables as definitions. No code but the type of a refusal, which code and definitions share.
 
+#![tactic(auto)]
+
 // Document 01's table of numbers with document 02's, row by row: why a call or an event is refused. `row_of` in specs/ has the numbers.
-#[derive(Drop)]
+#[derive(Clone, Copy)]
 pub enum Refusal {
     // "a lent buffer is shorter than above"
     ShortBuffer,

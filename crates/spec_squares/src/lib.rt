@@ -1,10 +1,12 @@
 // Squares of the quadtree.
 
+#![tactic(auto)]
+
 ghost use Rattle.std.specs.Prelude.{◌≡◌, suc, ◌≤◌, ◌<◌};
 ghost use Rattle.spec_squares.specs.Square.{side_at, whole_square, top_left, top_right, bottom_left, bottom_right};
 
 // A square by its top left corner and its level, 0 to 16; its side is 2^(16 - level).
-#[derive(Drop)]
+#[derive(Clone, Copy)]
 pub struct Square {
     pub x: u32,
     pub y: u32,

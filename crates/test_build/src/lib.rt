@@ -1,6 +1,8 @@
 // Building the entries of a table, for any numbers and lists: for the test program `test_quadtree` alone.
 // It is no call of document 01, and 16385 and 16386 are none of its numbers.
 
+#![tactic(auto)]
+
 ghost use Rattle.std.specs.Prelude.{◌≡◌, true, false, ◌/◌, length};
 ghost use Rattle.spec_charts.specs.Table.{numbers_per_triangle, table_of};
 ghost use Rattle.spec_charts.specs.Cells.{entries_of, max_entries};

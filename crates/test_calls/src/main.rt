@@ -9,6 +9,8 @@
 // Each call prints a line: its name, what it answers, and a checksum of all places of the chart's buffers, lent or not; an overlay
 // and a window one of all places of both charts and of the pairs.
 
+#![tactic(auto)]
+
 ghost use Rattle.std.specs.Prelude.{◌≤◌, length};
 
 use libc::STDIN_FILENO;

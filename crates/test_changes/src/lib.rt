@@ -1,5 +1,7 @@
 // The calls that change a chart, made by the test program of calls in the buffers of two charts.
 
+#![tactic(auto)]
+
 ghost use Rattle.std.specs.Prelude.{◌≤◌};
 
 use base_answers::Changed;

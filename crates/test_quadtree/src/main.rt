@@ -4,6 +4,8 @@
 // It prints a line with the number of its entries and a line `key level triangle` for each, or `over` above 16,384 entries, or
 // `refused` where a triangle has D <= 0. More than 512 triangles print `refused` and end the program; a cut table ends it too.
 
+#![tactic(auto)]
+
 ghost use Rattle.std.specs.Prelude.{◌+◌, ◌*◌, ◌≤◌, length};
 ghost use Rattle.spec_charts.specs.Cells.{max_entries};
 

@@ -1,5 +1,7 @@
 // The calls that read charts, made by the test program of calls in the buffers of two charts.
 
+#![tactic(auto)]
+
 use base_answers::Overlaid;
 use base_geometry::bounds::Bounds;
 use spec_plane::Point;

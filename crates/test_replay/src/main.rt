@@ -6,6 +6,8 @@
 // prints a line: `replay`, the overlay's number, its pairs and meetings, the triangles and entries of chart 0 and of chart 1, and a
 // checksum of all places of chart 0, of chart 1 and of the pairs.
 
+#![tactic(auto)]
+
 ghost use Rattle.std.specs.Prelude.{◌≤◌, length};
 
 use libc::STDIN_FILENO;

@@ -2,6 +2,8 @@
 //
 // Chart 0 has the first places of each buffer, chart 1 those from TABLE (the table) or LIST (the three lists) on.
 
+#![tactic(auto)]
+
 pub mod test_prints;
 
 ghost use Rattle.std.specs.Prelude.{◌+◌, ◌*◌, ◌≤◌, ◌<◌, length};
@@ -14,7 +16,7 @@ pub const LIST: usize = 16500;
 pub const PAIRS: usize = 8300;
 
 // How many places of each buffer of a chart are lent, and its counts.
-#[derive(Drop)]
+#[derive(Clone, Copy)]
 pub struct Lent {
     pub table: usize,
     pub keys: usize,
@@ -25,7 +27,7 @@ pub struct Lent {
 }
 
 // The same of both charts, and how many places of the pairs are lent.
-#[derive(Drop)]
+#[derive(Clone, Copy)]
 pub struct State {
     pub first: Lent,
     pub second: Lent,

@@ -1,1 +1,3 @@
 // Lists: definitions and laws for the crates above. No code.
+
+#![tactic(auto)]

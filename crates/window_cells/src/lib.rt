@@ -1,6 +1,8 @@
 // The triangles that are listed in cells which a window touches: a mark for each. Every entry is read once: so many as there are lanes are
 // passed over at a time where they all lie beyond the window's sides, and only where one may touch it are they looked at one by one.
 
+#![tactic(auto)]
+
 ghost use Rattle.std.specs.Prelude.{◌≡◌, false, ◌||◌, ℕ, ◌+◌, ◌≤◌, ◌<◌, length, get_or, set};
 ghost use Rattle.theory_lists.specs.Lists.{all, up_to};
 ghost use Rattle.theory_orthtree.specs.Entries.{entry};

@@ -1,6 +1,8 @@
 // The sides of a window as keys, by which most cells are passed over. The bits of a coordinate stand in a key in their own order, so that
 // keys without the bits of the other coordinate are ordered as the coordinate is: nothing is gathered to compare it.
 
+#![tactic(auto)]
+
 ghost use Rattle.std.specs.Prelude.{◌≡◌, ◌-◌, ◌≤◌};
 ghost use Rattle.spec_squares.specs.Square.{depth};
 ghost use Rattle.base_geometry.specs.Bounds.{bounds_box};
@@ -16,7 +18,7 @@ const X_PLACES: u32 = 1431655765;
 const Y_PLACES: u32 = 2863311530;
 
 // The sides of a window as keys of one coordinate: right and bottom, and what is one less than left and top.
-#[derive(Drop)]
+#[derive(Clone, Copy)]
 pub struct KeySides {
     pub left: u32,
     pub top: u32,

@@ -1,5 +1,7 @@
 // The triangles of a table that are in a window, of those that are marked: each is tested once, and listed.
 
+#![tactic(auto)]
+
 ghost use Rattle.std.specs.Prelude.{◌≡◌, true, not, cond, ◌+◌, ◌≤◌, ◌<◌, leb, length, set};
 ghost use Rattle.spec_plane.specs.Triangle.{triangle_of, proper};
 ghost use Rattle.spec_plane.specs.Box.{Framed, all_outer, triangle_meets};
