@@ -2,7 +2,6 @@ use mathlib.Core.Path.{ap₂}
 use mathlib.Core.Bool.{◌&&◌}
 use Rattle.spec_plane.specs.Triangle.{triangle_of, corner_at}
 use Rattle.spec_charts.specs.Edits.{shares_side}
-use borrow.Author.Rules.{rules}
 use Rattle.edit_sides.proofs.shares_side.Goals as goal
 
 pub returns : goal.returns

@@ -3,7 +3,6 @@ use mathlib.Core.Path.{sym, ◌∙◌, ap}
 use Rattle.spec_plane.specs.Triangle.{triangle_of, rotated, corner_at}
 use Rattle.spec_charts.specs.Edits.{triangle}
 use Rattle.edit_star.proofs.EndingLaws.{ending-third, ending-second, ending-first}
-use borrow.Author.Rules.{rules}
 use Rattle.edit_star.proofs.ending_in.Goals as goal
 
 pub returns-then-same_point : goal.returns-then-same_point

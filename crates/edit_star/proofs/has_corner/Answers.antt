@@ -2,7 +2,6 @@ use mathlib.Core.Path.{ap₂}
 use mathlib.Core.Bool.{◌||◌}
 use Rattle.spec_plane.specs.Triangle.{triangle_of, corner_at}
 use Rattle.spec_charts.specs.Edits.{has_corner}
-use borrow.Author.Rules.{rules}
 use Rattle.edit_star.proofs.has_corner.Goals as goal
 
 pub returns : goal.returns

@@ -2,7 +2,6 @@ use mathlib.Core.Path.{◌∙◌, ap}
 use Rattle.spec_charts.specs.Table.{triangle_at}
 use Rattle.spec_charts.specs.Edits.{ending_in}
 use Rattle.edit_rows.proofs.CopyLaws.{triangle-read}
-use borrow.Author.Rules.{rules}
 use Rattle.edit_star.proofs.row_ending_in.Goals as goal
 
 pub returns : goal.returns
