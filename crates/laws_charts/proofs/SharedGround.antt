@@ -3,7 +3,7 @@
 -- list their triangle, as it meets the cell, and both have the key of that grid point.
 -- Assumes nothing.
 use mathlib.Core.Path.{subst}
-use mathlib.Core.List.{List, Memᴰ}
+use mathlib.Core.List.{Memᴰ}
 use mathlib.Core.Logic.{◌↔◌}
 use Prim.Native.Nat.{ℕ}
 use lib.Dec.{T}

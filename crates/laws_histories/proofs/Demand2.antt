@@ -1,7 +1,6 @@
 -- Demand 2, one claim about every accepted load or edit of any chart.
 -- Assumes nothing.
 use mathlib.Core.Path.{◌≡◌, sym, ◌∙◌, ap}
-use mathlib.Core.Bool.{true, false}
 use Prim.Native.Nat.{◌≤◌}
 use Rattle.spec_plane.specs.declared.Point.{Point}
 use Rattle.spec_charts.specs.Table.{numbered}

@@ -1,15 +1,15 @@
 -- The cells of a table, the triangles of each, and the triangle under a point, by places and by membership.
 -- Assumes nothing.
-use mathlib.Core.Path.{◌≡◌, refl, sym, ◌∙◌, ap}
-use mathlib.Core.Bool.{Bool, true, false, true≢false}
-use mathlib.Core.List.{List, [], ◌∷◌, Memᴰ}
+use mathlib.Core.Path.{◌≡◌, sym, ◌∙◌}
+use mathlib.Core.Bool.{Bool, true≢false}
+use mathlib.Core.List.{List, Memᴰ}
 use mathlib.Core.Logic.{◌↔◌}
-use mathlib.Core.Option.{Option, none, some}
-use Prim.Native.Nat.{ℕ, ◌^◌, ◌≤◌, ◌<◌}
+use mathlib.Core.Option.{none, some}
+use Prim.Native.Nat.{ℕ, ◌^◌, ◌<◌}
 use native.Mathlib.Omega.{arith}
 use lib.Dec.{T}
 use lib.ListN.{length}
-use Rattle.theory_lists.specs.Lists.{filter, first, up_to}
+use Rattle.theory_lists.specs.Lists.{first, up_to}
 use Rattle.theory_lists.proofs.Reflects.{test-true, test-false}
 use Rattle.theory_lists.proofs.ListsLaws.{up_to-to, up_to-from}
 use Rattle.theory_lists.proofs.MemberLaws.{filter-to, filter-from}

@@ -1,7 +1,7 @@
 -- What the position of a point says of the older tests, for any three corners: the triangle holds the point where it is not outside,
 -- and the point is strictly inside where it is inside.
 -- Assumes nothing.
-use mathlib.Core.Path.{◌≡◌, refl, sym, ◌∙◌, ap, ap₂}
+use mathlib.Core.Path.{◌≡◌, refl, sym, ◌∙◌, ap₂}
 use mathlib.Core.Bool.{Bool, true, false, not, ◌&&◌}
 use Prim.Native.Nat.{ℕ}
 use native.Mathlib.Decide.{dec_le}

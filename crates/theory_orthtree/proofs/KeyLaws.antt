@@ -1,8 +1,8 @@
 -- The coordinates of a Morton key: they are those that made the key, and they make it again.
 -- The idea: the lowest digit of a key holds the lowest bit of each coordinate, and what is left is the key of their halves.
 -- Assumes nothing.
-use mathlib.Core.Path.{◌≡◌, refl, sym, ◌∙◌, ap, ap₂}
-use mathlib.Core.List.{List, [], ◌∷◌, map, map-map}
+use mathlib.Core.Path.{◌≡◌, sym, ◌∙◌, ap, ap₂}
+use mathlib.Core.List.{List, map, map-map}
 use Prim.Native.Nat.{ℕ, zero, suc, ◌+◌, ◌*◌, ◌/◌, ◌%◌, ◌^◌, ◌<◌}
 use native.Mathlib.Nat.{zero-add, suc-add, add_comm, mul_comm, pow-zero, pow-succ', one-le-pow, div-one, mod-one, div-div-eq-div-mul, zero-div, mul-zero}
 use native.Mathlib.Omega.{arith}

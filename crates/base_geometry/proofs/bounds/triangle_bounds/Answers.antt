@@ -1,0 +1,14 @@
+use borrow.Author.Rules.{rules}
+use Rattle.spec_plane.specs.Triangle.{triangle_of, corner_at}
+use Rattle.spec_plane.specs.Box.{triangle_box}
+use Rattle.base_geometry.proofs.bounds.triangle_bounds.Goals as goal
+
+pub returns : goal.returns
+unfolding triangle_box triangle_of corner_at
+returns c =
+    λ i. record {
+      left = c.smallest.ensures i;
+      top = c.smallest-2.ensures i;
+      right = c.largest.ensures i;
+      bottom = c.largest-2.ensures i;
+    }
