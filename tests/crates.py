@@ -10,7 +10,7 @@ def needs(root=ROOT):
     """The crates in their order, each with the crates that its line names."""
     with open(os.path.join(root, "crates.txt"), encoding="utf-8") as f:
         lines = [line.split("#")[0].split(":") for line in f]
-    return {name.strip(): rest[0].split() for name, *rest in lines if name.strip()}
+    return {name.split()[0]: rest[0].split() for name, *rest in lines if name.strip()}
 
 
 def below(names):
