@@ -14,7 +14,7 @@ unfolding count_from
 returns-in_default c =
     let a = c.args in
     let chart = held a.table a.keys a.levels a.items a.triangles a.entries in
-    let no = c.in_default.ensures tt in
+    let no = c.in_default.ensures in
     record {
       value = listing-refused chart no a.p;
       part_at = record { ordered = omega arith; within = omega arith; numbers = sym (places-refused chart a.p no); nothing = λ _. refl };
