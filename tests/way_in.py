@@ -97,13 +97,12 @@ def test_missing(folder):
 # ---- make run
 
 RT = """#!/bin/sh
-[ -e target/refuse ] && { echo "rt: spec_plane NOT PROVED"; exit 1; }
-echo "rt: overlay_log proved (1 s)"
-[ -e target/stamp/overlay_log ] && exit 0
-mkdir -p target/bin target/stamp
-printf '#!/bin/sh\\nexec %s\\n' "$COMMAND_PROGRAM" >target/bin/overlay_log
-chmod +x target/bin/overlay_log
-: >target/stamp/overlay_log
+[ -e ../../target/refuse ] && { echo "crate spec_plane: modules loaded=0 checked=1"; echo "logic=not-proved"; exit 1; }
+echo "crate overlay_log: modules loaded=0 checked=1"
+echo "logic=proved functions=1"
+mkdir -p out
+printf '#!/bin/sh\\nexec %s\\n' "$COMMAND_PROGRAM" >out/overlay_log
+chmod +x out/overlay_log
 """
 
 

@@ -7,7 +7,7 @@ ghost use Rattle.spec_plane.specs.Triangle.{proper, triangle_of, doubled_area};
 ghost use Rattle.spec_charts.specs.Table.{Drawn, table_of};
 ghost use Rattle.spec_charts.specs.Reading.{total_area};
 ghost use Rattle.spec_calls.specs.Calls.{area_call};
-ghost use Rattle.spec_calls.specs.Lent.{given};
+ghost use Rattle.spec_calls.specs.Lent.{shown};
 ghost use Rattle.base_answers.specs.Outcomes.{area_of};
 
 use base_answers::{Area, Verdict};
@@ -46,7 +46,7 @@ pub fn doubled_area(
     triangles: usize,
     entries: usize,
 ) -> Area
-    ensures { area_of result ≡ area_call (given table keys levels items triangles entries) }
+    ensures { area_of result ≡ area_call (shown table keys levels items triangles entries) }
 {
     match chart_rule::judge(table, keys, levels, items, triangles, entries) {
         Verdict::Accepted => Area::Sum(sum(table, triangles)),

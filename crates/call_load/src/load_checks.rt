@@ -5,7 +5,7 @@ ghost use Rattle.spec_charts.specs.Table.{numbers_per_triangle, table_of};
 ghost use Rattle.spec_charts.specs.Refusals.{done, and_then};
 ghost use Rattle.spec_charts.specs.Edits.{load_table};
 ghost use Rattle.spec_calls.specs.Calls.{if_long};
-ghost use Rattle.spec_calls.specs.Lent.{given};
+ghost use Rattle.spec_calls.specs.Lent.{shown};
 ghost use Rattle.base_answers.specs.Outcomes.{verdict_outcome};
 ghost use Rattle.call_load.specs.Faulty.{first_faulty};
 
@@ -53,7 +53,7 @@ pub fn judge_load(
     levels: &[u8],
     items: &[u16],
 ) -> Verdict
-    ensures { (triangles entries : ℕ) → verdict_outcome result ≡ if_long (given table keys levels items triangles entries) (and_then (load_table numbers.now) (λ t. done true)) }
+    ensures { (triangles entries : ℕ) → verdict_outcome result ≡ if_long (shown table keys levels items triangles entries) (and_then (load_table numbers.now) (λ t. done true)) }
 {
     if chart_rule::too_short(table, keys, levels, items) {
         return Verdict::Refused(Refusal::ShortBuffer);

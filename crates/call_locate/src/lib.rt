@@ -10,7 +10,7 @@ ghost use Rattle.spec_plane.specs.Triangle.{holds};
 ghost use Rattle.spec_plane.specs.Position.{position};
 ghost use Rattle.spec_charts.specs.Table.{numbers_per_triangle, triangle_at};
 ghost use Rattle.spec_calls.specs.Calls.{locate_call, listing_call};
-ghost use Rattle.spec_calls.specs.Lent.{given};
+ghost use Rattle.spec_calls.specs.Lent.{shown};
 ghost use Rattle.read_cells.specs.Place.{OwnPart};
 ghost use Rattle.base_answers.specs.Outcomes.{located_of};
 ghost use Rattle.call_locate.specs.Holding.{found_of};
@@ -49,8 +49,8 @@ pub fn cell_listing<'a, 'b, 'c, 'd>(
     entries: usize,
     p: Point,
 ) -> &'a [u16]
-    ensures result_value { result.now ≡ listing_call (given table keys levels items triangles entries) p }
-    ensures own_part { OwnPart items.entry result (places_call (given table keys levels items triangles entries) p) }
+    ensures result_value { result.now ≡ listing_call (shown table keys levels items triangles entries) p }
+    ensures own_part { OwnPart items.entry result (places_call (shown table keys levels items triangles entries) p) }
 {
     let part = places::cell_part(table, keys, levels, items, triangles, entries, p);
     let from = part.from;
@@ -69,7 +69,7 @@ pub fn locate(
     entries: usize,
     p: Point,
 ) -> Located
-    ensures { located_of result ≡ locate_call (given table keys levels items triangles entries) p }
+    ensures { located_of result ≡ locate_call (shown table keys levels items triangles entries) p }
 {
     match chart_rule::judge(table, keys, levels, items, triangles, entries) {
         Verdict::Accepted => first_holding(table, read_cells::listing(keys, items, entries, p), p),

@@ -2,7 +2,7 @@
 
 ghost use Rattle.std.specs.Prelude.{◌≡◌, ◌-◌, take, drop};
 ghost use Rattle.spec_calls.specs.Calls.{listing_call};
-ghost use Rattle.spec_calls.specs.Lent.{given};
+ghost use Rattle.spec_calls.specs.Lent.{shown};
 ghost use Rattle.call_locate.specs.Places.{places_call, PartAt};
 
 use base_answers::Verdict;
@@ -19,8 +19,8 @@ pub fn cell_part(
     entries: usize,
     p: Point,
 ) -> Part
-    ensures value { take (result.to - result.from) (drop result.from items.now) ≡ listing_call (given table keys levels items triangles entries) p }
-    ensures part_at { PartAt items.now (places_call (given table keys levels items triangles entries) p) result.from result.to }
+    ensures value { take (result.to - result.from) (drop result.from items.now) ≡ listing_call (shown table keys levels items triangles entries) p }
+    ensures part_at { PartAt items.now (places_call (shown table keys levels items triangles entries) p) result.from result.to }
 {
     let Verdict::Accepted = chart_rule::judge(table, keys, levels, items, triangles, entries) else {
         return Part { from: 0, to: 0 };

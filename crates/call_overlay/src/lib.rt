@@ -6,7 +6,7 @@ mod overlay_answers;
 
 ghost use Rattle.std.specs.Prelude.{◌≡◌};
 ghost use Rattle.spec_calls.specs.Calls.{overlay_call};
-ghost use Rattle.spec_calls.specs.Lent.{given};
+ghost use Rattle.spec_calls.specs.Lent.{shown};
 ghost use Rattle.base_answers.specs.Outcomes.{left_pairs};
 
 use base_answers::Overlaid;
@@ -31,7 +31,7 @@ pub fn overlay(
     entries1: usize,
     pairs: &mut [u16],
 ) -> Overlaid
-    ensures { left_pairs pairs result ≡ overlay_call (given table0 keys0 levels0 items0 triangles0 entries0) (given table1 keys1 levels1 items1 triangles1 entries1) pairs.old }
+    ensures { left_pairs pairs result ≡ overlay_call (shown table0 keys0 levels0 items0 triangles0 entries0) (shown table1 keys1 levels1 items1 triangles1 entries1) pairs.old }
 {
     if chart_rule::too_short(table0, keys0, levels0, items0)
         | chart_rule::too_short(table1, keys1, levels1, items1)

@@ -6,7 +6,7 @@ mod disjoint;
 
 ghost use Rattle.std.specs.Prelude.{◌≡◌};
 ghost use Rattle.spec_calls.specs.Calls.{sound_call};
-ghost use Rattle.spec_calls.specs.Lent.{given};
+ghost use Rattle.spec_calls.specs.Lent.{shown};
 ghost use Rattle.base_answers.specs.Outcomes.{soundness_of};
 
 use base_answers::{Soundness, Verdict};
@@ -20,7 +20,7 @@ pub fn soundness(
     triangles: usize,
     entries: usize,
 ) -> Soundness
-    ensures { soundness_of result ≡ sound_call (given table keys levels items triangles entries) }
+    ensures { soundness_of result ≡ sound_call (shown table keys levels items triangles entries) }
 {
     match chart_rule::judge(table, keys, levels, items, triangles, entries) {
         Verdict::Accepted => {

@@ -6,7 +6,7 @@ ghost use Rattle.std.specs.Prelude.{◌≡◌, true, false, ◌≤◌, length};
 ghost use Rattle.spec_window.specs.Window.{window_of, empty_window, window_length};
 ghost use Rattle.spec_calls.specs.Buffers.{too_short, chain_rule, chart_table, chart_entries};
 ghost use Rattle.spec_calls.specs.Calls.{window_call};
-ghost use Rattle.spec_calls.specs.Lent.{held, given};
+ghost use Rattle.spec_calls.specs.Lent.{held, shown};
 ghost use Rattle.base_geometry.specs.Bounds.{bounds_box};
 ghost use Rattle.base_answers.specs.Outcomes.{left_list};
 ghost use Rattle.call_window.specs.Filled.{Filled};
@@ -41,7 +41,7 @@ fn fill(
 ) -> usize
     requires entries_value { (too_short (held table keys levels items triangles entries) ≡ false) × (chain_rule (held table keys levels items triangles entries) ≡ true) }
     requires w_value { (empty_window (bounds_box w) ≡ false) × (window_length ≤ length list.old) }
-    ensures { Filled (window_of (chart_table (given table keys levels items triangles entries)) (chart_entries (given table keys levels items triangles entries)) (bounds_box w)) list.old list.new result }
+    ensures { Filled (window_of (chart_table (shown table keys levels items triangles entries)) (chart_entries (shown table keys levels items triangles entries)) (bounds_box w)) list.old list.new result }
 {
     let mut near = [false; window_cells::MARKS];
     window_cells::mark_near(keys, levels, items, entries, w, &mut near);
@@ -61,7 +61,7 @@ pub fn window(
     w: Bounds,
     list: &mut [u16],
 ) -> Windowed
-    ensures { left_list list result ≡ window_call (given table keys levels items triangles entries) (bounds_box w) list.old }
+    ensures { left_list list result ≡ window_call (shown table keys levels items triangles entries) (bounds_box w) list.old }
 {
     if chart_rule::too_short(table, keys, levels, items) | (list.len() < LIST_PLACES) {
         return refused(Refusal::ShortBuffer);

@@ -4,7 +4,7 @@ ghost use Rattle.std.specs.Prelude.{◌≡◌, ◌&&◌, ◌≤◌, eqb, length}
 ghost use Rattle.spec_charts.specs.Table.{Drawn};
 ghost use Rattle.spec_charts.specs.Cells.{max_entries};
 ghost use Rattle.spec_calls.specs.Buffers.{Roomy, indexed};
-ghost use Rattle.spec_calls.specs.Lent.{given};
+ghost use Rattle.spec_calls.specs.Lent.{shown};
 ghost use Rattle.quadtree_build.specs.Packed.{few_entries};
 ghost use Rattle.chart_judge.specs.Places.{same_places};
 
@@ -44,7 +44,7 @@ fn same_entries(
 fn match_few(table: &[u16], n: usize, keys: &[u32], levels: &[u8], items: &[u16], m: usize) -> bool
     requires drawn { Drawn table.now n }
     requires m_le_few_entries { (m ≤ few_entries) × Roomy m keys.now levels.now items.now }
-    ensures { result ≡ indexed (given table keys levels items n m) }
+    ensures { result ≡ indexed (shown table keys levels items n m) }
 {
     let mut entries = [0u64; quadtree_build::FEW_ENTRIES];
     let r = quadtree_build::build_packed(table, n, &mut entries, quadtree_build::FEW_ENTRIES);
@@ -55,7 +55,7 @@ fn match_few(table: &[u16], n: usize, keys: &[u32], levels: &[u8], items: &[u16]
 fn match_all(table: &[u16], n: usize, keys: &[u32], levels: &[u8], items: &[u16], m: usize) -> bool
     requires drawn { Drawn table.now n }
     requires m_le_max_entries { (m ≤ max_entries) × Roomy m keys.now levels.now items.now }
-    ensures { result ≡ indexed (given table keys levels items n m) }
+    ensures { result ≡ indexed (shown table keys levels items n m) }
 {
     let mut entries = [0u64; base_tables::MOST_ENTRIES];
     let r = quadtree_build::build_packed(table, n, &mut entries, base_tables::MOST_ENTRIES);
@@ -74,7 +74,7 @@ pub fn entries_match(
 ) -> bool
     requires drawn { Drawn table.now n }
     requires m_le_max_entries { (m ≤ max_entries) × Roomy m keys.now levels.now items.now }
-    ensures { result ≡ indexed (given table keys levels items n m) }
+    ensures { result ≡ indexed (shown table keys levels items n m) }
 {
     if n > quadtree_build::FEW_TRIANGLES {
         return match_all(table, n, keys, levels, items, m);

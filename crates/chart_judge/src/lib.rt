@@ -7,7 +7,7 @@ mod entry_checks;
 ghost use Rattle.std.specs.Prelude.{◌≡◌, true};
 ghost use Rattle.spec_charts.specs.Refusals.{done};
 ghost use Rattle.spec_calls.specs.Calls.{if_indexed};
-ghost use Rattle.spec_calls.specs.Lent.{given};
+ghost use Rattle.spec_calls.specs.Lent.{shown};
 ghost use Rattle.base_answers.specs.Outcomes.{verdict_outcome};
 
 use base_answers::Verdict;
@@ -22,7 +22,7 @@ pub fn judge_edit(
     triangles: usize,
     entries: usize,
 ) -> Verdict
-    ensures { verdict_outcome result ≡ if_indexed (given table keys levels items triangles entries) (done true) }
+    ensures { verdict_outcome result ≡ if_indexed (shown table keys levels items triangles entries) (done true) }
 {
     match chart_rule::judge(table, keys, levels, items, triangles, entries) {
         Verdict::Accepted => {

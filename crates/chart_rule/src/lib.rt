@@ -12,7 +12,7 @@ ghost use Rattle.spec_charts.specs.Table.{numbers_per_triangle, table_of, table_
 ghost use Rattle.spec_charts.specs.Cells.{max_entries};
 ghost use Rattle.spec_charts.specs.Refusals.{done};
 ghost use Rattle.spec_calls.specs.Buffers.{Roomy, too_short, table_rule, entries_rule, chain_rule, chart_of};
-ghost use Rattle.spec_calls.specs.Lent.{held, given};
+ghost use Rattle.spec_calls.specs.Lent.{held, shown};
 ghost use Rattle.spec_calls.specs.Calls.{if_chained};
 ghost use Rattle.base_answers.specs.Outcomes.{verdict_outcome};
 
@@ -36,7 +36,7 @@ pub fn all_proper(table: &[u16], n: usize) -> bool
 
 // A lent buffer is too short.
 pub fn too_short(table: &[u16], keys: &[u32], levels: &[u8], items: &[u16]) -> bool
-    ensures { (triangles entries : ℕ) → result ≡ too_short (given table keys levels items triangles entries) }
+    ensures { (triangles entries : ℕ) → result ≡ too_short (shown table keys levels items triangles entries) }
 {
     (table.len() < base_tables::TABLE_NUMBERS)
         | (keys.len() < base_tables::MOST_ENTRIES)
@@ -82,7 +82,7 @@ pub fn chain_rule(
     entries: usize,
 ) -> bool
     requires { too_short (held table keys levels items triangles entries) ≡ false }
-    ensures { result ≡ chain_rule (given table keys levels items triangles entries) }
+    ensures { result ≡ chain_rule (shown table keys levels items triangles entries) }
 {
     table_rule(table, triangles) & entries_rule(keys, levels, items, triangles, entries)
 }
@@ -96,7 +96,7 @@ pub fn judge(
     triangles: usize,
     entries: usize,
 ) -> Verdict
-    ensures { verdict_outcome result ≡ if_chained (given table keys levels items triangles entries) (done true) }
+    ensures { verdict_outcome result ≡ if_chained (shown table keys levels items triangles entries) (done true) }
 {
     if too_short(table, keys, levels, items) {
         return Verdict::Refused(Refusal::ShortBuffer);

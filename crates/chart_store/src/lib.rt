@@ -7,7 +7,7 @@ ghost use Rattle.spec_charts.specs.Table.{Drawn, table_of};
 ghost use Rattle.spec_charts.specs.Edits.{within_limit};
 ghost use Rattle.spec_calls.specs.Buffers.{too_short};
 ghost use Rattle.spec_calls.specs.Calls.{changed_by};
-ghost use Rattle.spec_calls.specs.Lent.{held, given};
+ghost use Rattle.spec_calls.specs.Lent.{given, held_mut};
 ghost use Rattle.base_answers.specs.Outcomes.{left};
 
 use base_answers::{Changed, Verdict};
@@ -27,7 +27,7 @@ pub fn store(
     entries: usize,
 ) -> Changed
     requires drawn { Drawn proposed.now n }
-    requires entries_value { too_short (held table keys levels items triangles entries) ≡ false }
+    requires entries_value { too_short (held_mut table keys levels items triangles entries) ≡ false }
     ensures { left table keys levels items result ≡ changed_by (given table keys levels items triangles entries) (within_limit (table_of proposed.now n)) }
 {
     let m = chart_index::build_into(proposed, n, keys, levels, items);

@@ -7,7 +7,7 @@ ghost use Rattle.spec_charts.specs.Table.{Drawn, max_triangles, table_of};
 ghost use Rattle.spec_charts.specs.Refusals.{and_then};
 ghost use Rattle.spec_charts.specs.Edits.{proposed, within_limit};
 ghost use Rattle.spec_calls.specs.Buffers.{too_short};
-ghost use Rattle.spec_calls.specs.Lent.{held, given};
+ghost use Rattle.spec_calls.specs.Lent.{given, held_mut};
 ghost use Rattle.spec_calls.specs.Calls.{changed_by};
 ghost use Rattle.base_answers.specs.declared.Changed.{Changed as Answers-as-Changed};
 ghost use Rattle.base_answers.specs.Outcomes.{left};
@@ -64,7 +64,7 @@ pub fn finish(
     entries: usize,
 ) -> Changed
     requires drawn { Drawn scratch.now (edited_count made) }
-    requires entries_value { too_short (held table keys levels items triangles entries) ≡ false }
+    requires entries_value { too_short (held_mut table keys levels items triangles entries) ≡ false }
     ensures { left table keys levels items result ≡ changed_by (given table keys levels items triangles entries) (and_then (edited_outcome made scratch.now) (λ t. within_limit t)) }
 {
     match made {

@@ -4,7 +4,7 @@
 
 ghost use Rattle.std.specs.Prelude.{◌≡◌, ◌+◌, take, drop};
 ghost use Rattle.spec_calls.specs.Calls.{load_call, insert_call, take_out_call, flip_call, sound_call, area_call, listing_call};
-ghost use Rattle.spec_calls.specs.Lent.{given};
+ghost use Rattle.spec_calls.specs.Lent.{given, shown};
 ghost use Rattle.call_locate.specs.Places.{places_call, PartAt};
 ghost use Rattle.export_charts.specs.Answers.{changed_numbers, changed_left, sound_numbers, area_numbers};
 
@@ -136,7 +136,7 @@ pub extern "C" fn jird_soundness(
     triangles: usize,
     entries: usize,
 ) -> JirdSounded
-    ensures { result ≡ sound_numbers (sound_call (given table keys levels items triangles entries)) }
+    ensures { result ≡ sound_numbers (sound_call (shown table keys levels items triangles entries)) }
 {
     let s = call_soundness::soundness(table, keys, levels, items, triangles, entries);
     JirdSounded {
@@ -155,7 +155,7 @@ pub extern "C" fn jird_doubled_area(
     triangles: usize,
     entries: usize,
 ) -> JirdMeasured
-    ensures { result ≡ area_numbers (area_call (given table keys levels items triangles entries)) }
+    ensures { result ≡ area_numbers (area_call (shown table keys levels items triangles entries)) }
 {
     let a = call_area::doubled_area(table, keys, levels, items, triangles, entries);
     JirdMeasured {
@@ -176,8 +176,8 @@ pub extern "C" fn jird_cell(
     x: u16,
     y: u16,
 ) -> JirdPart
-    ensures value { take result.length (drop result.start items.now) ≡ listing_call (given table keys levels items triangles entries) (record { x = x; y = y }) }
-    ensures part_at { PartAt items.now (places_call (given table keys levels items triangles entries) (record { x = x; y = y })) result.start (result.start + result.length) }
+    ensures value { take result.length (drop result.start items.now) ≡ listing_call (shown table keys levels items triangles entries) (record { x = x; y = y }) }
+    ensures part_at { PartAt items.now (places_call (shown table keys levels items triangles entries) (record { x = x; y = y })) result.start (result.start + result.length) }
 {
     let p = Point { x, y };
     let part = call_locate::places::cell_part(table, keys, levels, items, triangles, entries, p);

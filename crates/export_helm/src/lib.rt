@@ -4,7 +4,7 @@
 
 ghost use Rattle.std.specs.Prelude.{◌≡◌};
 ghost use Rattle.spec_calls.specs.Calls.{locate_call, window_call, overlay_call};
-ghost use Rattle.spec_calls.specs.Lent.{given};
+ghost use Rattle.spec_calls.specs.Lent.{shown};
 ghost use Rattle.export_helm.specs.Helm.{located_numbers, overlaid_left, windowed_left};
 
 use base_geometry::bounds::Bounds;
@@ -48,7 +48,7 @@ pub extern "C" fn jird_locate(
     x: u16,
     y: u16,
 ) -> JirdLocated
-    ensures { result ≡ located_numbers (locate_call (given table keys levels items triangles entries) (record { x = x; y = y })) }
+    ensures { result ≡ located_numbers (locate_call (shown table keys levels items triangles entries) (record { x = x; y = y })) }
 {
     let p = Point { x, y };
     let located = call_locate::locate(table, keys, levels, items, triangles, entries, p);
@@ -79,7 +79,7 @@ pub extern "C" fn jird_overlay(
     entries1: usize,
     pairs: &mut [u16],
 ) -> JirdOverlaid
-    ensures { overlaid_left pairs result ≡ overlay_call (given table0 keys0 levels0 items0 triangles0 entries0) (given table1 keys1 levels1 items1 triangles1 entries1) pairs.old }
+    ensures { overlaid_left pairs result ≡ overlay_call (shown table0 keys0 levels0 items0 triangles0 entries0) (shown table1 keys1 levels1 items1 triangles1 entries1) pairs.old }
 {
     let overlaid = call_overlay::overlay(
         table0, keys0, levels0, items0, triangles0, entries0, table1, keys1, levels1, items1,
@@ -108,7 +108,7 @@ pub extern "C" fn jird_window(
     bottom: u16,
     list: &mut [u16],
 ) -> JirdWindowed
-    ensures { windowed_left list result ≡ window_call (given table keys levels items triangles entries) (record { left = left; top = top; right = right; bottom = bottom }) list.old }
+    ensures { windowed_left list result ≡ window_call (shown table keys levels items triangles entries) (record { left = left; top = top; right = right; bottom = bottom }) list.old }
 {
     let w = Bounds {
         left,

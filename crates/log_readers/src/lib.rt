@@ -6,10 +6,10 @@ ghost use Rattle.std.specs.Prelude.{◌≡◌, ◌+◌, ◌≤◌, length};
 ghost use Rattle.spec_charts.specs.Overlay.{max_pairs};
 ghost use Rattle.spec_calls.specs.Buffers.{pairs_length};
 ghost use Rattle.spec_calls.specs.Calls.{locate_call};
-ghost use Rattle.spec_calls.specs.Lent.{given};
+ghost use Rattle.spec_calls.specs.Lent.{shown};
 ghost use Rattle.spec_log.specs.Log.{locate_step, overlay_step};
 ghost use Rattle.base_answers.specs.Outcomes.{located_of, overlaid_of};
-ghost use Rattle.log_events.specs.Both.{both_given};
+ghost use Rattle.log_events.specs.Both.{both_shown};
 ghost use Rattle.log_events.specs.Events.{line_room};
 ghost use Rattle.log_lines.specs.Bytes.{Wrote};
 ghost use Rattle.log_state.specs.State.{chart_in, located_line, overlaid_lines};
@@ -35,7 +35,7 @@ fn locate_in(
     items1: &[u16],
     counts: BothCounts,
 ) -> Located
-    ensures { located_of result ≡ locate_call (chart_in c (given table0 keys0 levels0 items0 counts.first.triangles counts.first.entries) (given table1 keys1 levels1 items1 counts.second.triangles counts.second.entries)) p }
+    ensures { located_of result ≡ locate_call (chart_in c (shown table0 keys0 levels0 items0 counts.first.triangles counts.first.entries) (shown table1 keys1 levels1 items1 counts.second.triangles counts.second.entries)) p }
 {
     let first = counts.first;
     let second = counts.second;
@@ -98,7 +98,7 @@ pub fn locate_command(
     at: usize,
 ) -> usize
     requires { at + line_room ≤ length out.old }
-    ensures prints { Prints (λ s. locate_step c p s) (both_given table0 keys0 levels0 items0 table1 keys1 levels1 items1 counts) at result out.old out.new }
+    ensures prints { Prints (λ s. locate_step c p s) (both_shown table0 keys0 levels0 items0 table1 keys1 levels1 items1 counts) at result out.old out.new }
     ensures upper_bound { result ≤ length out.new }
 {
     let located = locate_in(
@@ -139,7 +139,7 @@ pub fn overlay_command(
     at: usize,
 ) -> usize
     requires { (pairs_length ≤ length pairs.old) × (at + overlay_room ≤ length out.old) }
-    ensures prints { Prints (λ s. overlay_step s) (both_given table0 keys0 levels0 items0 table1 keys1 levels1 items1 counts) at result out.old out.new }
+    ensures prints { Prints (λ s. overlay_step s) (both_shown table0 keys0 levels0 items0 table1 keys1 levels1 items1 counts) at result out.old out.new }
     ensures upper_bound { result ≤ length out.new }
 {
     let first = counts.first;

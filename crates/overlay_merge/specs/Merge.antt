@@ -7,7 +7,7 @@ use Rattle.theory_orthtree.specs.KeyCells.{RunEnd, key_cells}
 use Rattle.spec_charts.specs.Table.{max_triangles}
 use Rattle.spec_charts.specs.Cells.{max_entries}
 use Rattle.spec_calls.specs.Buffers.{zip_entries}
-use Rattle.spec_calls.specs.Lent.{Held, Lent}
+use Rattle.spec_calls.specs.Lent.{Held, Shown}
 use Rattle.overlay_marks.specs.Bits.{has_bit}
 use Rattle.overlay_marks.specs.PairMarks.{rows_length, PartsMarked}
 use Rattle.overlay_merge.specs.declared.Marked.{Marked}
@@ -24,7 +24,7 @@ abbrev pub keyed : Held → Held → ℕ → KeyedItems
 keyed keys items count = record { keys = keys.now; items = items.now; count = count }
 
 -- those that are lent, at entry
-abbrev pub lent : Lent → Lent → ℕ → KeyedItems
+abbrev pub lent : Shown → Shown → ℕ → KeyedItems
 lent keys items count = keyed keys.entry items.entry count
 
 -- the entries, with these levels

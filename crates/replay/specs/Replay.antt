@@ -3,7 +3,7 @@
 use Rattle.std.specs.Prelude.{◌≡◌, false, List, [], ◌∷◌, ℕ, ◌≤◌, length}
 use Rattle.spec_charts.specs.Edits.{load}
 use Rattle.spec_calls.specs.Buffers.{Chart, too_short, pairs_length}
-use Rattle.spec_calls.specs.Lent.{Lent, given, left_chart}
+use Rattle.spec_calls.specs.Lent.{Shown, Lent, given, left_chart}
 use Rattle.spec_calls.specs.Calls.{Overlaid, overlay_call}
 use Rattle.spec_calls.specs.History.{chart_after}
 use Rattle.laws_histories.specs.Histories.{HistoriesOverlaid}
@@ -30,7 +30,7 @@ abbrev pub lent_chart : Lent → Lent → Lent → Lent → ChartLent
 lent_chart table keys levels items = record { entry = given table keys levels items; exit = left_chart table keys levels items }
 
 -- the two charts and the pairs list that were lent, with the counts passed and those answered
-abbrev pub ReplayedLent : Lent → ChartLent → ℕ → ℕ → Lent → ChartLent → ℕ → ℕ → Lent → ReplayAnswer → Type 0
+abbrev pub ReplayedLent : Shown → ChartLent → ℕ → ℕ → Shown → ChartLent → ℕ → ℕ → Lent → ReplayAnswer → Type 0
 ReplayedLent calls c triangles entries calls' d triangles' entries' pairs r =
     Replayed (c.entry triangles entries) (d.entry triangles' entries') pairs.entry.now calls.entry.now calls'.entry.now
     (c.exit r.first.triangles r.first.entries) (d.exit r.second.triangles r.second.entries) (left_pairs pairs r.overlaid)

@@ -1,27 +1,44 @@
 -- What a caller lends to a call: each list as it is at entry and at exit, so that a contract names a chart in a word.
 -- Assumes nothing.
 use Rattle.std.specs.Prelude.{List, ℕ}
-use Rattle.std.specs.Borrow.{Bor}
+use Rattle.std.specs.Borrow.{Bor, MutBor}
 use denote.Triple.Both.{Both}
 use Rattle.spec_calls.specs.Buffers.{Chart, chart_of}
 
--- a list that a caller lends, at one moment
+-- a list that a caller lends to be read, at one moment
 abbrev pub Held : Type 0
 Held = Bor (List ℕ)
+
+-- a list that a caller lends to be written, at one moment
+abbrev pub HeldMut : Type 0
+HeldMut = MutBor (List ℕ)
 
 -- the chart that four lists hold at one moment, with these counts
 abbrev pub held : Held → Held → Held → Held → ℕ → ℕ → Chart
 held table keys levels items triangles entries =
     chart_of table.now keys.now levels.now items.now triangles entries
 
--- a list that a caller lends, at entry and at exit
-abbrev pub Lent : Type 0
-Lent = Both Held Held
+-- the same of lists to be written
+abbrev pub held_mut : HeldMut → HeldMut → HeldMut → HeldMut → ℕ → ℕ → Chart
+held_mut table keys levels items triangles entries =
+    chart_of table.now keys.now levels.now items.now triangles entries
 
--- the chart that is lent, at entry
+-- a list that a caller lends to be read, at entry and at exit
+abbrev pub Shown : Type 0
+Shown = Both Held Held
+
+-- the chart that is lent to be read, at entry
+abbrev pub shown : Shown → Shown → Shown → Shown → ℕ → ℕ → Chart
+shown table keys levels items = held table.entry keys.entry levels.entry items.entry
+
+-- a list that a caller lends to be written, at entry and at exit
+abbrev pub Lent : Type 0
+Lent = Both HeldMut HeldMut
+
+-- the chart that is lent to be written, at entry
 abbrev pub given : Lent → Lent → Lent → Lent → ℕ → ℕ → Chart
-given table keys levels items = held table.entry keys.entry levels.entry items.entry
+given table keys levels items = held_mut table.entry keys.entry levels.entry items.entry
 
 -- and at exit
 abbrev pub left_chart : Lent → Lent → Lent → Lent → ℕ → ℕ → Chart
-left_chart table keys levels items = held table.exit keys.exit levels.exit items.exit
+left_chart table keys levels items = held_mut table.exit keys.exit levels.exit items.exit

@@ -1,7 +1,6 @@
 -- The table holds the numbers before i, and else what it held.
 use mathlib.Core.Path.{refl, sym, ◌∙◌, ap}
 use mathlib.Core.List.{map, map-id}
-use Prim.Native.Nat.{◌-◌}
 use native.Mathlib.Nat.{zero-add}
 use native.Mathlib.Omega.{arith}
 use borrow.Author.Rules.{rules}
@@ -9,7 +8,7 @@ use lib.ListN.{take}
 use Rattle.spec_charts.specs.Table.{table_length}
 use Rattle.spec_calls.specs.Buffers.{padded}
 use Rattle.laws_calls.proofs.PaddedLaws.{padded-stored}
-use Rattle.base_lists.proofs.CopyLaws.{Copying, copying-start, copying-next, copying-end, images-count}
+use Rattle.base_lists.proofs.CopyLaws.{copying-next, copying-end, images-count}
 use Rattle.chart_lists.proofs.table_writes.put_table.Goals as goal
 
 pub loop-i-preserved : goal.loop-i-preserved
