@@ -2,9 +2,9 @@
 -- Assumes nothing.
 use mathlib.Core.Path.{◌≡◌, sym, ◌∙◌}
 use mathlib.Core.List.{List}
-use Prim.Native.Nat.{ℕ, suc, ◌≤◌, ◌<◌}
+use Prim.Native.Nat.{ℕ, suc, ◌<◌}
 use native.Mathlib.Omega.{arith}
-use lib.ListN.{length, get_or, take}
+use lib.ListN.{get_or, take}
 use Rattle.theory_lists.proofs.Reflects.{Reflects, reflects-iff}
 use Rattle.theory_orthtree.specs.Entries.{Entry, chain, entry}
 use Rattle.theory_orthtree.proofs.ChainPlaceLaws.{Chained, places-reflect, chained_same}
