@@ -1,12 +1,9 @@
-use mathlib.Core.Path.{◌≡◌, sym, ◌∙◌, ap}
-use mathlib.Core.Bool.{true, false}
-use borrow.Author.Rules.{rules}
-use Rattle.spec_calls.specs.Buffers.{Chart, chart_table, too_short, chain_rule}
+use mathlib.Core.Path.{sym, ◌∙◌}
+use Rattle.spec_calls.specs.Buffers.{chart_table}
 use Rattle.laws_calls.proofs.BufferLaws.{rule-drawn}
 use Rattle.laws_calls.proofs.JudgeLaws.{chained-passed}
 use Rattle.laws_calls.proofs.ReaderLaws.{sound-refused, sound-done}
 use Rattle.spec_calls.specs.Lent.{held}
-use Rattle.base_answers.specs.Outcomes.{verdict_outcome}
 use Rattle.call_soundness.proofs.soundness.Goals as goal
 
 pub all_disjoint-requires : goal.all_disjoint-requires
@@ -37,4 +34,5 @@ returns-else-all_disjoint c =
 pub returns-in-Refused : goal.returns-in-Refused
 returns-in-Refused c =
     let a = c.args in
-    sound-refused (held a.table a.keys a.levels a.items a.triangles a.entries) c.in-Refused.ensures
+    let chart = held a.table a.keys a.levels a.items a.triangles a.entries in
+    sound-refused chart c.in-Refused.ensures

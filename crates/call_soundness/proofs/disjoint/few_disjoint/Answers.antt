@@ -1,9 +1,6 @@
 -- The first i triangles are disjoint from those before them.
-use mathlib.Core.Path.{◌≡◌, sym, ◌∙◌, ap}
-use mathlib.Core.Bool.{true}
-use Prim.Native.Nat.{◌≤◌, ◌-◌}
+use mathlib.Core.Path.{sym, ◌∙◌, ap}
 use native.Mathlib.Omega.{arith}
-use borrow.Author.Rules.{rules}
 use Rattle.theory_lists.specs.Lists.{all, up_to}
 use Rattle.theory_lists.proofs.IndexLaws.{all-below-none, all-below-fails, all-below-passes}
 use Rattle.laws_charts.proofs.SoundLaws.{triangles_disjoint, sound-below}
