@@ -1,0 +1,20 @@
+-- The first i triangles are disjoint from those before them.
+use mathlib.Core.Path.{◌≡◌, refl, sym, ◌∙◌, ap}
+use mathlib.Core.Bool.{true}
+use Prim.Native.Nat.{◌+◌, ◌≤◌, ◌-◌}
+use native.Mathlib.Omega.{arith}
+use borrow.Author.Rules.{rules}
+use borrow.Author.Tests.{not-true, not-false}
+use lib.ListN.{length}
+use Rattle.theory_lists.specs.Lists.{all, up_to}
+use Rattle.theory_lists.proofs.IndexLaws.{all-below-none, all-below-fails, all-below-passes}
+use Rattle.laws_charts.proofs.SoundLaws.{triangles_disjoint, sound-below}
+use Rattle.base_boxes.proofs.BoxesLaws.{boxed-fewer}
+use Rattle.call_soundness.proofs.disjoint.pairs_disjoint.Given as goal
+
+abbrev pub invariant-loop-i : goal.invariant-loop-i
+invariant-loop-i l =
+    ((l.i ≤ l.n) × (length l.near ≡ length l.initial.near)) × (all (λ k. all (λ j. triangles_disjoint l.table k j) (up_to k)) (up_to l.i) ≡ true)
+
+abbrev pub decreases-loop-i : goal.decreases-loop-i
+decreases-loop-i l = l.n - l.i
