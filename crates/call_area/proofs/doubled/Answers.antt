@@ -1,5 +1,4 @@
 use native.Mathlib.Omega.{arith}
-use borrow.Author.Rules.{rules}
 use Rattle.spec_plane.specs.Triangle.{triangle_of, corner_at}
 use Rattle.call_area.proofs.AreaLaws.{doubled_area-value}
 use Rattle.call_area.proofs.doubled.Goals as goal

@@ -1,10 +1,9 @@
-use Rattle.std.specs.Prelude.{◌≡◌, ℕ}
-use Rattle.std.proofs.Common.{sym, ◌∙◌}
-use Rattle.spec_calls.specs.Buffers.{Chart, chart_table}
-use Rattle.spec_calls.specs.Lent.{Held, held}
+use mathlib.Core.Path.{◌∙◌}
+use Rattle.spec_calls.specs.Buffers.{chart_table}
 use Rattle.laws_calls.proofs.BufferLaws.{rule-drawn}
 use Rattle.laws_calls.proofs.JudgeLaws.{chained-passed}
 use Rattle.laws_calls.proofs.ReaderLaws.{area-refused, area-done}
+use Rattle.spec_calls.specs.Lent.{held}
 use Rattle.call_area.proofs.doubled_area.Goals as goal
 
 pub sum-requires : goal.sum-requires
@@ -26,4 +25,5 @@ returns-in-Accepted c =
 pub returns-in-Refused : goal.returns-in-Refused
 returns-in-Refused c =
     let a = c.args in
-    area-refused (held a.table a.keys a.levels a.items a.triangles a.entries) c.in-Refused.ensures
+    let chart = held a.table a.keys a.levels a.items a.triangles a.entries in
+    area-refused chart c.in-Refused.ensures
