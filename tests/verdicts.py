@@ -3,8 +3,9 @@
 
 usage: verdicts.py LOG
 
-Crates: each crate of crates.txt was proved in this run, once, with one `logic=proved` line of its own whose words are all known here and
-none of which is of axioms, or is kept from an earlier run on this machine over the same files; each program ran, as both compilers make it.
+Crates: each crate of crates.txt was proved in this run, once, with one `logic=proved` line of its own whose words are all known here,
+or is kept from an earlier run on this machine over the same files; each program ran, as both compilers make it. Nothing rests on an axiom,
+but a program, which reads and writes by the kit's libraries, on what these state of some functions of C (REACHED).
 
 Must-fail edits: each file below a must-fail/ folder is one that rt tries (crates/NAME/must-fail/LABEL.edit), and each edit was
 refused, once. An edit starts with a sentence, `# ..`, and goes on with `file:`, `old:` and `new:` lines alone, for src/ and specs/.
@@ -27,7 +28,10 @@ import crates
 from crates import ROOT, is_program
 
 # the words of a `logic=proved` line
-WORDS = r"functions=\d+|target=x86_64-unknown-linux-gnu|sum=[0-9a-f]+|native=nat,char,string|(logic|libraries)-built=trusted|statements=trusted"
+WORDS = r"functions=\d+|target=x86_64-unknown-linux-gnu|cpu=x86-64-v2|sum=[0-9a-f]+|native=nat,char,string|(logic|libraries)-built=trusted|statements=trusted"
+# what a program reaches of C, by the kit's libraries, and how a line of what is linked tells it
+REACHED = {"libc": {"libc::lseek", "libc::read", "libc::write"}, "os": {"os::c::rattle_errno"}}
+AXIOMS = r"axioms (\w+): (?:none reached|(.+) \(\d+) of the \d+ declared\)?"
 # why a fact fails, as the first error says after its name
 FACTS = {
     "types": r"(as printed|computed as far as they go), the two (types|values|sides|indices) (first differ|differ only|are) |expected type `",
@@ -61,10 +65,13 @@ def judge_crate(name, lines):
         faults.append(f"{name}: not one line logic=proved before its verdict: {verdicts}")
         return
     for word in verdicts[0].split()[1:]:
-        if not re.fullmatch(WORDS, word):
+        if not re.fullmatch(WORDS + (r"|axioms=\d+" if is_program(name) else ""), word):
             faults.append(f"{name}: {word} in its verdict")
-    if any(l.startswith("axioms") for l in lines):
-        faults.append(f"{name}: axioms: {[l for l in lines if l.startswith('axioms')]}")
+    for line in [l for l in lines if l.startswith("axioms")]:
+        found = re.fullmatch(AXIOMS, line)
+        reached = set(found.group(2).split(", ")) if found and found.group(2) else set()
+        if not found or reached and not (is_program(name) and reached <= REACHED.get(found.group(1), set())):
+            faults.append(f"{name}: {line}")
 
 
 def judge_crates(text):

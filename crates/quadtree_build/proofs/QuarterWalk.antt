@@ -4,7 +4,7 @@
 use mathlib.Core.Path.{◌≡◌, refl, sym, ◌∙◌, ap}
 use mathlib.Core.Bool.{false, ◌||◌, true≢false}
 use mathlib.Core.List.{List, [], ◌∷◌, ◌++◌, flat_map, append-nil, Memᴰ}
-use Prim.Native.Nat.{ℕ, suc, ◌+◌, ◌-◌, ◌≤◌, ◌<◌}
+use Prim.Native.Nat.{ℕ, suc, ◌+◌, ◌-◌, ◌<◌}
 use native.Mathlib.Numerals.{add-one}
 use native.Mathlib.Decide.{dec_le}
 use native.Mathlib.Omega.{arith}
@@ -24,7 +24,7 @@ use Rattle.spec_charts.specs.Cells.{common_end, sides_meeting, stopped, entries_
 use Rattle.laws_charts.proofs.EntriesOfTable.{entries_in-split, meeting-narrow, quarter-within}
 use Rattle.quadtree_cells.specs.declared.quarters.KeyedSquare.{KeyedSquare}
 use Rattle.quadtree_cells.proofs.ReadyLaws.{ready-kept}
-use Rattle.quadtree_stopping.specs.Stopping.{triangle_total, corner_table}
+use Rattle.quadtree_stopping.specs.Stopping.{corner_table}
 use Rattle.quadtree_build.specs.Build.{levels_from, Buildable}
 use Rattle.quadtree_build.proofs.SquareWalk.{Narrowed}
 

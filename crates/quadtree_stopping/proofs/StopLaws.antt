@@ -2,12 +2,11 @@
 -- table that meet the square.
 -- The idea: a mask of tests has the sides that pass, and a triangle with a side that meets the square is a candidate.
 -- Assumes nothing.
-use mathlib.Core.Path.{◌≡◌, refl, sym, ◌∙◌, ap, ap₂}
+use mathlib.Core.Path.{◌≡◌, refl, sym, ◌∙◌, ap}
 use mathlib.Core.Bool.{Bool, true, ◌||◌}
-use mathlib.Core.List.{List, [], ◌∷◌, flat_map, Memᴰ}
+use mathlib.Core.List.{List, flat_map, Memᴰ}
 use Prim.Native.Nat.{ℕ, ◌+◌, ◌*◌, ◌<◌}
 use native.Mathlib.Nat.{le_of_suc-le-suc}
-use native.Mathlib.Omega.{arith}
 use borrow.Author.Tests.{eq-eqb, ne_eqb}
 use lib.Dec.{T}
 use lib.ListN.{length, get_or}
@@ -24,7 +23,7 @@ use Rattle.spec_plane.specs.Box.{Box, Framed, side_meets, triangle_meets}
 use Rattle.spec_plane.proofs.ExtremeLaws.{OnGrid, CornersOnGrid}
 use Rattle.spec_charts.specs.Table.{Table, point_at, triangle_at, table_of, numbered, no_triangle, numbers_per_triangle}
 use Rattle.spec_squares.specs.declared.Square.{Square}
-use Rattle.spec_squares.specs.Square.{depth, square_box, Aligned}
+use Rattle.spec_squares.specs.Square.{square_box, Aligned}
 use Rattle.spec_squares.proofs.SquareLaws.{square_box-framed}
 use Rattle.spec_charts.specs.Cells.{sides_meeting, common_end, stopped, triangles_meeting}
 use Rattle.laws_charts.proofs.EntriesOfTable.{sides-narrow}
