@@ -1,15 +1,13 @@
 -- Refusals 1 and 2 are what `judge` finds; where it finds none, comparing the entries decides 3.
-use mathlib.Core.Path.{◌≡◌, sym, ◌∙◌, ap}
-use mathlib.Core.Bool.{true, false, not}
-use borrow.Author.Rules.{rules}
+use mathlib.Core.Path.{sym, ◌∙◌}
+use mathlib.Core.Bool.{true, not}
 use Rattle.spec_charts.specs.declared.Refusal.TheVariants.{StaleEntries}
 use Rattle.spec_charts.specs.Refusals.{done, refuse_if}
-use Rattle.spec_calls.specs.Buffers.{Chart, chart_table, chart_entries, too_short, chain_rule, indexed}
+use Rattle.spec_calls.specs.Buffers.{chart_table, chart_entries, indexed}
 use Rattle.spec_calls.specs.Calls.{if_indexed}
 use Rattle.spec_calls.specs.Lent.{held}
 use Rattle.laws_calls.proofs.BufferLaws.{ruled, rule-drawn, searchable}
 use Rattle.laws_calls.proofs.JudgeLaws.{chained-passed, chained_refused, indexed-passes, judged-stale}
-use Rattle.base_answers.specs.Outcomes.{verdict_outcome}
 use Rattle.chart_judge.proofs.judge_edit.Goals as goal
 
 pub entries_match-requires : goal.entries_match-requires

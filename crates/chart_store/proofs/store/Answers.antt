@@ -1,8 +1,6 @@
 -- The entries are built first, and the table is written only where they fit: a refusal leaves all as it was.
 use native.Mathlib.Omega.{arith}
-use borrow.Author.Rules.{rules}
-use Rattle.spec_calls.specs.Buffers.{Chart}
-use Rattle.spec_calls.specs.Lent.{HeldMut, held_mut}
+use Rattle.spec_calls.specs.Lent.{held_mut}
 use Rattle.spec_calls.specs.Calls.{changed_by}
 use Rattle.laws_calls.proofs.BufferLaws.{long-enough}
 use Rattle.chart_store.proofs.StoreLaws.{store_many, store-done}

@@ -1,16 +1,13 @@
 -- The loop keeps that what was found so far is 0 where each entry passed is the same, place by place.
-use mathlib.Core.Path.{◌≡◌, sym, ◌∙◌, ap}
-use mathlib.Core.Bool.{Bool}
-use Prim.Native.Nat.{ℕ, ◌≤◌, ◌-◌}
+use mathlib.Core.Path.{sym, ◌∙◌, ap}
 use native.Mathlib.Omega.{arith}
 use borrow.Author.Rules.{rules}
 use lib.Dec.{eqb}
 use lib.ListN.{get_or}
-use Rattle.theory_lists.specs.Lists.{all, up_to}
 use Rattle.theory_lists.proofs.IndexLaws.{all-below-none, all-below-step}
 use Rattle.base_geometry.proofs.BitLaws.{or-zero, xor-zero}
 use Rattle.chart_links.specs.Links.{entry_at}
-use Rattle.chart_judge.specs.Places.{same_place, same_places}
+use Rattle.chart_judge.specs.Places.{same_place}
 use Rattle.chart_judge.proofs.entry_checks.differences.Goals as goal
 
 pub loop-i-init : goal.loop-i-init

@@ -9,5 +9,5 @@ returns c =
     let a = c.args in
     matched-within (held a.table a.keys a.levels a.items a.n a.m) c.build_packed-r.ensures
     (search rules) (search rules) (search rules)
-    (record { level = λ k. omega (arith, c.shared_slice_known-3-1.given k); item = λ k. omega (arith, c.shared_slice_known-4-1.given k) })
+    (record { level = λ k. omega (arith, c.type_inv.levels k); item = λ k. omega (arith, c.type_inv.items k) })
     c.same_entries.ensures
