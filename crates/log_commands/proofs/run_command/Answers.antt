@@ -1,6 +1,5 @@
 -- The command byte chooses; each command is a step of the program, and what it does not lend stays.
 use mathlib.Core.Path.{◌≡◌}
-use Prim.Native.Nat.{◌≤◌}
 use native.Mathlib.Omega.{arith}
 use lib.ListN.{get_or}
 use Rattle.log_commands.proofs.CommandLaws.{as-wait, as_load, as-edit, as-locate, as-overlay, both-bounds, no-bounds}
