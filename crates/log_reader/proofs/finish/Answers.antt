@@ -1,5 +1,4 @@
 use native.Mathlib.Omega.{arith}
-use borrow.Author.Rules.{rules}
 use Rattle.log_lines.proofs.LineLaws.{bad-short}
 use Rattle.log_reader.proofs.ReadLaws.{finish-none, finish-cut}
 use Rattle.log_reader.proofs.finish.Goals as goal
