@@ -70,7 +70,7 @@ mutants.by = python3 tests/mutants.py $(OPTIONS)
 
 .PHONY: help $(TARGETS)
 help:
-	$(info make TARGET, where TARGET is one of these (times on 2 cores):)
+	$(info make TARGET, where TARGET is one of these (times on 2 cores, with an older kit of Rattle):)
 	$(foreach t,$(TARGETS),$(info )$(info $t: $($t.does))$(info $()  needs $($t.needs); takes $($t.takes)))
 	@:
 

@@ -10,7 +10,7 @@ def needs(root=ROOT):
     """The crates in their order, each with the crates that its line names."""
     with open(os.path.join(root, "crates.txt"), encoding="utf-8") as f:
         lines = [line.split("#")[0].split(":") for line in f]
-    return {name.strip(): rest[0].split() for name, *rest in lines if name.strip()}
+    return {name.split()[0]: rest[0].split() for name, *rest in lines if name.strip()}
 
 
 def below(names):
@@ -33,17 +33,11 @@ def write(path, text):
 
 
 def copy(folder, names, more):
-    """Makes a folder a repository of some crates, with what is proved of them, so that it is not proved again, and of further
-    crates, each with what it needs, whose texts are still to be written."""
+    """Makes a folder a repository of some crates, and of further crates, each with what it needs, whose texts are still to be
+    written. What rt kept of the same crates elsewhere on the machine serves there, so that they are not proved again."""
     shutil.rmtree(folder, ignore_errors=True)
     for c in names:
-        for part in (f"crates/{c}", f"target/rlib/{c}.rlib", f"target/stamp/{c}"):
-            source, copied = os.path.join(ROOT, part), os.path.join(folder, part)
-            os.makedirs(os.path.dirname(copied), exist_ok=True)
-            if os.path.isdir(source):
-                shutil.copytree(source, copied)
-            elif os.path.isfile(source):
-                shutil.copyfile(source, copied)
+        shutil.copytree(os.path.join(ROOT, "crates", c), os.path.join(folder, "crates", c), ignore=shutil.ignore_patterns("out"))
     with open(os.path.join(ROOT, "crates.txt"), encoding="utf-8") as f:
         lines = [line for line in f if line.split(":")[0].strip() in names]  # as they stand: a proof is known by its line too
     lines += [" ".join([c + ":", *on]) + "\n" for c, on in more.items()]

@@ -2,7 +2,7 @@
 """Runs the definitions of document 01 (crates/spec_calls, crates/spec_log and below) inside the proof checker on generated input and holds
 what they compute to what the reference model (model/) answers.
 
-usage: definitions.py SEED COUNT
+usage: definitions.py SEED COUNT [FOLDER]
 
 COUNT of each kind of drawn case: the entries of a table; the log of a command stream; the public calls on raw buffers, most of
 them damaged; an event on a plain table; an insert on a side that triangles share, among others; the overlay of two different
@@ -11,8 +11,8 @@ triangle, in every rotation, refused locates, take-outs with the point at each c
 side that two triangles share in every rotation, inserts where several triangles hold the point, windows that touch a triangle and that
 miss it by one, at seams of squares, and refused ones, and the worked streams of tests/cases.txt but those that load over 500 triangles,
 which are named. That each of these, accepted take-outs and flips, inserts inside, on a side alone and with a neighbour, refused by 7 and
-by 14, and pairs with i and j different are among them is asserted. The cases are facts of two crates that are written below target/ and
-checked there, side by side; nothing of them is kept."""
+by 14, and pairs with i and j different are among them is asserted. The cases are facts of two crates that are written outside the
+repository, whose gate reads every text, and checked there; nothing of them is kept but with a third word, the folder for them."""
 
 import collections
 import os
@@ -20,17 +20,16 @@ import random
 import re
 import subprocess
 import sys
+import tempfile
 
 import crates
 import engines
 import streams
 import tables
 from call_cases import positions, windows
-from engines import ROOT
 from tables import corners, drawn, entries_of, inside, insert, orientation, side_of, side_parts, side_point, sides_shared, taken, turned
 
-SCRATCH = os.path.join(ROOT, "target", "definitions")
-TRIALS = ["trial", "trial_worked"]  # the crates of the cases, checked side by side: the worked streams take as long as all others
+TRIALS = ["trial", "trial_worked"]  # the crates of the cases: the worked streams take as long as all others
 
 
 def numbers(values):
@@ -192,12 +191,12 @@ def entries_case(rng):
     given = "".join(
         f"triangle (at {t[0]} {t[1]}) (at {t[2]} {t[3]}) (at {t[4]} {t[5]}) ∷ " for t in ts
     )
-    return f"entryNumbers (entriesOf ({given}[]))", numbers(flat(found))
+    return f"entry_numbers (entries_of ({given}[]))", numbers(flat(found))
 
 
 def log_case(rng):
     data = stream(rng)
-    return f"logOf {numbers(data)}", numbers(engines.run([engines.MODEL, "log"], data).encode())
+    return f"log_of {numbers(data)}", numbers(engines.run([engines.MODEL, "log"], data).encode())
 
 
 DAMAGE = ["none", "none", "level", "key", "item", "mark", "count", "triangles", "short", "table", "swap", "behind"]
@@ -248,10 +247,10 @@ def event_fact(ts, event):
     written = {
         "load": lambda: f"load {numbers(e)}",
         "insert": lambda: f"insert (at {e[0]} {e[1]})",
-        "take_out": lambda: f"takeOut (at {e[0]} {e[1]})",
+        "take_out": lambda: f"take_out (at {e[0]} {e[1]})",
         "flip": lambda: f"flip {e[0]} {e[1]}",
     }[what]()
-    return f"outcomeNumbers (eventOn ({written}) (givenTable {numbers(flat(ts))}))", numbers(want)
+    return f"outcome_numbers (event_on ({written}) (given_table {numbers(flat(ts))}))", numbers(want)
 
 
 def event_case(rng):
@@ -331,7 +330,7 @@ def overlay_fact(ss, ts):
     count = int(done[2])
     pairs = [int(v) for v in dump[3 : 3 + 2 * count]]
     met["overlay pairs with i and j different"] += sum(i != j for i, j in zip(pairs[0::2], pairs[1::2]))
-    given = f"overlaid (givenTable {numbers(flat(ss))}) (givenTable {numbers(flat(ts))})"
+    given = f"overlaid (given_table {numbers(flat(ss))}) (given_table {numbers(flat(ts))})"
     return given, numbers([int(done[1]), count, int(done[3])] + pairs)
 
 
@@ -424,7 +423,7 @@ def calls_case(rng):
     for change in changes:
         script += ["copy 0 1", change, "dump table1 0 44", "dump keys1 0 30", "dump levels1 0 30", "dump items1 0 30"]
     given = (
-        f"callNumbers {first.written()} {second.written()}"
+        f"call_numbers {first.written()} {second.written()}"
         f" (replicate {pairs} 9) {places} (box {' '.join(map(str, w))})"
         f" (at {q[0]} {q[1]}) (at {r[0]} {r[1]}) (at {z[0]} {z[1]}) (at {p[0]} {p[1]}) {i} {j} {numbers(ts[0])}"
     )
@@ -432,7 +431,7 @@ def calls_case(rng):
 
 
 def located_fact(buffers, p):
-    given = f"located (locateCall {buffers.written()} (at {p[0]} {p[1]}))"
+    given = f"located (locate_call {buffers.written()} (at {p[0]} {p[1]}))"
     return given, numbers(answered(calls_of([*buffers.script(0), f"locate 0 {p[0]} {p[1]}"])))
 
 
@@ -458,7 +457,7 @@ def window_fact(ts, entries, sides):
     (_, number, count), dump = calls_of([*buffers.script(0), "window 0 " + " ".join(map(str, sides)), "dump pairs 0 512"])
     assert number == "0", (ts, entries, sides)
     met["window of some" if count != "0" else "window of none"] += 1
-    given = f"windowOf (givenTable {numbers(flat(ts))}) {given_entries(entries)} (box {' '.join(map(str, sides))})"
+    given = f"window_of (given_table {numbers(flat(ts))}) {given_entries(entries)} (box {' '.join(map(str, sides))})"
     return given, numbers(map(int, dump[3 : 3 + int(count)]))
 
 
@@ -466,7 +465,7 @@ def windowed_fact(buffers, sides, places):
     """A window into a list of so many places."""
     script = [*buffers.script(0), "len pairs 0", f"len pairs {places} 7", "window 0 " + " ".join(map(str, sides))]
     dumps = ["dump pairs 0 12", f"dump pairs {places - 2} {places}"]
-    given = f"windowed {places} (windowCall {buffers.written()} (box {' '.join(map(str, sides))}) (replicate {places} 7))"
+    given = f"windowed {places} (window_call {buffers.written()} (box {' '.join(map(str, sides))}) (replicate {places} 7))"
     return given, numbers(answered(calls_of(script + dumps)))
 
 
@@ -528,39 +527,35 @@ def worked_cases():
             print(f"not executed, a load of over {MOST} triangles: {name}")
             continue
         met["worked streams"] += 1
-        yield f"logOf {numbers(b''.join(map(streams.command, commands)))}", numbers(streams.log(wanted))
+        yield f"log_of {numbers(b''.join(map(streams.command, commands)))}", numbers(streams.log(wanted))
     if faults:
         sys.exit("\n".join(faults))
 
 
-HEADER = """use mathlib.Core.Path.{_≡_, refl}
-use mathlib.Core.Bool.{Bool, true, false}
-use mathlib.Core.List.{List, [], _∷_, _++_}
-use Prim.Native.Nat.{ℕ, _-_}
-use lib.ListN.{length, take, drop, replicate}
-use Rattle·spec_plane.specs.declared.Point.{Point}
-use Rattle·spec_plane.specs.Position.{positionNumber}
-use Rattle·spec_plane.specs.Box.{Box}
-use Rattle·theory_orthtree.specs.Entries.{Entry}
-use Rattle·spec_charts.specs.Cells.{entriesOf}
-use Rattle·spec_charts.specs.Edits.{triangle, givenTable, load, insert, takeOut, flip, eventOn}
-use Rattle·spec_window.specs.Window.{windowOf}
-use Rattle·spec_calls.specs.Buffers.{Chart, padded}
-use Rattle·spec_calls.specs.Calls.{Changed, Located, Soundness, Area, Windowed, Overlaid, loadCall, insertCall, takeOutCall, flipCall, locateCall, listingCall, soundCall, areaCall, windowCall, overlayCall}
-use Rattle·spec_log.specs.Log.{logOf}
-use Rattle·spec_calls.proofs.Evaluate.{evaluate}
-use Rattle·spec_log.proofs.Evaluate.{evaluate as logging}
-use Rattle·spec_charts.proofs.Written.{at, entryNumbers, foundNumbers, outcomeNumbers, overlaid}
+HEADER = """use Rattle.std.specs.Prelude.{◌≡◌, refl, Bool, true, false, List, [], ◌∷◌, ◌++◌, ℕ, ◌-◌, length, take, drop, replicate}
+use Rattle.spec_plane.specs.declared.Point.{Point}
+use Rattle.spec_plane.specs.Position.{position_number}
+use Rattle.spec_plane.specs.Box.{Box}
+use Rattle.theory_orthtree.specs.Entries.{Entry}
+use Rattle.spec_charts.specs.Cells.{entries_of}
+use Rattle.spec_charts.specs.Edits.{triangle, given_table, load, insert, take_out, flip, event_on}
+use Rattle.spec_window.specs.Window.{window_of}
+use Rattle.spec_calls.specs.Buffers.{Chart, padded}
+use Rattle.spec_calls.specs.Calls.{Changed, Located, Soundness, Area, Windowed, Overlaid, load_call, insert_call, take_out_call, flip_call, locate_call, listing_call, sound_call, area_call, window_call, overlay_call}
+use Rattle.spec_log.specs.Log.{log_of}
+use Rattle.spec_calls.proofs.Evaluate.{evaluate}
+use Rattle.spec_log.proofs.Evaluate.{evaluate as logging}
+use Rattle.spec_charts.proofs.Written.{at, entry_numbers, found_numbers, outcome_numbers, overlaid}
 
 abbrev buffer : ℕ → ℕ → List ℕ → List ℕ
 buffer pad n used = used ++ replicate (n - length used) pad
 
 abbrev chart : ℕ → ℕ → ℕ → ℕ → ℕ → List ℕ → List ℕ → List ℕ → List ℕ → ℕ → ℕ → Chart
 chart pad m a b c t ks ls is n e =
-    record { table = buffer pad m t; keys = buffer pad a ks; levels = buffer pad b ls; items = buffer pad c is; triangleCount = n; entryCount = e }
+    record { table = buffer pad m t; keys = buffer pad a ks; levels = buffer pad b ls; items = buffer pad c is; triangle_count = n; entry_count = e }
 
 abbrev located : Located → List ℕ
-located r = (r .number ∷ foundNumbers (r .found)) ++ (positionNumber (r .position) ∷ [])
+located r = (r.number ∷ found_numbers r.found) ++ (position_number r.position ∷ [])
 
 abbrev yes-no : Bool → ℕ
 yes-no true = 1
@@ -568,8 +563,8 @@ yes-no false = 0
 
 abbrev changed : Changed → List ℕ
 changed r =
-    (r .number ∷ r .value ∷ r .chart .triangleCount ∷ r .chart .entryCount ∷ []) ++ take 44 (r .chart .table)
-    ++ take 30 (r .chart .keys) ++ take 30 (r .chart .levels) ++ take 30 (r .chart .items)
+    (r.number ∷ r.value ∷ r.chart.triangle_count ∷ r.chart.entry_count ∷ []) ++ take 44 (r.chart.table)
+    ++ take 30 (r.chart.keys) ++ take 30 (r.chart.levels) ++ take 30 (r.chart.items)
 
 abbrev box : ℕ → ℕ → ℕ → ℕ → Box
 box l t r b = record { left = l; top = t; right = r; bottom = b }
@@ -578,24 +573,24 @@ abbrev entry : ℕ → ℕ → ℕ → Entry
 entry k l i = record { key = k; level = l; item = i }
 
 abbrev windowed : ℕ → Windowed → List ℕ
-windowed n w = (w .number ∷ w .listed ∷ []) ++ take 12 (w .list) ++ drop (n - 2) (w .list)
+windowed n w = (w.number ∷ w.listed ∷ []) ++ take 12 w.list ++ drop (n - 2) w.list
 
 abbrev pairing : Overlaid → List ℕ
-pairing o = (o .number ∷ o .pairCount ∷ o .meets ∷ []) ++ take 12 (o .pairs)
+pairing o = (o.number ∷ o.pair_count ∷ o.meets ∷ []) ++ take 12 o.pairs
 
-abbrev callNumbers : Chart → Chart → List ℕ → ℕ → Box → Point → Point → Point → Point → ℕ → ℕ → List ℕ → List ℕ
-callNumbers c d pairs n w q r z p i j ns =
-    let o = overlayCall c d pairs in
-    located (locateCall c q) ++ listingCall c q
-    ++ (soundCall c .number ∷ yes-no (soundCall c .isSound) ∷ areaCall c .number ∷ areaCall c .area ∷ [])
-    ++ pairing o ++ pairing (overlayCall d c (o .pairs)) ++ windowed n (windowCall c w (replicate n 9))
-    ++ changed (insertCall r c) ++ changed (takeOutCall p c) ++ changed (flipCall i j c)
-    ++ changed (insertCall z c) ++ changed (loadCall ns c)
+abbrev call_numbers : Chart → Chart → List ℕ → ℕ → Box → Point → Point → Point → Point → ℕ → ℕ → List ℕ → List ℕ
+call_numbers c d pairs n w q r z p i j ns =
+    let o = overlay_call c d pairs in
+    located (locate_call c q) ++ listing_call c q
+    ++ ((sound_call c).number ∷ yes-no (sound_call c).is_sound ∷ (area_call c).number ∷ (area_call c).area ∷ [])
+    ++ pairing o ++ pairing (overlay_call d c o.pairs) ++ windowed n (window_call c w (replicate n 9))
+    ++ changed (insert_call r c) ++ changed (take_out_call p c) ++ changed (flip_call i j c)
+    ++ changed (insert_call z c) ++ changed (load_call ns c)
 """
 
 
 # the crates that the cases name, and what they stand on
-CRATES = crates.below(re.findall(r"Rattle·(\w+)\.", HEADER))
+CRATES = crates.below(re.findall(r"Rattle\.(\w+)\.", HEADER))
 
 # one triangle that shares ground with both of two
 FIXED_OVERLAY = (
@@ -611,6 +606,32 @@ EXPECTED += [f"insert {what}" for what in tables.PLACES + tables.HIGHER] + ["ins
 EXPECTED += [f"locate 0 position {place}" for place in range(8)] + ["locate 1 position 7", "locate 2 position 7"]
 EXPECTED += [f"call window {n}" for n in (0, 1, 2, 15)] + ["window of some", "window of none"]
 EXPECTED += ["overlay pairs with i and j different", "worked streams"]
+
+
+def judge(facts, folder):
+    """Writes the cases as facts of two crates in a folder, and has them checked there."""
+    crates.copy(folder, CRATES, dict.fromkeys(TRIALS, CRATES))
+    texts = dict.fromkeys(TRIALS, HEADER)
+    for kind, fs in facts.items():
+        for k, (given, want) in enumerate(fs):
+            fact = f"\n{kind}-{k} : {given} ≡ {want}\nunfolding evaluate logging\n{kind}-{k} = refl\n"
+            texts[TRIALS[kind == "worked"]] += fact
+    for trial, text in texts.items():
+        files = {"src/lib.rt": "// Facts to try.\n\n#![tactic(auto)]\n", "proofs/Lib.antt": "pub mod Cases\n", "proofs/Cases.antt": text}
+        for file, said in files.items():
+            crates.write(os.path.join(folder, "crates", trial, file), said)
+    cases = sum(map(len, facts.values()))
+    print(f"checking {cases} cases, seed {sys.argv[1]}", flush=True)
+    said, failed = "", False
+    for trial in TRIALS:
+        run = subprocess.run(["rt", "check"], cwd=os.path.join(folder, "crates", trial), stdout=subprocess.PIPE, stderr=subprocess.STDOUT, text=True)
+        said, failed = said + run.stdout, failed or run.returncode != 0
+    wrong = sorted(set(re.findall(r"error: `([a-z]+-\d+)`", said)))
+    if failed or wrong:
+        print("\n".join(l[:2000] for l in said.split("\n") if "Cases.antt" in l or "error" in l)[:8000])
+        print("cases that differ from the model, or were not decided:", " ".join(wrong))
+        sys.exit(1)
+    print(f"{cases} cases agree with the model")
 
 
 def main():
@@ -630,25 +651,11 @@ def main():
     print("met: " + ", ".join(f"{n} {k}" for k, n in sorted(met.items())))
     if not engines.all_met(dict.fromkeys(EXPECTED, 1), met):
         sys.exit(1)
-    crates.copy(SCRATCH, CRATES, dict.fromkeys(TRIALS, CRATES))
-    texts = dict.fromkeys(TRIALS, HEADER)
-    for kind, fs in facts.items():
-        for k, (given, want) in enumerate(fs):
-            fact = f"\n{kind}-{k} : {given} ≡ {want}\nunfolding evaluate logging\n{kind}-{k} = refl\n"
-            texts[TRIALS[kind == "worked"]] += fact
-    for trial, text in texts.items():
-        files = {"src/lib.rt": "// Facts to try.\n", "proofs/Lib.antt": "pub mod Cases\n", "proofs/Cases.antt": text}
-        for file, said in files.items():
-            crates.write(os.path.join(SCRATCH, "crates", trial, file), said)
-    cases = sum(map(len, facts.values()))
-    print(f"checking {cases} cases, seed {seed}", flush=True)
-    run = subprocess.run(["rt", "check", *TRIALS], cwd=SCRATCH, stdout=subprocess.PIPE, stderr=subprocess.STDOUT, text=True)
-    wrong = sorted(set(re.findall(r"error: `([a-z]+-\d+)`", run.stdout)))
-    if run.returncode != 0 or wrong:
-        print("\n".join(l[:2000] for l in run.stdout.split("\n") if "Cases.antt" in l or "error" in l)[:8000])
-        print("cases that differ from the model, or were not decided:", " ".join(wrong))
-        sys.exit(1)
-    print(f"{cases} cases agree with the model")
+    if len(sys.argv) > 3:
+        judge(facts, sys.argv[3])
+    else:
+        with tempfile.TemporaryDirectory(prefix="definitions-") as folder:
+            judge(facts, folder)
 
 
 if __name__ == "__main__":

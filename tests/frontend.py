@@ -418,7 +418,7 @@ POSITIONS = {
 def test_positions():
     """Every position in the log, the key and JSON; met where it is expected, and told where another is. Expectations that cannot be met
     together can be read, and all but one of them are not met."""
-    cases = re.findall(r"^positionNumber (\w+) = (\d+)$", read(DEFINED).decode(), re.M)
+    cases = re.findall(r"^position_number (\w+) = (\d+)$", read(DEFINED).decode(), re.M)
     named = {int(n): re.sub(r"\B(?=[A-Z])", " ", case).lower() for case, n in cases}
     same("the numbers of positions by their definition", named, dict(enumerate([*POSITIONS, "outside"])))
     answers = [*POSITIONS, "nowhere"]

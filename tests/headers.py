@@ -5,8 +5,8 @@ usage: headers.py            compares, compiles the headers by themselves, and t
        headers.py --write    writes the enums of numbers and of positions, and the words of both, into the headers
 
 Read of both and compared: the names of the exports and in which header they stand, the order, names and widths of parameters, const
-against `&` and `&mut`, what is returned, the structs field by field. Of the definitions: the numbers by `rowOf`, the positions by
-`positionNumber`, the lengths and limits. The enums come from these two, and the words from frontend/numbers.py and frontend/commands.py;
+against `&` and `&mut`, what is returned, the structs field by field. Of the definitions: the numbers by `row_of`, the positions by
+`position_number`, the lengths and limits. The enums come from these two, and the words from frontend/numbers.py and frontend/commands.py;
 the headers must have them as they would be written now.
 It fails on any difference, on text in a header that it does not understand, on a warning of the C or C++ compiler, and when a wrong
 header is not noticed."""
@@ -44,15 +44,15 @@ def constant(name):
 
 def number_rows():
     """Constant, number and words of each number, from the definition of the table of numbers."""
-    found = re.findall(r"^rowOf \(?(\w+)(?: \w+\))? = (?:alone|record \{ number =) (\d+)", read(NUMBERS), re.M)
+    found = re.findall(r"^row_of \(?(\w+)(?: \w+\))? = (?:alone|record \{ number =) (\d+)", read(NUMBERS), re.M)
     return [(constant(name), int(n), numbers.called(int(n))) for name, n in [("Done", 0), *found]]
 
 
 def position_rows():
     """The same of each position, from the definition of its number; the words are those of chartkey's keys. No key has outside."""
-    found = re.findall(r"^positionNumber (\w+) = (\d+)$", read(POSITIONS), re.M)
+    found = re.findall(r"^position_number (\w+) = (\d+)$", read(POSITIONS), re.M)
     if not found:
-        sys.exit(f"{POSITIONS} has no `positionNumber NAME = NUMBER`: tell POSITIONS where it is now")
+        sys.exit(f"{POSITIONS} has no `position_number NAME = NUMBER`: tell POSITIONS where it is now")
     words = {k: commands.for_people(commands.POSITION, k) for k in range(len(commands.POSITIONS))}
     return [(constant(name), int(n), words.get(int(n), name.lower())) for name, n in found]
 
@@ -166,7 +166,7 @@ def slices(parameter):
 def in_source(text):
     """The functions and structs that a source has for C, with the source's own names of structs."""
     text = re.sub(r"//[^\n]*", "", text)
-    found = re.findall(r'#\[no_mangle\]\s*pub extern "C" fn (\w+)\(([^()]*)\)\s*(?:->\s*(\w+))?', text)
+    found = re.findall(r'#\[unsafe\(no_mangle\)\]\s*pub extern "C" fn (\w+)\(([^()]*)\)\s*(?:->\s*(\w+))?', text)
     functions = {
         name: (TYPES.get(gives, gives or "void"), [c for p in parameters.split(",") if p.strip() for c in slices(p)])
         for name, parameters, gives in found
@@ -267,14 +267,14 @@ def same_inlines(said):
 
 # constants of the headers: the file and the definition that each comes from
 LIMITS = {
-    "JIRD_TABLE_LENGTH": ("crates/spec_charts/specs/Table.antt", "tableLength"),
-    "JIRD_MOST_TRIANGLES": ("crates/spec_charts/specs/Table.antt", "maxTriangles"),
-    "JIRD_ENTRIES_LENGTH": ("crates/spec_charts/specs/Cells.antt", "maxEntries"),
-    "JIRD_PAIRS_LENGTH": ("crates/spec_calls/specs/Buffers.antt", "pairsLength"),
-    "JIRD_WINDOW_LENGTH": ("crates/spec_window/specs/Window.antt", "windowLength"),
-    "JIRD_MOST_PAIRS": ("crates/spec_charts/specs/Overlay.antt", "maxPairs"),
-    "JIRD_EMPTY_CELL": ("crates/theory_orthtree/specs/Entries.antt", "emptyMark"),
-    "JIRD_NOWHERE": ("crates/base_answers/specs/Outcomes.antt", "foundNumber none"),
+    "JIRD_TABLE_LENGTH": ("crates/spec_charts/specs/Table.antt", "table_length"),
+    "JIRD_MOST_TRIANGLES": ("crates/spec_charts/specs/Table.antt", "max_triangles"),
+    "JIRD_ENTRIES_LENGTH": ("crates/spec_charts/specs/Cells.antt", "max_entries"),
+    "JIRD_PAIRS_LENGTH": ("crates/spec_calls/specs/Buffers.antt", "pairs_length"),
+    "JIRD_WINDOW_LENGTH": ("crates/spec_window/specs/Window.antt", "window_length"),
+    "JIRD_MOST_PAIRS": ("crates/spec_charts/specs/Overlay.antt", "max_pairs"),
+    "JIRD_EMPTY_CELL": ("crates/theory_orthtree/specs/Entries.antt", "empty_mark"),
+    "JIRD_NOWHERE": ("crates/base_answers/specs/Outcomes.antt", "found_number none"),
 }
 
 
@@ -460,8 +460,8 @@ WRONG = [
 ]
 # the same of a source: what is exported and the header does not have
 WRONG_SOURCES = [
-    ("an export without a prototype", HELM, '#[no_mangle]\npub extern "C" fn jird_more(x: u16) -> u16 {\n    x\n}\n'),
-    ("an export of charts without a prototype", CHARTS, '#[no_mangle]\npub extern "C" fn jird_more(table: &[u16]) -> usize {\n    0\n}\n'),
+    ("an export without a prototype", HELM, '#[unsafe(no_mangle)]\npub extern "C" fn jird_more(x: u16) -> u16 {\n    x\n}\n'),
+    ("an export of charts without a prototype", CHARTS, '#[unsafe(no_mangle)]\npub extern "C" fn jird_more(table: &[u16]) -> usize {\n    0\n}\n'),
 ]
 
 

@@ -30,6 +30,7 @@ STOREYS = {
     "edit": "edits of plain tables",
     "read": "charts read by keys",
     "overlay": "what an overlay lists",
+    "window": "what lies in a window",
     "call": "the public calls",
     "replay": "lists of calls, and demand 3 as running code",
     "log": "the command program, from bytes to bytes",
@@ -37,7 +38,7 @@ STOREYS = {
     "test": "test programs",
 }
 NAMED = {"overlay_log": "log"}  # the command program, which is named by what it prints first
-KIT = ["io", "libc", "os", "check", "bytes"]  # the kit's libraries
+KIT = ["itoa"]  # the kit's libraries that crates.txt lists, but for std
 # what a crate lists and does not name: the crate that it comes through, and the type of the values that pass; C functions have none
 PASSING = {
     "call_edits": {"edit_rows": ("edit_steps", "Edited")},
@@ -47,7 +48,6 @@ PASSING = {
     "overlay_pairs": {"base_geometry": ("base_boxes", "Bounds")},
     "overlay_log": {"log_events": ("log_reader", "BothCounts"), "replay_lists": ("log_events", "Counts")},
     "test_calls": {"spec_plane": ("test_changes", "Point")},
-    "test_readers": {"io": ("test_support", None), "libc": ("test_support", None)},
     "test_support": {"spec_plane": ("base_answers", "Position")},
     "test_replay": {"replay_lists": ("replay", "Counts")},
 }
@@ -81,9 +81,9 @@ def code_of(name, parts=("src", "specs", "proofs")):
 
 
 def named(name):
-    """The crates and libraries of the kit that the texts of a crate name: `X::f` in code, `Rattle·X.` in logic."""
+    """The crates and libraries of the kit that the texts of a crate name: `X::f` in code, `Rattle.X.` in logic."""
     text = code_of(name)
-    words = set(re.findall(r"(?<![\w:·])(\w+)::", text)) | set(re.findall(r"Rattle·(\w+)", text))
+    words = set(re.findall(r"(?<![\w:·])(\w+)::", text)) | set(re.findall(r"Rattle\.(\w+)", text))
     return words & {*NEEDS, *KIT} - {name}
 
 

@@ -12,13 +12,15 @@ no record of that type that is built has it, in any crate (drop field). It is ju
  1. on the examples of its crate that name the definition, many mutants in one check; then on its whole crate. An error in
     specs/ itself: invalid, it is no definition. Any other refusal: killed.
  2. what passes is tried on the crates above whose texts name the definition, or one that is made of it, in the order of
-    crates.txt, until one refuses it; programs are left out, which state nothing of their own. Last come the executed cases, for
-    the crates up to spec_log, the last one of definitions: those that tests/definitions.py draws, as crates of their own.
+    crates.txt, until one refuses it, or a crate between, which rt builds first; programs are left out, which state nothing of
+    their own. Last come the executed cases, for the crates up to spec_log, the last one of definitions: those that
+    tests/definitions.py draws, as crates of their own.
 A field that is dropped is used by a proof where it is refused; it is not tried on examples in copies of their own.
-In step 1 a check may take 4 times the processor time that the right definition takes, at least 20 s; in step 2 it may take
-900 s; and 4 GB. A check of many mutants that takes more is done again for each of them. A mutant whose check alone takes more
-has the verdict 'does not end': what is shown of the right definition in a part of that time is not shown of it. It counts as
-refused, and the report counts it apart.
+A check is `rt check` in the crate's folder, over what earlier checks there kept. In step 1 it may take 4 times the processor
+time that the right definition takes, where its file has become another and all that names it is checked again, at least 20 s;
+in step 2 each crate may take 900 s; and 4 GB. A check of many mutants that takes more is done again for each of them. A mutant
+whose check alone takes more, or meets a limit of the prover's own, has the verdict 'does not end': what is shown of the right
+definition in a part of that time is not shown of it. It counts as refused, and the report counts it apart.
 
 What passes all of it is a survivor: write an example or a law that refuses it. A mutant that is the same function has a row in
 tests/mutants-same.tsv (file, definition, mutant, why) and is not run; a row that names no mutant is an error. A row with `% 2^k`
@@ -33,7 +35,6 @@ import argparse
 import collections
 import concurrent.futures
 import os
-import platform
 import queue
 import random
 import re
@@ -46,9 +47,9 @@ import tempfile
 import threading
 import time
 
+from crates import ROOT, copy, is_program, needs
 from definitions import TRIALS  # the crates that it makes of the executed cases
 
-ROOT = os.path.dirname(os.path.dirname(os.path.abspath(__file__)))
 TEXTS = (("specs", ".antt"), ("proofs", ".antt"), ("src", ".rt"))  # the texts of a crate
 SAME = os.path.join(ROOT, "tests", "mutants-same.tsv")
 CASES = ["7", "4"]  # seed and count of the executed cases
@@ -56,6 +57,7 @@ AT_ONCE = 24  # mutants in one check of the examples
 TIMES, LEAST = 4, 20  # a check of the own crate may take so many times what it takes as things stand, and at least so many seconds
 LONGEST = 900  # seconds that a check of a crate above may take
 MEMORY = 6 << 20  # kilobytes of data for one check; some 2 GB of it are set aside, not used
+STOPPED = [3, *(256 - s for s in (signal.SIGKILL, signal.SIGXCPU, signal.SIGABRT))]  # a limit: of the prover, of time, of memory
 REFUSED = ("killed", "does not end")
 EXAMPLES = re.compile(r"/proofs/(\w*)(Examples|Cases)\.antt")
 COPIED = re.compile(r"/proofs/\w*(Examples|Cases|Evaluate|Written)\.antt")  # the examples, what they unfold together and how they write results
@@ -69,15 +71,22 @@ Definition = collections.namedtuple("Definition", "name is_record clauses")  # a
 
 
 class Item:
-    """A word, or a pair of brackets with what stands in it."""
+    """A word, or a pair of brackets with what stands in it; as "." a value with its projections, as t.a or (f t).a."""
 
     def __init__(self, text, start, end, bracket=""):
         self.text, self.start, self.end, self.bracket, self.items = text, start, end, bracket, []
 
 
+def projected(value, fields, at):
+    """The value with its projections, as .a.x, which stand at this place."""
+    whole = Item(None, value.start, at + len(fields), ".")
+    whole.items = [value] + [Item(p.group(), at + p.start(), at + p.end()) for p in re.finditer(r"\.[^.]+", fields)]
+    return whole
+
+
 def items_of(text, start, end):
     top = Item(None, start, end)
-    stack = [top]
+    stack, modules = [top], set(re.findall(r"^use \S+ as (\w+)$", text, re.M))
     code = re.sub(r"(^|\s)--(?=\s|$)[^\n]*", lambda m: m.group(1).ljust(len(m.group())), text[start:end])
     for m in TOKEN.finditer(code):
         word, a, b = m.group(), start + m.start(), start + m.end()
@@ -88,6 +97,11 @@ def items_of(text, start, end):
             stack.pop().end = b
         elif len(word) > 1 and word.endswith(".") and not word.startswith("."):  # the dot of a lambda
             stack[-1].items += [Item(word[:-1], a, b - 1), Item(".", b - 1, b)]
+        elif re.match(r"\.[^.]", word) and stack[-1].items and stack[-1].items[-1].end == a:
+            stack[-1].items.append(projected(stack[-1].items.pop(), word, a))
+        elif re.match(r"[^.]+\.[^.]", word) and word.split(".")[0] not in modules:
+            at = word.index(".")
+            stack[-1].items.append(projected(Item(word[:at], a, a + at), word[at:], a + at))
         else:
             stack[-1].items.append(Item(word, a, b))
     return top.items
@@ -115,7 +129,7 @@ def split_by(run, operator):
 def bind(item, kind, scope, constructors):
     """Puts the variables of a pattern into the scope, with their types where the type matched or the constructor tells them."""
     if not item.bracket:
-        if re.fullmatch(r"[a-z][\w′]*", item.text) and item.text not in constructors:
+        if re.fullmatch(r"[a-z][\w']*", item.text) and item.text not in constructors:
             scope[item.text] = kind
         return
     parts = split_by(item.items, "∷")
@@ -192,18 +206,18 @@ def expressions(right):
 # ---- mutants
 
 SWAPS = collections.defaultdict(list, {"*": ["+"], "*ℤ": ["+ℤ"], "^": ["*"]})  # names that take each other's place
-for pair in "leb ltb, leZ ltZ, && ||, true false, min max, take drop, any all, + -, +ℤ -ℤ, / %, < ≤".split(", "):
+for pair in "leb ltb, le_z lt_z, && ||, true false, min max, take drop, any all, + -, +ℤ -ℤ, / %, < ≤".split(", "):
     one, other = pair.split()
     SWAPS[one].append(other)
     SWAPS[other].append(one)
-COMPARISONS = {"leb", "ltb", "leZ", "ltZ"}
-SYMMETRIC = {"eqb", "samePoint", "sameCell", "overlaps", "interiorsMeet", "apart", "min", "max"}  # swapped arguments: the same
+COMPARISONS = {"leb", "ltb", "le_z", "lt_z"}
+SYMMETRIC = {"eqb", "same_point", "same_cell", "overlaps", "interiors_meet", "apart", "min", "max"}  # swapped arguments: the same
 ORDERED = {"-", "-ℤ", "/", "%", "^", "++", "<", "≤"}  # operators whose operands change places
 ARITHMETIC = {"+", "-", "*", "/", "%", "^"}  # operators between numbers that give a number
 PARTS = (8, 9, 16, 32)  # of a number, so many of its lowest bits
 LONGEST_LIST = 16  # the length of no list is tried beyond so many bits
 TAKES = {f: ["ℕ", "ℕ", "Bool"] for f in ("leb", "ltb", "eqb")} | {f: ["ℕ", "ℕ", "ℕ"] for f in ("min", "max")}
-TAKES |= {"suc": ["ℕ", "ℕ"], "pos": ["ℕ", "ℤ"], "length": ["", "ℕ"], "natAbs": ["ℤ", "ℕ"], "getD": ["", "ℕ", "", ""]}
+TAKES |= {"suc": ["ℕ", "ℕ"], "pos": ["ℕ", "ℤ"], "length": ["", "ℕ"], "nat_abs": ["ℤ", "ℕ"], "get_or": ["", "ℕ", "", ""]}
 TAKES |= {"take": ["ℕ", "", ""], "drop": ["ℕ", "", ""], "replicate": ["ℕ", "", ""], "set": ["", "ℕ", "", ""]}
 NUMBERS = {"ℕ", "u8", "u16", "u32", "u64", "usize"}
 
@@ -269,7 +283,7 @@ class Names:
     def next_variant(self, word, text):
         """The next variant of the enum that the text has the word from, of those that hold the same."""
         *alias, last = word.rsplit(".", 1)
-        line = r"declared\.(\w+)\.the-variants" + (r" as %s$" % re.escape(alias[0]) if alias else r"\.\{[^}]*\b%s\b" % re.escape(last))
+        line = r"declared\.(\w+)\.TheVariants" + (r" as %s$" % re.escape(alias[0]) if alias else r"\.\{[^}]*\b%s\b" % re.escape(last))
         found = re.search(line, text, re.M)
         variants = self.variants.get(found.group(1), []) if found else []
         alike = [v for v, kind in variants if (last, kind) in variants]
@@ -289,10 +303,10 @@ def bring(text, name, beside):
     """The text with the name brought in, by the use line that brings another. None where there is no such line."""
     if re.search(r"^ *(?:(?:unfoldable|abbrev) )?pub %s |^ +(?:\S+ )*%s (?:\S+ )*: " % ((re.escape(name),) * 2), text, re.M):
         return text
-    lines = [(m, {w.strip().strip("_") for w in m.group(1).split(",")}) for m in re.finditer(r"^use \S+\.\{([^}]*)\}", text, re.M)]
+    lines = [(m, {w.strip().strip("◌") for w in m.group(1).split(",")}) for m in re.finditer(r"^use \S+\.\{([^}]*)\}", text, re.M)]
     if any(name in names for _, names in lines):
         return text
-    written = "_" + name + "_" if name in OPERATORS else name
+    written = "◌" + name + "◌" if name in OPERATORS else name
     ends = [m.end(1) for m, names in lines if beside in names]
     return text[: ends[0]] + ", " + written + text[ends[0] :] if ends else None
 
@@ -382,7 +396,7 @@ def mutants_of(crate, path, names):
         head, arguments = call[0].text, call[1:]
         if head in names.bools and arguments and not negated:
             add("negate", [(*span(call), f"(not ({code(call)}))")], "not", "Bool")
-        if head in ("cond", "refuseIf") and len(arguments) == 3:
+        if head in ("cond", "refuse_if") and len(arguments) == 3:
             add("drop row", [(*span(call), code(arguments[2:]))])
             if head == "cond":
                 add("swap rows", exchange(arguments[1:2], arguments[2:]))
@@ -407,7 +421,7 @@ def mutants_of(crate, path, names):
         if words & OPERATORS:
             return words & OPERATORS <= ARITHMETIC
         if len(run) == 1 and run[0].bracket:
-            return run[0].bracket == "(" and bool(run[0].items) and is_number(run[0].items, scope)
+            return run[0].bracket in ("(", ".") and bool(run[0].items) and is_number(run[0].items, scope)
         last, head = run[-1].text or "", run[0].text
         if last.startswith("."):
             return last[1:] in names.number_fields
@@ -415,13 +429,14 @@ def mutants_of(crate, path, names):
 
     def take_part(term, scoped):
         """Parts of the number that the term is, if it has a variable and is no successor, difference, quotient or remainder."""
-        inner = term[0].items if len(term) == 1 and term[0].bracket == "(" else term
+        inner = term[0].items if len(term) == 1 and term[0].bracket in ("(", ".") else term
         words = {i.text for i in inner}
         if not scoped & set(words_in(inner)) or words & {"suc", "-", "/", "%", "λ", "let", "elim", "record"}:
             return
         written = f"({code(inner)})" if words & OPERATORS else code(inner)
-        beside, first = re.search(r"^use Prim\.Native\.Nat\.\{([^,}]*)", text, re.M), re.search(r"^use ", text, re.M).start()
-        brought = ("%", beside.group(1).strip("_")) if beside else (None, None, [(first, first, "use Prim.Native.Nat.{_%_}\n")])
+        beside, first = re.search(r"^use Rattle\.std\.specs\.Prelude\.\{([^,}]*)", text, re.M), re.search(r"^use ", text, re.M).start()
+        line = "use Rattle.std.specs.Prelude.{◌%◌}\n"
+        brought = ("%", beside.group(1).strip("◌")) if beside else (None, None, [(first, first, line)])
         for k in PARTS:
             if inner[0].text != "length" or k <= LONGEST_LIST:
                 add("part", [(*span(term), f"({written} % {2**k})")], *brought)
@@ -447,7 +462,7 @@ def mutants_of(crate, path, names):
         for right, scope in d.clauses:
             runs = list(expressions(right))
             scoped = set(scope) | {w for role, run, _ in runs if role == "binder" for w in words_in(run)}
-            bracketed = [g.items for g in brackets_in(right) if g.bracket == "("]
+            bracketed = [g.items for g in brackets_in(right) if g.bracket in ("(", ".")]
             is_result = lambda run: not d.is_record and run == right and names.taken(d.name)[-1] == "ℕ"
             for run, before in [(run, before) for role, run, before in runs if role == "expression"]:
                 change_words(run, scope, scoped)
@@ -500,11 +515,6 @@ def sources(ending, part, root=ROOT, crate=""):
         folders.sort()
         if f"{os.sep}{part}{os.sep}" in folder + os.sep:
             yield from (os.path.join(folder, f) for f in sorted(files) if f.endswith(ending))
-
-
-def crates_of(text):
-    lines = [l.split("#")[0].split(":") for l in text.split("\n") if ":" in l.split("#")[0]]
-    return {name.strip(): rest.split() for name, rest in lines}
 
 
 def below(crates, name):
@@ -560,24 +570,14 @@ class Place:
     def __init__(self, root, crates):
         self.root, self.crates, self.sure = root, crates, set()  # sure: proved as they stand
         self.seconds, self.mixed = {}, {}  # what a check takes as things stand, and what fails in a right copy
-        guide = subprocess.run(["rt", "doc"], stdout=subprocess.PIPE, text=True, check=True).stdout.strip()
-        self.home = os.path.dirname(os.path.dirname(guide))
-        self.own = os.path.join(self.home, "on", platform.machine())
 
-    def run(self, verb, crate, *more, limit=LONGEST):
-        """None when the crate is proved; else what was printed, 'does not end' or 'no verdict'. The words are those that rt gives."""
-        libraries, kit = os.path.join(self.root, "target", "rlib"), os.path.join(self.own, "rlib")
-        words = ["sh", "-c", f'ulimit -t {limit:.0f} && ulimit -d {MEMORY} && exec "$@"', "sh"]
-        words += [os.path.join(self.own, "bin", "rattle"), verb, "--crate-name", crate]
-        words.append(os.path.join(self.root, "crates", crate, "src", "lib.rt"))
-        for d in ["std"] + self.crates[crate]:
-            words += ["--extern", f"{d}={os.path.join(libraries if d in self.crates else kit, d + '.rlib')}"]
-        words += ["-L", "dependency=" + libraries, "-L", "dependency=" + kit]
-        words += ["--antt-project", os.path.join(self.home, "logic", "antt-project.json")]
-        words += ["--logic-built", os.path.join(self.own, "logic-built"), *more]
-        p = subprocess.run(words, stdout=subprocess.PIPE, stderr=subprocess.STDOUT, text=True, errors="replace")
-        stopped = p.returncode in (-signal.SIGKILL, -signal.SIGXCPU, -signal.SIGABRT)  # by the limit of time, or of memory
-        return None if p.returncode == 0 else p.stdout if p.returncode == 1 else "does not end" if stopped else "no verdict"
+    def check(self, crate, limit):
+        """None when the crate is proved; else what was printed, 'does not end' or 'no verdict'. rt builds what stands below it first,
+        where that has changed. The limits are of each of its processes."""
+        words = ["sh", "-c", f'ulimit -S -t {limit:.0f} && ulimit -d {MEMORY} && exec "$@"', "sh", "rt", "check", "--jobs", "1"]
+        p = subprocess.run(words, cwd=os.path.join(self.root, "crates", crate), stdin=subprocess.DEVNULL, stdout=subprocess.PIPE,
+                           stderr=subprocess.STDOUT, text=True, errors="replace")  # fmt: skip
+        return None if p.returncode == 0 else p.stdout if p.returncode == 1 else "does not end" if p.returncode in STOPPED else "no verdict"
 
     def most(self, what, check):
         """The seconds that a check may take, from what it takes as things stand; `check` does that, the first time."""
@@ -589,17 +589,17 @@ class Place:
         return max(LEAST, TIMES * self.seconds[what])
 
     def prove(self, crates):
-        words = ["rt", "check", *crates]
-        if crates and subprocess.run(words, cwd=self.root, env=dict(os.environ, RT_JOBS="1"), stdout=subprocess.DEVNULL).returncode:
-            sys.exit("the repository as it stands is not proved")
+        for c in crates:
+            if self.check(c, LONGEST) is not None:
+                sys.exit(f"the repository as it stands is not proved: {c}")
 
-    def check(self, crate, limit):
-        kept = os.path.join(self.root, "target", "inc", crate)
-        os.makedirs(kept, exist_ok=True)
-        printed = self.run("check", crate, "--incremental", kept, limit=limit)
-        if printed in ("does not end", "no verdict"):
-            shutil.rmtree(kept)
-        return printed
+    def anew(self, file):
+        """A check of a crate as it stands, but for a file of definitions that has one more, so that what names the file is checked again."""
+        path = os.path.join(self.root, "crates", file)
+        right = read(path)
+        write(path, right + "\nabbrev pub OneMore : Type 1\nOneMore = Type 0\n")
+        self.check(file.split("/")[0], LONGEST)
+        write(path, right)
 
     def screen(self, batch):
         """The examples that name their definitions on mutants of one file, in one check: each mutant has a copy of its file, of
@@ -623,7 +623,7 @@ class Place:
         """What a check prints with a copy for each mutant, None for a right one, and what fails in each copy."""
         texts = {p: read(p) for part in ("specs", "proofs") for p in sources(".antt", part, self.root, crate)}
         module, folder = lambda p: os.path.basename(p)[:-5], lambda p: os.path.dirname(p)
-        names = lambda ps: re.compile(r"(Rattle·%s·(?:specs\.specs|proofs\.proofs)\.)(%s)\b" % (crate, "|".join(map(module, ps))))
+        names = lambda ps: re.compile(r"(Rattle\.%s\.(?:specs|proofs)\.)(%s)\b" % (crate, "|".join(map(module, ps))))
         right, made, failed = os.path.join(self.root, "crates", file), [], collections.defaultdict(list)
         copied = [right]
         for _ in texts:
@@ -651,29 +651,21 @@ class Place:
             os.remove(p)
         for node in nodes:
             write(node, texts[node])
-        error = r"^\S+/(specs|proofs)/Copy(\d+)(\S+?:\d+):\d+: error: (?:`([^`]*)`)?"
+        error = r"^(?:\./)?(specs|proofs)/Copy(\d+)(\S+?:\d+):\d+: error: (?:`([^`]*)`)?"
         for part, k, place, name in re.findall(error, printed or "", re.M):
             failed[int(k)].append((part == "specs", f"{crate}/{part}/{place} {name}"))
         return printed, failed
 
     def judge(self, m, above):
         """The mutant on its own crate; or, given the crates above, on those."""
-        limit, wrong = self.most(m.crate, lambda: self.run("check", m.crate)), m.texts(self.root, [m.crate, *(above or ())])
-        right, library = {path: read(path) for path in wrong}, lambda c: os.path.join(self.root, "target", "rlib", c + ".rlib")
+        limit = self.most(f"all of {m.file}", lambda: self.anew(m.file)) if above is None else LONGEST
+        wrong = m.texts(self.root, [m.crate, *(above or ())])
+        right = {path: read(path) for path in wrong}
         for path in wrong:
             write(path, wrong[path])
-        if above is None:
-            self.conclude(m, m.crate, self.check(m.crate, limit))
-        tried = [m.crate, *above] if above else []
-        built = [c for c in tried if (c == m.crate or m.dropped) and os.path.exists(library(c))]  # what has a record has its fields too
-        for c in built:
-            os.rename(library(c), library(c) + ".right")
-        for c in tried:
+        for c in above or [m.crate]:
             if not m.verdict:
-                self.conclude(m, c, self.run("build", c, "-o", library(c)) if c in built else self.check(c, LONGEST))
-        for c in built:
-            shutil.rmtree(library(c), ignore_errors=True)
-            os.rename(library(c) + ".right", library(c))
+                self.conclude(m, c, self.check(c, limit))
         for path in right:
             write(path, right[path])
         refused = m.where.split("/")[0]
@@ -688,21 +680,19 @@ class Place:
         elif printed in ("does not end", "no verdict"):
             m.verdict, m.where = printed if printed == "does not end" else "undecided", crate
         else:
-            errors = re.findall(r"^(\S+?:\d+):\d+: error: (?:`([^`]*)`)?", printed, re.M)
-            found = [f.replace(os.path.join(self.root, "crates", ""), "") + " " + name for f, name in errors]
+            between = re.search(r"^rt: the library (\w+) did not build", printed, re.M)
+            crate = between.group(1) if between else crate
+            errors = re.findall(r"^(?:\./)?(\S+?:\d+):\d+: error: (?:`([^`]*)`)?", printed, re.M)
+            found = [f"{crate}/{f} {name}" for f, name in errors]
             invalid = crate == m.crate and any(f.startswith(crate + "/specs/") for f in found)
             examples = [f for f in found if EXAMPLES.search(f)]
             m.verdict, m.where = ("invalid", "") if invalid else ("killed", (examples + found + [crate])[0])
 
 
 def prepare(work, crates, chosen, jobs):
-    """The copies, with the chosen crates proved; what the repository's own target/ has proved is taken from there."""
+    """The copies, with the chosen crates proved; rt begins with what it kept of them elsewhere on the machine."""
     first = os.path.join(work, "0")
-    shutil.copytree(os.path.join(ROOT, "crates"), os.path.join(first, "crates"))
-    shutil.copyfile(os.path.join(ROOT, "crates.txt"), os.path.join(first, "crates.txt"))
-    for part in ("rlib", "stamp"):
-        if os.path.isdir(os.path.join(ROOT, "target", part)):
-            shutil.copytree(os.path.join(ROOT, "target", part), os.path.join(first, "target", part))
+    copy(first, list(crates), {})
     Place(first, crates).prove(chosen)
     for k in range(1, jobs):
         shutil.copytree(first, os.path.join(work, str(k)))
@@ -711,21 +701,22 @@ def prepare(work, crates, chosen, jobs):
 
 def add_cases(work, places, crates):
     """The crates with those of the executed cases."""
-    root = os.path.join(work, "cases")
+    root, made = os.path.join(work, "cases"), os.path.join(work, "definitions")
     for part in ("crates", "tests", "model"):
-        shutil.copytree(os.path.join(ROOT, part), os.path.join(root, part))
+        shutil.copytree(os.path.join(ROOT, part), os.path.join(root, part), ignore=shutil.ignore_patterns("out"))
     shutil.copyfile(os.path.join(ROOT, "crates.txt"), os.path.join(root, "crates.txt"))
     os.makedirs(os.path.join(root, "target", "model"))
     model = ["rustc", "--edition", "2021", "-O", "-o", "target/model/model", "model/main.rs"]
-    for words in (model, [sys.executable, "tests/definitions.py", *CASES]):
+    for words in (model, [sys.executable, "tests/definitions.py", *CASES, made]):
         if subprocess.run(words, cwd=root, stdout=subprocess.DEVNULL).returncode:
             sys.exit("the executed cases do not agree with the model on the repository as it stands")
-    made = os.path.join(root, "target", "definitions")
-    needs = crates_of(read(os.path.join(made, "crates.txt")))
-    more = crates | {t: needs[t] for t in TRIALS}
+    stand_on = needs(made)
+    more = crates | {t: stand_on[t] for t in TRIALS}
     for p in places:
         for t in TRIALS:
-            shutil.copytree(os.path.join(made, "crates", t), os.path.join(p.root, "crates", t))
+            shutil.copytree(os.path.join(made, "crates", t), os.path.join(p.root, "crates", t), ignore=shutil.ignore_patterns("out"))
+        lines = "".join(f"{t}: {' '.join(stand_on[t])}\n" for t in TRIALS)
+        write(os.path.join(p.root, "crates.txt"), read(os.path.join(p.root, "crates.txt")) + lines)
         p.crates = more
     return more
 
@@ -792,8 +783,7 @@ def main():
     os.nice(10)
     signal.signal(signal.SIGTERM, lambda *_: sys.exit(1))  # the copies are removed
     run, names = Run(o.out, o.minutes), Names()
-    is_program = lambda c: os.path.exists(os.path.join(ROOT, "crates", c, "src", "main.rt"))
-    crates = {c: d for c, d in crates_of(read(os.path.join(ROOT, "crates.txt"))).items() if not is_program(c)}
+    crates = {c: d for c, d in needs().items() if not is_program(c)}
     every = [m for c in crates for p in sources(".antt", "specs", ROOT, c) for m in mutants_of(c, p, names)]
     same = {tuple(l.split("\t")[:3]) for l in read(SAME).split("\n") if l and not l.startswith("#")}
     lost = same - {key for m in every for key in m.keys}
@@ -833,8 +823,7 @@ def main():
         left = run.each("own crate", places, [[m] for m in left], lambda p, batch: p.judge(batch[0], None))
         reach, order = Reach(places[0].root, crates), list(crates)
         for p in places if left else ():
-            built = os.listdir(os.path.join(p.root, "target", "rlib"))
-            p.prove([c for c in crates if c + ".rlib" not in built])
+            p.prove(list(crates))
         cut = order.index("spec_log") + 1
         for step, some in [("crates above", order), ("executed cases", TRIALS)]:
             if step == "executed cases" and any(not m.verdict and m.crate in order[:cut] for m in left) and time.time() < run.until:

@@ -20,9 +20,15 @@ check() {
     fi
 }
 
-# rt starts crates and edits in groups and waits for the slowest of each; groups of four leave a processor idle less often
-export RT_JOBS=${RT_JOBS:-4}
+# the programs that the tests run
+build_programs() {
+    local name
+    for name in overlay_log test_quadtree test_calls test_replay; do
+        bash tests/prove.sh "target/$name.log" program "$name" || return 1
+    done
+}
 
+mkdir -p target
 echo "== rt ci: prove every crate, try the must-fail edits, run the programs"
 bash tests/prove.sh "$log" ci
 verdict=$?
@@ -43,14 +49,18 @@ else
     failed=$((failed + 1))
     echo "FAILED: rt ci printed no verdict"
 fi
+if ! grep '^rt: ok; ' "$log" | grep -q 'must-fail edits: ' || grep '^rt: ok; ' "$log" | grep -Eq ', [0-9]+ bad'; then
+    failed=$((failed + 1))
+    echo "FAILED: rt ci tells of no must-fail edits, or of bad ones"
+fi
 
-check "layout of the sources (rt fmt --check)" rt fmt --check
 check "every crate proved with no hole and no axiom, every must-fail edit refused at a fact" python3 tests/verdicts.py "$log"
 check "every sentence of the demands and of both documents has its row, and what says and holds it (docs/CLAIMS.md)" python3 tests/claims.py
 check "the storeys stand on earlier ones, and docs/MAP.md shows them" python3 tests/map.py --check
 check "the reference model builds" bash tests/model.sh build
 check "the reference model's own tests" bash tests/model.sh test
 check "the reference model on the stored command streams" python3 tests/log_cases.py target/model/model log
+check "the test programs and the command program are built" build_programs
 check "the definitions, executed, against the reference model" python3 tests/definitions.py 7 4
 check "entries built by the program and by the reference model" python3 tests/quadtree.py 7 10
 check "calls on sound and damaged charts by the program and by the reference model" python3 tests/calls.py 7 20

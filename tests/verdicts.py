@@ -1,27 +1,25 @@
 #!/usr/bin/env python3
-"""Reads what rt ci printed and left behind, and fails where a verdict does not mean what it should.
+"""Reads what rt ci printed, and fails where a verdict does not mean what it should.
 
 usage: verdicts.py LOG
 
-Crates: each crate of crates.txt is proved in this run, once, and has one `logic=proved` line of its own before its verdict; the
-line has no word that is not known here; a library has no axioms, a program the two of libc, read and write, and it ran.
+Crates: each crate of crates.txt was proved in this run, once, with one `logic=proved` line of its own whose words are all known here,
+or is kept from an earlier run on this machine over the same files; each program ran, as both compilers make it. Nothing rests on an axiom,
+but a program, which reads and writes by the kit's libraries, on what these state of some functions of C (REACHED).
 
-Must-fail edits: each file below a must-fail/ folder is one that rt tries (crates/NAME/must-fail/LABEL.edit), each edit was
-refused in this run and has its log, and each log has its edit. An edit starts with a sentence, `# ..`, and goes on with `file:`,
-`old:` and `new:` lines alone, for src/ and specs/. Beside an edit of specs/ it may change a proof to go with it, but no example.
+Must-fail edits: each file below a must-fail/ folder is one that rt tries (crates/NAME/must-fail/LABEL.edit), and each edit was
+refused, once. An edit starts with a sentence, `# ..`, and goes on with `file:`, `old:` and `new:` lines alone, for src/ and specs/.
+Beside an edit of specs/ it may change a proof to go with it, but no example.
 
-What an edit shows: its first error is a fact that fails. The reasons are listed in FACTS, everything else fails: a name that is not
-there, text that does not parse, a field or a requirement that another shape of the code would have. A type that does not fit can
-also come from a proof that no longer fits its code, so beyond that
-
-- an edit of src/ keeps the operators, calls, keywords and types of the code, each as often as before, and changes operands
-  alone: constants, variables, fields, enum variants. A comparison may become strict or not strict (< and <=, > and >=). It may
-  become another comparison where `omega` refuses, which gives numbers at which the fact fails. An edit with other operators
-  says with what operands its crate is proved: a line `# proved with: TEXT` for its last `new:` text, with the same operators;
-- an edit of specs/ makes a computed example fail, there or further down in its log."""
+What an edit shows: the first error, of which rt prints the beginning, is a fact that fails. The reasons are listed in FACTS, everything
+else fails: a name that is not there, text that does not parse, a field or a requirement that another shape of the code would have. A type
+that does not fit can also come from a proof that no longer fits its code, so beyond that an edit of src/ keeps the operators, calls,
+keywords and types of the code, each as often as before, and changes operands alone: constants, variables, fields, enum variants. A
+comparison may become strict or not strict (< and <=, > and >=). It may become another comparison where a goal is open that the
+prover decides by numbers (`omega`, `search`). An edit with other operators says with what operands its crate is proved: a line
+`# proved with: TEXT` for its last `new:` text, with the same operators."""
 
 import collections
-import glob
 import os
 import re
 import sys
@@ -29,19 +27,22 @@ import sys
 import crates
 from crates import ROOT, is_program
 
-LEFT = os.path.join(ROOT, "target", "must-fail")
 # the words of a `logic=proved` line
-WORDS = r"functions=\d+|axioms=2|target=x86_64-unknown-linux-gnu|sum=[0-9a-f]+|native=nat,char,string|(logic|libraries)-built=trusted"
-AXIOMS = "axioms libc: libc::read, libc::write (2 of the "
+WORDS = r"functions=\d+|target=x86_64-unknown-linux-gnu|cpu=x86-64-v2|sum=[0-9a-f]+|native=nat,char,string|(logic|libraries)-built=trusted|statements=trusted"
+# what a program reaches of C, by the kit's libraries, and how a line of what is linked tells it
+REACHED = {"libc": {"libc::lseek", "libc::read", "libc::write"}, "os": {"os::c::rattle_errno"}}
+AXIOMS = r"axioms (\w+): (?:none reached|(.+) \(\d+) of the \d+ declared\)?"
 # why a fact fails, as the first error says after its name
 FACTS = {
     "types": r"(as printed|computed as far as they go), the two (types|values|sides|indices) (first differ|differ only|are) |expected type `",
-    "omega": r"`omega`: .*does not follow from what it read",
-    "search": r"`search`: no proof of ",
+    "omega": r"`omega`: .*does not follow from what it read|`omega`: the goal does not follow",
+    "search": r"`search`: no proof of |`grind`: ",
     "rw": r"give a proof of that as the last argument, `rw L t`|`rw`: no occurrence of the path's (left|right) endpoint in ",
     "simp": r"give a proof of that as the last argument, `simp L t`|`simp`: no equation of the list (can be applied|has an instance)",
     "cc": r"`cc`: the equations do not join |list the missing equation with its arguments, or rewrite by `rw` or `simp`",
 }
+# a goal of the code that stays open, as rt's note says
+OPEN = r"note: (\S+?):\d+:\d+: it is not proved that .*"
 # the files of computed examples
 EXAMPLES = r"\w*Examples\.antt|MarkedCases\.antt"
 KEYWORDS = "as break const continue else enum fn for ghost if impl in let loop match mut pub return struct use while".split()
@@ -63,38 +64,37 @@ def judge_crate(name, lines):
     if len(verdicts) != 1 or not verdicts[0].startswith("logic=proved "):
         faults.append(f"{name}: not one line logic=proved before its verdict: {verdicts}")
         return
-    words = verdicts[0].split()[1:]
-    for word in words:
-        if not re.fullmatch(WORDS, word):
+    for word in verdicts[0].split()[1:]:
+        if not re.fullmatch(WORDS + (r"|axioms=\d+" if is_program(name) else ""), word):
             faults.append(f"{name}: {word} in its verdict")
-    axioms = [l for l in lines if l.startswith("axioms")]
-    if is_program(name):
-        if "axioms=2" not in words or len(axioms) != 1 or not axioms[0].startswith(AXIOMS):
-            faults.append(f"{name}: other axioms than read and write: {axioms}: {verdicts[0]}")
-    elif "axioms=2" in words or axioms:
-        faults.append(f"{name}: axioms: {axioms}: {verdicts[0]}")
+    for line in [l for l in lines if l.startswith("axioms")]:
+        found = re.fullmatch(AXIOMS, line)
+        reached = set(found.group(2).split(", ")) if found and found.group(2) else set()
+        if not found or reached and not (is_program(name) and reached <= REACHED.get(found.group(1), set())):
+            faults.append(f"{name}: {line}")
 
 
 def judge_crates(text):
-    names, lines, seen, ran = list(crates.needs()), [], [], []
+    names, lines, seen, ran = list(crates.needs()), [], [], collections.Counter()
     for line in text.split("\n"):
-        done = re.fullmatch(r"rt: (\S+) proved \((.*)\)", line)
-        if done:
+        done = re.fullmatch(r"rt: (\w+) (proved|is kept: an earlier run on this machine proved the same files .*)", line)
+        if line.startswith("== "):
+            lines = []
+        elif done:
             seen.append(done.group(1))
-            if not re.fullmatch(r"\d+ s", done.group(2)):
-                faults.append(f"{done.group(1)}: not proved in this run: {line}")
-            judge_crate(done.group(1), lines)
+            if done.group(2) == "proved":
+                judge_crate(done.group(1), lines)
             lines = []
         else:
             lines.append(line)
-        run = re.match(r"rt: (\S+) ran(?: as nobody)?, and wrote what its file 'stdout' has ", line)
+        run = re.match(r"rt: (\w+) ran\b.*, and wrote what its file stdout has", line)
         if run:
-            ran.append(run.group(1))
-        if re.match(r"rt: .*(NOT PROVED|NOT REFUSED|BAD EDIT|FAILED)", line):
+            ran[run.group(1)] += 1
+        if re.match(r"rt: .*(NOT PROVED|NOT REFUSED|NOT TRIED|BAD EDIT|FAILED)", line):
             faults.append(line[:300])
     if sorted(seen) != sorted(names):
         faults.append(f"the crates proved are not those of crates.txt: {sorted(set(seen) ^ set(names)) or 'one of them twice'}")
-    if sorted(ran) != sorted(n for n in names if is_program(n)):
+    if ran != collections.Counter({n: 2 for n in names if is_program(n)}):
         faults.append(f"the programs that ran are {ran}")
     return len(names)
 
@@ -146,26 +146,17 @@ def replacements(label):
     return found, proved
 
 
-def failing(label):
-    """The places at which an edit was refused, file and law, each with the kind of its fact; none when the first is at no fact."""
-    path = os.path.join(LEFT, label, ".log")
-    if not os.path.isfile(path):
-        faults.append(f"must-fail {label}: no log")
-        return []
-    found = []
-    for line in read(path).split("\n"):
-        if not re.match(r"error|\S+:\d+:\d+: error", line):
-            continue
-        error = re.match(r"(\S+?):\d+:\d+: error: `([^`]+)`: (.*)", line)
-        kinds = [kind for kind, pattern in FACTS.items() if error and re.match(pattern, error.group(3))]
-        if kinds:
-            found.append((os.path.basename(error.group(1)), error.group(2), kinds[0]))
-        elif not found:
-            faults.append(f"must-fail {label}: refused, but not at a fact: {line[:400]}")
-            return []
-    if not found:
-        faults.append(f"must-fail {label}: no error in its log")
-    return found
+def failing(label, told):
+    """The file and the law at which an edit was refused, with the kind of its fact; none when that is no fact."""
+    error = re.match(r"(\S+?):\d+:\d+: error: `([^`]+)`: (.*)", told)
+    kinds = [kind for kind, pattern in FACTS.items() if error and re.match(pattern, error.group(3))]
+    if kinds:
+        return os.path.basename(error.group(1)), error.group(2), kinds[0]
+    goal = re.match(OPEN, told)
+    if goal:
+        return os.path.basename(goal.group(1)), "a goal of the code", "search"
+    faults.append(f"must-fail {label}: refused, but not at a fact: {told[:400]}")
+    return None
 
 
 def code_shape(text, loose):
@@ -191,38 +182,34 @@ def changed(before, after):
     return ", ".join(f"{sign}{token}" for sign, part in (("-", before - after), ("+", after - before)) for token in part.elements())
 
 
-def judge_edit(label):
-    (pairs, proved), places = replacements(label), failing(label)
+def judge_edit(label, told):
+    (pairs, proved), place = replacements(label), failing(label, told)
     if all(old == new for _, old, new in pairs):
         faults.append(f"must-fail {label}: it changes nothing")
-    if not places:
+    if not place:
         return
-    _, law, kind = places[0]
+    _, law, kind = place
+    loose = kind in ("omega", "search")
     before, after = collections.Counter(), collections.Counter()
     for file, old, new in pairs:
         if file.startswith("src/"):
-            before += code_shape(old, kind == "omega")
-            after += code_shape(new, kind == "omega")
+            before += code_shape(old, loose)
+            after += code_shape(new, loose)
     if before != after:
         last = pairs[-1][2]
         if not proved or proved == last or code_shape(proved, False) != code_shape(last, False):
             faults.append(f"must-fail {label}: other operators or calls: {changed(before, after)} (refused at {law}: {kind})")
-    examples = [law for file, law, kind in places if kind == "types" and re.fullmatch(EXAMPLES, file)]
-    if any(file.startswith("specs/") for file, _, _ in pairs) and not examples:
-        faults.append(f"must-fail {label}: no computed example fails (refused at {law}: {kind})")
 
 
 def judge_edits(text):
     labels = list(edits())
-    lines = re.findall(r"^rt: must-fail (\S+): (.*)$", text, re.M)
-    refused = [label for label, said in lines if said.startswith("refused, as it must be (")]
+    told = re.findall(r"^rt: must-fail (\S+)\.edit: refused, as it must be(?:: (.*)| \((.*))?$", text, re.M)
+    refused = [label for label, *_ in told]
     if sorted(refused) != sorted(labels):
         faults.append(f"the edits refused are not those there: {sorted(set(refused) ^ set(labels)) or 'one of them twice'}")
-    logs = {os.path.relpath(os.path.dirname(path), LEFT) for path in glob.glob(os.path.join(LEFT, "*", "*", ".log"))}
-    for label in sorted(logs - set(labels)):
-        faults.append(f"must-fail {label}: a log without its edit")
-    for label in labels:
-        judge_edit(label)
+    for label, said, weakly in told:
+        if label in labels:
+            judge_edit(label, said or weakly)
     return len(labels)
 
 
@@ -231,9 +218,11 @@ def main():
     proved, tried = judge_crates(text), judge_edits(text)
     if not proved or not tried:
         faults.append(f"{proved} crates, {tried} must-fail edits")
-    wanted = [f"rt: ok, {proved} crates proved, {tried} must-fail edits refused", f"{proved + tried} passed, 0 failed"]
-    if text.rstrip("\n").split("\n")[-2:] != wanted:
-        faults.append(f"the log does not end with {wanted}")
+    *_, ok, last = text.rstrip("\n").split("\n")
+    if not re.match(rf"rt: ok; handles allowed: none; must-fail edits: {tried} refused(;|$)", ok):
+        faults.append(f"the line before the last is not that {tried} must-fail edits are refused, with no handle: {ok[:200]}")
+    if last != f"{proved + tried} passed, 0 failed":
+        faults.append(f"the log does not end with {proved + tried} passed, 0 failed: {last[:200]}")
     print("\n".join(faults) if faults else f"{proved} crates, {tried} must-fail edits, each refused at a fact")
     sys.exit(1 if faults else 0)
 

@@ -3,8 +3,7 @@
 done; Ctrl-C and a closed pipe end the scripts that run long without a traceback, and the fuzzer with its tally.
 
 make runs in a folder that has the Makefile and tests/need.sh alone, with a PATH of stand-ins for the tools, without one after the other;
-and `make run` in a copy with a stand-in for rt, which builds nothing that has a stamp, as rt does: the first time, again, after the
-program was removed, and where nothing is proved.
+and `make run` in a copy with a stand-in for rt: the first time, again, after the program was removed, and where nothing is proved.
 
 usage: way_in.py PROGRAM [ARGUMENT ..]"""
 
@@ -97,13 +96,12 @@ def test_missing(folder):
 # ---- make run
 
 RT = """#!/bin/sh
-[ -e target/refuse ] && { echo "rt: spec_plane NOT PROVED"; exit 1; }
-echo "rt: overlay_log proved (1 s)"
-[ -e target/stamp/overlay_log ] && exit 0
-mkdir -p target/bin target/stamp
-printf '#!/bin/sh\\nexec %s\\n' "$COMMAND_PROGRAM" >target/bin/overlay_log
-chmod +x target/bin/overlay_log
-: >target/stamp/overlay_log
+[ -e ../../target/refuse ] && { echo "crate spec_plane: modules loaded=0 checked=1"; echo "logic=not-proved"; exit 1; }
+echo "crate overlay_log: modules loaded=0 checked=1"
+echo "logic=proved functions=1"
+mkdir -p out
+printf '#!/bin/sh\\nexec %s\\n' "$COMMAND_PROGRAM" >out/overlay_log
+chmod +x out/overlay_log
 """
 
 
@@ -159,9 +157,9 @@ def ended(child):
 
 def progress():
     """The script that shows how far rt has come, when it has shown one line."""
-    child = start("tests/progress.py", "check", "overlay_log")
-    child.stdin.write(b"rt: theory_lists proved (1 s)\n")
-    same("progress", re.sub(rb"of \d+", b"of N", child.stdout.readline()), b"[1 of N] rt: theory_lists proved (1 s)\n")
+    child = start("tests/progress.py", "ci")
+    child.stdin.write(b"rt: theory_lists proved\n")
+    same("progress", re.sub(rb"of \d+", b"of N", child.stdout.readline()), b"[1 of N] rt: theory_lists proved\n")
     return child
 
 
@@ -171,7 +169,7 @@ def test_progress():
     same("Ctrl-C of progress.py", ended(child), (-signal.SIGINT, b"", b""))
     child = progress()
     child.stdout.close()
-    child.stdin.write(b"rt: theory_orthtree proved (1 s)\n")
+    child.stdin.write(b"rt: theory_orthtree proved\n")
     child.stdin.close()
     same("a closed pipe of progress.py", (child.wait(SECONDS), child.stderr.read()), (-signal.SIGPIPE, b""))
     child.stderr.close()

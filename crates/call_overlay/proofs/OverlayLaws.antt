@@ -13,7 +13,7 @@ use Rattle.theory_lists.proofs.Reflects.{or-neither}
 use Rattle.theory_lists.proofs.FilterLaws.{filter-agree}
 use Rattle.theory_lists.proofs.ListsLaws.{up_to-to}
 use Rattle.theory_lists.proofs.EveryLaws.{flat_map-agree}
-use Rattle.theory_orthtree.specs.Entries.{Entry, chain, meetings}
+use Rattle.theory_orthtree.specs.Entries.{Entry, chain}
 use Rattle.spec_squares.specs.Square.{arity, depth}
 use Rattle.spec_plane.specs.Interior.{interiors_meet}
 use Rattle.spec_charts.specs.Table.{Drawn, max_triangles, table_of}

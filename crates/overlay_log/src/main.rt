@@ -12,8 +12,8 @@ ghost use Rattle.log_readers.specs.Readers.{overlay_room};
 ghost use Rattle.log_waiting.specs.Waiting.{waiting_length};
 ghost use Rattle.log_reader.specs.Reader.{Ready};
 
-use libc::{STDIN_FILENO, STDOUT_FILENO};
 use log_reader::Reader;
+use std::io::Read;
 
 // The reader after a portion, and whether there is more to do: `bad` was not printed, and the output is taken.
 #[derive(Clone, Copy)]
@@ -30,6 +30,7 @@ fn served_of(reader: Reader, going: bool) -> Served
 
 // Reads a portion to its end, and writes what it prints.
 fn serve_portion(
+    rt: &impl Print,
     input: &[u8],
     reader: Reader,
     table0: &mut [u16],
@@ -72,7 +73,7 @@ fn serve_portion(
         kept = portion.reader;
         from += portion.used;
         let at = portion.at;
-        if !io::write_all(STDOUT_FILENO, &out[..at]) {
+        if rt.write_all(&out[..at]).is_err() {
             return served_of(kept, false);
         }
     }
@@ -80,8 +81,20 @@ fn serve_portion(
     served_of(kept, going)
 }
 
+// Reads what is there, at most the buffer; answers how many bytes, 0 where the input ends or the read fails.
+fn read_some(source: &mut impl Read, input: &mut [u8]) -> usize
+    ensures { result ≤ length input.new }
+{
+    match source.read(input) {
+        Ok(n) => n,
+        Err(_) => 0,
+    }
+}
+
 // Reads portion after portion. No input has the 2^63 bytes after which it would end.
 fn serve(
+    rt: &impl Print,
+    source: &mut impl Read,
     table0: &mut [u16],
     keys0: &mut [u32],
     levels0: &mut [u8],
@@ -102,12 +115,12 @@ fn serve(
     );
     let mut left = 9223372036854775808u64;
     while left > 0 {
-        let got = libc::read(STDIN_FILENO, input);
-        let n = io::count(got, input);
+        let n = read_some(source, input);
         if (n == 0) | (left < n as u64) {
             left = 0;
         } else {
             let served = serve_portion(
+                rt,
                 &input[..n],
                 kept,
                 table0,
@@ -130,10 +143,10 @@ fn serve(
         }
     }
     let at = log_reader::finish(kept, out);
-    io::write_all(STDOUT_FILENO, &out[..at]);
+    let _ = rt.write_all(&out[..at]);
 }
 
-fn main() {
+fn main(rt: HostRuntime) {
     let mut table0 = [0u16; 3072];
     let mut keys0 = [0u32; 16384];
     let mut levels0 = [0u8; 16384];
@@ -144,13 +157,16 @@ fn main() {
     let mut items1 = [0u16; 16384];
     let mut waiting = [0u16; 3074];
     let mut pairs = [0u16; 8192];
-    let mut out = io::large_buffer();
-    let mut input = io::large_buffer();
+    let mut out = [0u8; 65536];
+    let mut input = [0u8; 65536];
+    let mut source = rt.reader();
     let at = log_lines::put_heading(&mut out, 0);
-    if !io::write_all(STDOUT_FILENO, &out[..at]) {
+    if rt.write_all(&out[..at]).is_err() {
         return;
     }
     serve(
+        &rt,
+        &mut source,
         &mut table0,
         &mut keys0,
         &mut levels0,

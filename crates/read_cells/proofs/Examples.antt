@@ -4,7 +4,6 @@ use mathlib.Core.Path.{◌≡◌, refl}
 use mathlib.Core.List.{List, [], ◌∷◌, map}
 use Prim.Native.Nat.{ℕ}
 use native.Mathlib.Omega.{arith}
-use base.Fml.{GName}
 use Rattle.theory_lists.specs.Lists.{places_from, count_from}
 use Rattle.theory_orthtree.specs.Morton.{lowest_bits, morton_key}
 use Rattle.theory_orthtree.specs.Entries.{Entry, empty_mark, is_mark, span, range_end, covers}
@@ -24,10 +23,10 @@ unfolding listed_places places_from covers span range_end is_mark empty_mark z_o
 places-example = refl
 
 -- the last two of four numbers, which lie from byte 100 on: they lie from byte 104 on
-own-part-example : (n : GName)
-    → OwnPart (record { ref_ptr = (1, 100); ghost_name = n; now = 5 ∷ 6 ∷ 7 ∷ 8 ∷ [] }) (record { ref_ptr = (1, 104); ghost_name = n; now = 7 ∷ 8 ∷ [] }) (2 ∷ 3 ∷ [])
+own-part-example :
+    OwnPart (record { ref_ptr = (1, 100); now = 5 ∷ 6 ∷ 7 ∷ 8 ∷ [] }) (record { ref_ptr = (1, 104); now = 7 ∷ 8 ∷ [] }) (2 ∷ 3 ∷ [])
 unfolding count_from
-own-part-example n = record { from = 2; memory = refl; byte = refl; within = omega arith; numbers = refl }
+own-part-example = record { from = 2; memory = refl; byte = refl; within = omega arith; numbers = refl }
 
 -- the items at places 1 and 2 of four, and none where the first of them is the mark
 items-example : cell_items (5 ∷ 6 ∷ 7 ∷ 8 ∷ []) 1 3 ∷ cell_items (5 ∷ 65535 ∷ 8 ∷ []) 1 2 ∷ [] ≡ (6 ∷ 7 ∷ []) ∷ [] ∷ []

@@ -13,7 +13,7 @@
 
 ghost use Rattle.std.specs.Prelude.{◌≤◌, length};
 
-use libc::STDIN_FILENO;
+use std::io::Read;
 use test_support::{Lent, State};
 
 // One step on the pairs.
@@ -33,6 +33,8 @@ fn step_pairs(state: State, what: u8, a: usize, b: u32, pairs: &mut [u16]) -> St
 
 // One step on a chart, by its twelve bytes.
 fn step_chart(
+    rt: &impl Print,
+    source: &mut impl Read,
     l: Lent,
     chart: usize,
     s: &[u8],
@@ -50,11 +52,13 @@ fn step_chart(
     let c = test_support::long_at(s, 8);
     if what == 1 {
         let n = test_support::least(a, 3200);
-        return test_changes::run_load(l, chart, n, table, keys, levels, items);
+        return test_changes::run_load(rt, source, l, chart, n, table, keys, levels, items);
     }
     if what >= 10 {
         let none = [0u16; 1];
-        return test_changes::say_change(l, chart, what, &none, b, c, table, keys, levels, items);
+        return test_changes::say_change(
+            rt, l, chart, what, &none, b, c, table, keys, levels, items,
+        );
     }
     if what == 7 {
         return test_support::lend(l, buffer, a);
@@ -68,13 +72,15 @@ fn step_chart(
         test_support::fill(chart, buffer, b, table, keys, levels, items);
     } else {
         let p = test_changes::point(b, c);
-        test_readers::say_answer(l, chart, what, p, table, keys, levels, items);
+        test_readers::say_answer(rt, l, chart, what, p, table, keys, levels, items);
     }
     l
 }
 
 // One step.
 fn step(
+    rt: &impl Print,
+    source: &mut impl Read,
     state: State,
     s: &[u8],
     table: &mut [u16],
@@ -92,22 +98,24 @@ fn step(
         return step_pairs(state, what, a, test_support::long_at(s, 4), pairs);
     }
     if what == 13 {
-        test_readers::say_overlay(state, chart, a % 2, table, keys, levels, items, pairs);
+        test_readers::say_overlay(rt, state, chart, a % 2, table, keys, levels, items, pairs);
         return state;
     }
     if what == 14 {
         let b = test_support::long_at(s, 4);
         let c = test_support::long_at(s, 8);
-        test_readers::say_window(state, chart, b, c, table, keys, levels, items, pairs);
+        test_readers::say_window(rt, state, chart, b, c, table, keys, levels, items, pairs);
         return state;
     }
     let l = test_support::chart_of(state, chart);
-    let after = step_chart(l, chart, s, table, keys, levels, items);
+    let after = step_chart(rt, source, l, chart, s, table, keys, levels, items);
     test_support::with_chart(state, chart, after)
 }
 
 // All steps of the input.
 fn run(
+    rt: &impl Print,
+    source: &mut impl Read,
     table: &mut [u16],
     keys: &mut [u32],
     levels: &mut [u8],
@@ -122,17 +130,26 @@ fn run(
     };
     let mut s = [0u8; 12];
     let mut turns = u64::MAX;
-    while turns > 0 && io::read_full(STDIN_FILENO, &mut s) == 12 {
-        state = step(state, &s, table, keys, levels, items, pairs);
+    while turns > 0 && test_support::read_full(source, &mut s) == 12 {
+        state = step(rt, source, state, &s, table, keys, levels, items, pairs);
         turns -= 1;
     }
 }
 
-fn main() {
+fn main(rt: HostRuntime) {
+    let mut source = rt.reader();
     let mut table = [0u16; 6200];
     let mut keys = [0u32; 33000];
     let mut levels = [0u8; 33000];
     let mut items = [0u16; 33000];
     let mut pairs = [0u16; 8300];
-    run(&mut table, &mut keys, &mut levels, &mut items, &mut pairs);
+    run(
+        &rt,
+        &mut source,
+        &mut table,
+        &mut keys,
+        &mut levels,
+        &mut items,
+        &mut pairs,
+    );
 }

@@ -5,8 +5,8 @@
 ghost use Rattle.std.specs.Prelude.{◌≤◌};
 
 use base_answers::Changed;
-use libc::STDIN_FILENO;
 use spec_plane::Point;
+use std::io::Read;
 use test_support::{Lent, test_prints};
 
 pub fn point(x: u32, y: u32) -> Point {
@@ -78,6 +78,7 @@ fn run_change(
 
 // The same, and its line.
 pub fn say_change(
+    rt: &impl Print,
     l: Lent,
     chart: usize,
     what: u8,
@@ -90,13 +91,15 @@ pub fn say_change(
     items: &mut [u16],
 ) -> Lent {
     let r = run_change(l, chart, what, given, b, c, table, keys, levels, items);
-    test_prints::print_changed(what, r);
-    test_prints::print_sum(chart, table, keys, levels, items);
+    test_prints::print_changed(rt, what, r);
+    test_prints::print_sum(rt, chart, table, keys, levels, items);
     test_support::with_counts(l, r.triangles, r.entries)
 }
 
 // Loads the n numbers that follow in the input.
 pub fn run_load(
+    rt: &impl Print,
+    source: &mut impl Read,
     l: Lent,
     chart: usize,
     n: usize,
@@ -109,8 +112,20 @@ pub fn run_load(
 {
     let mut bytes = [0u8; 6400];
     let size = 2 * n;
-    io::read_full(STDIN_FILENO, &mut bytes[..size]);
+    test_support::read_full(source, &mut bytes[..size]);
     let mut given = [0u16; 3200];
     test_support::decode(&bytes, n, &mut given);
-    say_change(l, chart, 1, &given[..n], 0, 0, table, keys, levels, items)
+    say_change(
+        rt,
+        l,
+        chart,
+        1,
+        &given[..n],
+        0,
+        0,
+        table,
+        keys,
+        levels,
+        items,
+    )
 }

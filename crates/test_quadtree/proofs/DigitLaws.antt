@@ -1,12 +1,11 @@
 -- A number of 64 bits has at most 20 digits.
 -- Assumes nothing.
-use Prim.Native.Nat.{ℕ, ◌-◌, ◌^◌, ◌≤◌, ◌<◌}
+use Rattle.std.proofs.Common.{ℕ, ◌-◌, ◌^◌, ◌≤◌, ◌<◌, arith}
 use native.Mathlib.Nat.{pow-le-pow_right}
 use native.Mathlib.Decide.{dec_le}
-use native.Mathlib.Omega.{arith}
-use Rattle.io.specs.Digits.{IsDigitCount}
 
-pub few-digits : (n r : ℕ) → n < 2 ^ 64 → IsDigitCount 10 1 n r → r ≤ 20
+-- r is the number of the digits of n: at least one, and no more than it takes
+pub few-digits : (n r : ℕ) → n < 2 ^ 64 → (1 ≤ r) × (n < 10 ^ r) × (1 < r → 10 ^ (r - 1) ≤ n) → r ≤ 20
 few-digits n r h f = elim (dec_le r 20) [
   | yes l ↦ l
   | no g ↦

@@ -9,7 +9,9 @@
 ghost use Rattle.std.specs.Prelude.{◌+◌, ◌*◌, ◌≤◌, length};
 ghost use Rattle.spec_charts.specs.Cells.{max_entries};
 
-use libc::{STDIN_FILENO, STDOUT_FILENO};
+use itoa::Buffer;
+use std::io::Read;
+use test_support::test_prints;
 
 // The bytes of a triangle.
 const TRIANGLE_BYTES: usize = 2 * base_tables::TRIANGLE_NUMBERS;
@@ -19,8 +21,9 @@ fn put_number(line: &mut [u8], at: usize, x: u64, after: u8) -> usize
     requires { at + 21 ≤ length line.old }
     ensures { result ≤ at + 21 }
 {
-    let mut text = [0u8; 20];
-    let n = io::decimal(x, &mut text);
+    let mut buffer = Buffer::new();
+    let text = buffer.format(x).as_bytes();
+    let n = text.len();
     let mut k = 0;
     while k < n {
         line[at + k] = text[k];
@@ -31,21 +34,21 @@ fn put_number(line: &mut [u8], at: usize, x: u64, after: u8) -> usize
 }
 
 // Writes a line of three numbers.
-fn print_entry(key: u32, level: u8, item: u16) -> bool {
+fn print_entry(rt: &impl Print, key: u32, level: u8, item: u16) -> bool {
     let mut line = [0u8; 64];
     let a = put_number(&mut line, 0, key as u64, b' ');
     let b = put_number(&mut line, a, level as u64, b' ');
     let c = put_number(&mut line, b, item as u64, b'\n');
-    io::write_all(STDOUT_FILENO, &line[..c])
+    rt.write_all(&line[..c]).is_ok()
 }
 
 // Writes the first n entries.
-fn print_entries(keys: &[u32], levels: &[u8], items: &[u16], n: usize)
+fn print_entries(rt: &impl Print, keys: &[u32], levels: &[u8], items: &[u16], n: usize)
     requires { (n ≤ length keys.now) × ((n ≤ length levels.now) × (n ≤ length items.now)) }
 {
     let mut i = 0;
     while i < n {
-        print_entry(keys[i], levels[i], items[i]);
+        print_entry(rt, keys[i], levels[i], items[i]);
         i += 1;
     }
 }
@@ -64,64 +67,83 @@ fn rest_is_zero(keys: &[u32], levels: &[u8], items: &[u16], n: usize) -> bool
 }
 
 // Builds the entries of a table and writes them.
-fn build_and_print(table: &[u16], keys: &mut [u32], levels: &mut [u8], items: &mut [u16])
+fn build_and_print(
+    rt: &impl Print,
+    table: &[u16],
+    keys: &mut [u32],
+    levels: &mut [u8],
+    items: &mut [u16],
+)
     requires { (max_entries ≤ length keys.old) × ((max_entries ≤ length levels.old) × (max_entries ≤ length items.old)) }
 {
     let m = test_build::build_table(table, keys, levels, items);
     if m > 16385 {
-        io::write_all(STDOUT_FILENO, b"refused\n");
+        test_prints::say(rt, b"refused\n");
         return;
     }
     if m > base_tables::MOST_ENTRIES {
-        io::write_all(STDOUT_FILENO, b"over\n");
+        test_prints::say(rt, b"over\n");
         return;
     }
-    io::print_decimal(STDOUT_FILENO, m as u64);
-    io::write_all(STDOUT_FILENO, b"\n");
-    print_entries(keys, levels, items, m);
+    let _ = rt.print(m as u64);
+    test_prints::say(rt, b"\n");
+    print_entries(rt, keys, levels, items, m);
     if !rest_is_zero(keys, levels, items, m) {
-        io::write_all(STDOUT_FILENO, b"the rest is not 0\n");
+        test_prints::say(rt, b"the rest is not 0\n");
     }
 }
 
 // Reads a table and builds its entries; answers whether there was one.
-fn next_table(keys: &mut [u32], levels: &mut [u8], items: &mut [u16]) -> bool
+fn next_table(
+    rt: &impl Print,
+    source: &mut impl Read,
+    keys: &mut [u32],
+    levels: &mut [u8],
+    items: &mut [u16],
+) -> bool
     requires { (max_entries ≤ length keys.old) × ((max_entries ≤ length levels.old) × (max_entries ≤ length items.old)) }
 {
     let mut count = [0u8; 2];
-    if io::read_full(STDIN_FILENO, &mut count) < 2 {
+    if test_support::read_full(source, &mut count) < 2 {
         return false;
     }
     let n = test_support::short_at(&count, 0) as usize;
     if n > base_tables::MOST_TRIANGLES {
-        io::write_all(STDOUT_FILENO, b"refused\n");
+        test_prints::say(rt, b"refused\n");
         return false;
     }
     let mut bytes = [0u8; TRIANGLE_BYTES * base_tables::MOST_TRIANGLES];
     let length = TRIANGLE_BYTES * n;
-    if io::read_full(STDIN_FILENO, &mut bytes[..length]) < length {
+    if test_support::read_full(source, &mut bytes[..length]) < length {
         return false;
     }
     let mut table = [0u16; base_tables::TABLE_NUMBERS];
     let numbers = base_tables::TRIANGLE_NUMBERS * n;
     test_support::decode(&bytes, numbers, &mut table);
-    build_and_print(&table[..numbers], keys, levels, items);
+    build_and_print(rt, &table[..numbers], keys, levels, items);
     true
 }
 
 // The lists go from table to table, so that each build finds the entries of the one before.
-fn build_all(keys: &mut [u32], levels: &mut [u8], items: &mut [u16])
+fn build_all(
+    rt: &impl Print,
+    source: &mut impl Read,
+    keys: &mut [u32],
+    levels: &mut [u8],
+    items: &mut [u16],
+)
     requires { (max_entries ≤ length keys.old) × ((max_entries ≤ length levels.old) × (max_entries ≤ length items.old)) }
 {
     let mut turns = u64::MAX;
-    while turns > 0 && next_table(keys, levels, items) {
+    while turns > 0 && next_table(rt, source, keys, levels, items) {
         turns -= 1;
     }
 }
 
-fn main() {
+fn main(rt: HostRuntime) {
+    let mut source = rt.reader();
     let mut keys = [7u32; base_tables::MOST_ENTRIES];
     let mut levels = [7u8; base_tables::MOST_ENTRIES];
     let mut items = [7u16; base_tables::MOST_ENTRIES];
-    build_all(&mut keys, &mut levels, &mut items);
+    build_all(&rt, &mut source, &mut keys, &mut levels, &mut items);
 }

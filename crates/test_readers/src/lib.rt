@@ -8,28 +8,39 @@ use spec_plane::Point;
 use test_support::{Lent, State, test_prints};
 
 // A call that reads the chart of lent buffers with n triangles and m entries.
-fn answer(what: u8, t: &[u16], k: &[u32], v: &[u8], i: &[u16], n: usize, m: usize, p: Point) {
+fn answer(
+    rt: &impl Print,
+    what: u8,
+    t: &[u16],
+    k: &[u32],
+    v: &[u8],
+    i: &[u16],
+    n: usize,
+    m: usize,
+    p: Point,
+) {
     if what == 2 {
-        test_prints::say(b"locate");
-        test_prints::print_located(call_locate::locate(t, k, v, i, n, m, p));
+        test_prints::say(rt, b"locate");
+        test_prints::print_located(rt, call_locate::locate(t, k, v, i, n, m, p));
         return;
     }
     if what == 3 {
-        test_prints::say(b"listing");
-        test_prints::print_list(call_locate::cell_listing(t, k, v, i, n, m, p));
+        test_prints::say(rt, b"listing");
+        test_prints::print_list(rt, call_locate::cell_listing(t, k, v, i, n, m, p));
         return;
     }
     if what == 4 {
-        test_prints::say(b"sound");
-        test_prints::print_soundness(call_soundness::soundness(t, k, v, i, n, m));
+        test_prints::say(rt, b"sound");
+        test_prints::print_soundness(rt, call_soundness::soundness(t, k, v, i, n, m));
         return;
     }
-    test_prints::say(b"area");
-    test_prints::print_area(call_area::doubled_area(t, k, v, i, n, m));
+    test_prints::say(rt, b"area");
+    test_prints::print_area(rt, call_area::doubled_area(t, k, v, i, n, m));
 }
 
 // The same of a chart in the buffers of both, and its line.
 pub fn say_answer(
+    rt: &impl Print,
     l: Lent,
     chart: usize,
     what: u8,
@@ -43,8 +54,8 @@ pub fn say_answer(
     let k = test_support::lent_keys(keys, chart, l.keys);
     let v = test_support::lent_levels(levels, chart, l.levels);
     let i = test_support::lent_shorts(items, chart, test_support::LIST, l.items);
-    answer(what, t, k, v, i, l.triangles, l.entries, p);
-    test_prints::print_sum(chart, table, keys, levels, items);
+    answer(rt, what, t, k, v, i, l.triangles, l.entries, p);
+    test_prints::print_sum(rt, chart, table, keys, levels, items);
 }
 
 // The overlay of two charts in the buffers of both.
@@ -78,6 +89,7 @@ fn overlay_of(
 
 // The overlay of charts i and j, and its line.
 pub fn say_overlay(
+    rt: &impl Print,
     state: State,
     i: usize,
     j: usize,
@@ -90,19 +102,12 @@ pub fn say_overlay(
     let n = test_support::least(state.pairs, pairs.len());
     let a = test_support::chart_of(state, i);
     let b = test_support::chart_of(state, j);
-    test_prints::print_overlaid(overlay_of(
-        a,
-        i,
-        b,
-        j,
-        table,
-        keys,
-        levels,
-        items,
-        &mut pairs[0..n],
-    ));
-    test_prints::print(test_support::sum_all(table, keys, levels, items, pairs));
-    test_prints::say(b"\n");
+    test_prints::print_overlaid(
+        rt,
+        overlay_of(a, i, b, j, table, keys, levels, items, &mut pairs[0..n]),
+    );
+    test_prints::print(rt, test_support::sum_all(table, keys, levels, items, pairs));
+    test_prints::say(rt, b"\n");
 }
 
 // The window with two sides in b and two in c, the first of each its lower half.
@@ -117,6 +122,7 @@ fn window_of(b: u32, c: u32) -> Bounds {
 
 // A window of a chart in the buffers of both, listed in the pairs, and its line.
 pub fn say_window(
+    rt: &impl Print,
     state: State,
     chart: usize,
     b: u32,
@@ -133,16 +139,19 @@ pub fn say_window(
     let k = test_support::lent_keys(keys, chart, l.keys);
     let v = test_support::lent_levels(levels, chart, l.levels);
     let i = test_support::lent_shorts(items, chart, test_support::LIST, l.items);
-    test_prints::print_windowed(call_window::window(
-        t,
-        k,
-        v,
-        i,
-        l.triangles,
-        l.entries,
-        window_of(b, c),
-        &mut pairs[0..n],
-    ));
-    test_prints::print(test_support::sum_all(table, keys, levels, items, pairs));
-    test_prints::say(b"\n");
+    test_prints::print_windowed(
+        rt,
+        call_window::window(
+            t,
+            k,
+            v,
+            i,
+            l.triangles,
+            l.entries,
+            window_of(b, c),
+            &mut pairs[0..n],
+        ),
+    );
+    test_prints::print(rt, test_support::sum_all(table, keys, levels, items, pairs));
+    test_prints::say(rt, b"\n");
 }

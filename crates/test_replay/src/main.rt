@@ -10,30 +10,31 @@
 
 ghost use Rattle.std.specs.Prelude.{◌≤◌, length};
 
-use libc::STDIN_FILENO;
 use replay::ReplayAnswer;
+use std::io::Read;
 use test_support::test_prints;
 
 // The most numbers of a list.
 const LONGEST: usize = 4096;
 
-fn print_answer(r: ReplayAnswer) {
+fn print_answer(rt: &impl Print, r: ReplayAnswer) {
     let overlaid = r.overlaid;
     let verdict = overlaid.verdict;
     let first = r.first;
     let second = r.second;
-    test_prints::say(b"replay");
-    test_prints::print(base_answers::verdict_number(verdict) as u64);
-    test_prints::print(overlaid.pairs as u64);
-    test_prints::print(overlaid.meetings as u64);
-    test_prints::print(first.triangles as u64);
-    test_prints::print(first.entries as u64);
-    test_prints::print(second.triangles as u64);
-    test_prints::print(second.entries as u64);
+    test_prints::say(rt, b"replay");
+    test_prints::print(rt, base_answers::verdict_number(verdict) as u64);
+    test_prints::print(rt, overlaid.pairs as u64);
+    test_prints::print(rt, overlaid.meetings as u64);
+    test_prints::print(rt, first.triangles as u64);
+    test_prints::print(rt, first.entries as u64);
+    test_prints::print(rt, second.triangles as u64);
+    test_prints::print(rt, second.entries as u64);
 }
 
 // Runs a case on buffers, and prints its line.
 fn run_on(
+    rt: &impl Print,
     calls0: &[u16],
     calls1: &[u16],
     table0: &mut [u16],
@@ -50,15 +51,15 @@ fn run_on(
         calls0, table0, keys0, levels0, items0, 513, 70000, calls1, table1, keys1, levels1, items1,
         7, 20000, pairs,
     );
-    print_answer(r);
+    print_answer(rt, r);
     let first = test_support::sum_chart(0, table0, keys0, levels0, items0, 0);
     let both = test_support::sum_chart(0, table1, keys1, levels1, items1, first);
-    test_prints::print(test_support::sum_shorts(pairs, 0, pairs.len(), both));
-    test_prints::say(b"\n");
+    test_prints::print(rt, test_support::sum_shorts(pairs, 0, pairs.len(), both));
+    test_prints::say(rt, b"\n");
 }
 
 // Runs a case on buffers of its own.
-fn run_case(calls0: &[u16], calls1: &[u16]) {
+fn run_case(rt: &impl Print, calls0: &[u16], calls1: &[u16]) {
     let mut table0 = [21u16; 3080];
     let mut keys0 = [22u32; 16390];
     let mut levels0 = [23u8; 16390];
@@ -69,6 +70,7 @@ fn run_case(calls0: &[u16], calls1: &[u16]) {
     let mut items1 = [34u16; 16390];
     let mut pairs = [41u16; 8200];
     run_on(
+        rt,
         calls0,
         calls1,
         &mut table0,
@@ -84,11 +86,11 @@ fn run_case(calls0: &[u16], calls1: &[u16]) {
 }
 
 // Reads a list and answers its length, or more than the longest where there is none.
-fn read_list(list: &mut [u16]) -> usize
+fn read_list(source: &mut impl Read, list: &mut [u16]) -> usize
     requires { 4096 ≤ length list.old }
 {
     let mut count = [0u8; 2];
-    if io::read_full(STDIN_FILENO, &mut count) < 2 {
+    if test_support::read_full(source, &mut count) < 2 {
         return LONGEST + 1;
     }
     let n = test_support::short_at(&count, 0) as usize;
@@ -97,7 +99,7 @@ fn read_list(list: &mut [u16]) -> usize
     }
     let mut bytes = [0u8; 8192];
     let size = 2 * n;
-    if io::read_full(STDIN_FILENO, &mut bytes[..size]) < size {
+    if test_support::read_full(source, &mut bytes[..size]) < size {
         return LONGEST + 1;
     }
     test_support::decode(&bytes, n, list);
@@ -105,24 +107,25 @@ fn read_list(list: &mut [u16]) -> usize
 }
 
 // Reads a case and runs it; answers whether there was one.
-fn next_case() -> bool {
+fn next_case(rt: &impl Print, source: &mut impl Read) -> bool {
     let mut calls0 = [0u16; 4096];
     let mut calls1 = [0u16; 4096];
-    let n0 = read_list(&mut calls0);
+    let n0 = read_list(source, &mut calls0);
     if n0 > LONGEST {
         return false;
     }
-    let n1 = read_list(&mut calls1);
+    let n1 = read_list(source, &mut calls1);
     if n1 > LONGEST {
         return false;
     }
-    run_case(&calls0[..n0], &calls1[..n1]);
+    run_case(rt, &calls0[..n0], &calls1[..n1]);
     true
 }
 
-fn main() {
+fn main(rt: HostRuntime) {
+    let mut source = rt.reader();
     let mut turns = u64::MAX;
-    while turns > 0 && next_case() {
+    while turns > 0 && next_case(&rt, &mut source) {
         turns -= 1;
     }
 }

@@ -8,6 +8,8 @@ pub mod test_prints;
 
 ghost use Rattle.std.specs.Prelude.{◌+◌, ◌*◌, ◌≤◌, ◌<◌, length};
 
+use std::io::Read;
+
 // Places of a chart's table, of each of its lists, and of the pairs; the asked lengths are a little shorter.
 pub const TABLE: usize = 3100;
 
@@ -163,6 +165,31 @@ pub fn size_of(buffer: u8) -> usize
         return TABLE;
     }
     LIST
+}
+
+// Reads what is there, at most the buffer; answers how many bytes, 0 where the input ends or the read fails.
+fn read_some(source: &mut impl Read, buffer: &mut [u8]) -> usize
+    ensures { result ≤ length buffer.new }
+{
+    match source.read(buffer) {
+        Ok(n) => n,
+        Err(_) => 0,
+    }
+}
+
+// Reads until the buffer is full, the input ends or a read fails; answers how many bytes.
+pub fn read_full(source: &mut impl Read, buffer: &mut [u8]) -> usize
+    ensures { result ≤ length buffer.new }
+{
+    let mut done = 0;
+    while done < buffer.len() {
+        let n = read_some(source, &mut buffer[done..]);
+        if n == 0 {
+            break;
+        }
+        done += n;
+    }
+    done
 }
 
 pub fn short_at(s: &[u8], k: usize) -> u16

@@ -1,0 +1,18 @@
+-- Every triangle before i has D > 0, so the first that has not is the lowest.
+use mathlib.Core.Path.{◌≡◌, sym, ◌∙◌, ap}
+use mathlib.Core.Bool.{true}
+use Prim.Native.Nat.{ℕ, ◌≤◌, ◌<◌, ◌-◌}
+use native.Mathlib.Omega.{arith}
+use borrow.Author.Rules.{rules}
+use borrow.Author.Count.{below_none, below_more}
+use borrow.Author.Tests.{not-true, not-false}
+use Rattle.spec_plane.specs.Triangle.{proper, triangle_of, corner_at}
+use Rattle.spec_charts.specs.Table.{triangle_at}
+use Rattle.call_load.proofs.FaultyLaws.{faulty-found}
+use Rattle.call_load.proofs.load_checks.first_faulty.Given as goal
+
+abbrev pub invariant-loop-i : goal.invariant-loop-i
+invariant-loop-i l = (l.i ≤ l.n) × ((k : ℕ) → k < l.i → proper (triangle_at l.table k) ≡ true)
+
+abbrev pub decreases-loop-i : goal.decreases-loop-i
+decreases-loop-i l = l.n - l.i

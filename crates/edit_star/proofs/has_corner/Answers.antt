@@ -1,0 +1,10 @@
+use mathlib.Core.Path.{ap₂}
+use mathlib.Core.Bool.{◌||◌}
+use Rattle.spec_plane.specs.Triangle.{triangle_of, corner_at}
+use Rattle.spec_charts.specs.Edits.{has_corner}
+use Rattle.edit_star.proofs.has_corner.Goals as goal
+
+pub returns : goal.returns
+unfolding has_corner triangle_of corner_at
+returns c =
+    ap₂ ◌||◌ (ap₂ ◌||◌ c.same_point.ensures c.same_point-2.ensures) c.same_point-3.ensures
