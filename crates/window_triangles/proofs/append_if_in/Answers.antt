@@ -1,14 +1,12 @@
-use mathlib.Core.Path.{◌≡◌, refl, sym, ◌∙◌, ap, ap₂}
+use mathlib.Core.Path.{◌≡◌, sym, ◌∙◌, ap, ap₂}
 use mathlib.Core.Bool.{Bool, true, false, not, cond, ◌&&◌}
 use Prim.Native.Nat.{ℕ, ◌+◌}
 use native.Mathlib.Omega.{arith}
-use lib.ListN.{get_or}
 use Rattle.spec_plane.specs.Triangle.{triangle_of, corner_at, proper}
 use Rattle.spec_plane.specs.Box.{triangle_meets}
 use Rattle.spec_charts.specs.Table.{triangle_at}
 use Rattle.laws_charts.proofs.ProperLaws.{proper-at}
 use Rattle.base_geometry.specs.Bounds.{bounds_box}
-use borrow.Author.Rules.{rules}
 use Rattle.window_triangles.proofs.append_if_in.Goals as goal
 
 -- the answer, by the mark and the test
@@ -28,7 +26,8 @@ unfolding triangle_of corner_at
 returns-then-meets-clause-value c =
     let a = c.args in
     let tested : c.meets.result ≡ triangle_meets (triangle_at a.table.now a.i) (bounds_box a.w) =
-    c.meets.ensures ∙ ap (λ t. triangle_meets (triangle_of t) (bounds_box c.args.w)) c.triangle_at.ensures in
+    c.meets.ensures ∙ ap (λ t. triangle_meets (triangle_of t) (bounds_box a.w)) c.triangle_at.ensures
+    in
     counted a.c true true c.if-not-near-i.false (sym tested ∙ c.if-meets.true)
 
 pub returns-else-meets-clause-value : goal.returns-else-meets-clause-value
@@ -36,5 +35,6 @@ unfolding triangle_of corner_at
 returns-else-meets-clause-value c =
     let a = c.args in
     let tested : c.meets.result ≡ triangle_meets (triangle_at a.table.now a.i) (bounds_box a.w) =
-    c.meets.ensures ∙ ap (λ t. triangle_meets (triangle_of t) (bounds_box c.args.w)) c.triangle_at.ensures in
+    c.meets.ensures ∙ ap (λ t. triangle_meets (triangle_of t) (bounds_box a.w)) c.triangle_at.ensures
+    in
     counted a.c true false c.if-not-near-i.false (sym tested ∙ c.if-meets.false)

@@ -1,11 +1,9 @@
 -- Of the first i triangles, those that are in the window are listed.
-use mathlib.Core.Path.{◌≡◌, refl, subst}
-use Prim.Native.Nat.{◌+◌, ◌-◌, ◌≤◌}
+use Prim.Native.Nat.{◌+◌}
 use native.Mathlib.Omega.{arith}
 use Rattle.base_geometry.specs.Bounds.{bounds_box}
-use Rattle.window_triangles.specs.Listed.{is_in, Listed}
+use Rattle.window_triangles.specs.Listed.{is_in}
 use Rattle.window_triangles.proofs.ListedLaws.{listable-fewer, listed-none, listed_more}
-use borrow.Author.Rules.{rules}
 use Rattle.window_triangles.proofs.list_window.Goals as goal
 
 pub loop-i-init : goal.loop-i-init
@@ -28,8 +26,3 @@ loop-i-preserved c =
       omega arith,
       listed_more (is_in a.table.now (bounds_box a.w) a.near.now) a.list.now l.invariant.1 (omega (arith, c.requires.0.drawn.few)) c.requires.1 _ call.result call.ensures.list_after call.ensures.value,
     )
-
--- TODO no goal for same-length
--- same_length : tie.Need-same-length
--- same_length c =
---     c.loop-i.invariant.1.same

@@ -1,11 +1,7 @@
 -- Of the first i triangles, those that are in the window are listed.
-use mathlib.Core.Path.{◌≡◌, refl, subst}
-use Prim.Native.Nat.{◌+◌, ◌-◌, ◌≤◌}
-use native.Mathlib.Omega.{arith}
+use Prim.Native.Nat.{◌-◌, ◌≤◌}
 use Rattle.base_geometry.specs.Bounds.{bounds_box}
 use Rattle.window_triangles.specs.Listed.{is_in, Listed}
-use Rattle.window_triangles.proofs.ListedLaws.{listable-fewer, listed-none, listed_more}
-use borrow.Author.Rules.{rules}
 use Rattle.window_triangles.proofs.list_window.Given as goal
 
 abbrev pub invariant-loop-i : goal.invariant-loop-i

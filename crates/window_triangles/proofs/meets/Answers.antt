@@ -1,10 +1,9 @@
 -- A triangle with a corner in the window meets it.
-use mathlib.Core.Path.{◌≡◌, sym, ◌∙◌, ap₂}
-use mathlib.Core.Bool.{true, ◌||◌}
+use mathlib.Core.Path.{sym, ◌∙◌, ap₂}
+use mathlib.Core.Bool.{◌||◌}
 use Rattle.spec_plane.specs.Triangle.{triangle_of, corner_at}
 use Rattle.base_geometry.specs.Bounds.{bounds_box}
 use Rattle.window_triangles.proofs.CornerLaws.{corner-meets}
-use borrow.Author.Rules.{rules}
 use Rattle.window_triangles.proofs.meets.Goals as goal
 
 pub returns-then-is_within : goal.returns-then-is_within

@@ -1,6 +1,5 @@
 use Rattle.spec_plane.specs.Triangle.{triangle_of, corner_at}
 use Rattle.spec_plane.specs.Box.{apart, triangle_meets}
-use borrow.Author.Rules.{rules}
 use Rattle.window_triangles.proofs.meets_box.Goals as goal
 
 pub returns : goal.returns
