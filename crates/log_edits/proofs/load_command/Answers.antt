@@ -1,12 +1,12 @@
 -- With the command and their number before them the waiting numbers are the call that loads them.
-use mathlib.Core.Path.{◌≡◌, sym, subst}
-use mathlib.Core.List.{[], ◌∷◌}
+use mathlib.Core.Path.{sym, subst}
+use mathlib.Core.List.{[]}
 use Prim.Native.Nat.{◌+◌}
 use native.Mathlib.Omega.{arith}
-use lib.ListN.{take, set, length-set}
+use lib.ListN.{take, set}
 use Rattle.spec_log.specs.Log.{with_waiting}
 use Rattle.replay_calls.specs.Encoding.{IsCall}
-use Rattle.log_waiting.specs.Waiting.{call_head, waiting_in}
+use Rattle.log_waiting.specs.Waiting.{call_head}
 use Rattle.log_edits.proofs.EditLaws.{load-numbers, load-call, charts-emptied, load-ran}
 use Rattle.log_edits.proofs.load_command.Goals as goal
 

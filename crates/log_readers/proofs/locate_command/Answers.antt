@@ -1,5 +1,3 @@
-use native.Mathlib.Omega.{arith}
-use borrow.Author.Rules.{rules}
 use Rattle.log_lines.proofs.LineLaws.{wrote_as}
 use Rattle.log_readers.proofs.ReaderCommandLaws.{locate-printed}
 use Rattle.log_readers.proofs.locate_command.Goals as goal

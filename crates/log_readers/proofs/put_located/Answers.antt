@@ -1,7 +1,6 @@
 -- The position stands after the triangle, or 65535 alone.
 use mathlib.Core.Path.{sym, ◌∙◌, ap}
 use native.Mathlib.Omega.{arith}
-use borrow.Author.Rules.{rules}
 use Rattle.spec_plane.specs.Position.{position_number}
 use Rattle.log_lines.proofs.LineLaws.{wrote_as}
 use Rattle.log_events.proofs.EventLaws.{room-three, room-four}

@@ -1,7 +1,6 @@
 -- What is printed goes by the number of the answer.
 use mathlib.Core.Path.{refl}
 use native.Mathlib.Omega.{arith}
-use borrow.Author.Rules.{rules}
 use Rattle.base_answers.specs.Outcomes.{overlaid_of}
 use Rattle.log_lines.proofs.LineLaws.{wrote_as, wrote-join, wrote-length}
 use Rattle.log_events.proofs.EventLaws.{room-two, room-four}
