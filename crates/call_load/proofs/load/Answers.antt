@@ -1,14 +1,11 @@
 -- Judged, then stored: nothing is written before the store.
-use mathlib.Core.Path.{◌≡◌, sym, ◌∙◌, ap}
+use mathlib.Core.Path.{◌≡◌, ◌∙◌}
 use mathlib.Core.Bool.{true}
 use native.Mathlib.Omega.{arith}
-use borrow.Author.Rules.{rules}
 use Rattle.spec_charts.specs.Refusals.{done}
 use Rattle.spec_charts.specs.Edits.{given_table}
-use Rattle.spec_calls.specs.Buffers.{Chart}
 use Rattle.spec_calls.specs.Calls.{changed_by}
 use Rattle.spec_calls.specs.Lent.{held_mut}
-use Rattle.base_answers.specs.Outcomes.{verdict_outcome}
 use Rattle.call_load.proofs.LoadLaws.{judged_load, load-refused, load-judged, load-accepted, load-rest}
 use Rattle.call_load.proofs.load.Goals as goal
 

@@ -9,19 +9,17 @@ use Rattle.edit_star.proofs.next_around.Goals as goal
 -- the test is of the table's triangle i
 pub returns-then-has_corner : goal.returns-then-has_corner
 returns-then-has_corner c =
-    let tested : let a = c.args in c.has_corner.result ≡ has_corner a.p (triangle_at a.table.now c.loop-i.i) =
     let a = c.args in
+    let tested : c.has_corner.result ≡ has_corner a.p (triangle_at a.table.now c.loop-i.i) =
     c.has_corner.ensures ∙ ap (has_corner a.p) (triangle-read (triangle_at a.table.now c.loop-i.i) c.triangle_at.ensures) in
-    let a = c.args in
     skipped-found a.p a.table.now a.n c.loop-i.invariant c.loop-i-test.true (sym tested ∙ c.if-has_corner.true)
 
 -- the test is of the table's triangle i
 pub loop-i-preserved : goal.loop-i-preserved
 loop-i-preserved c =
-    let tested : let a = c.args in c.has_corner.result ≡ has_corner a.p (triangle_at a.table.now c.loop-i.i) =
     let a = c.args in
+    let tested : c.has_corner.result ≡ has_corner a.p (triangle_at a.table.now c.loop-i.i) =
     c.has_corner.ensures ∙ ap (has_corner a.p) (triangle-read (triangle_at a.table.now c.loop-i.i) c.triangle_at.ensures) in
-    let a = c.args in
     skipped-next a.p a.table.now a.n c.loop-i.invariant c.loop-i-test.true (sym tested ∙ c.if-has_corner.false)
 
 pub returns : goal.returns

@@ -2,7 +2,6 @@
 use mathlib.Core.Path.{◌≡◌, sym, ◌∙◌, ap}
 use mathlib.Core.Bool.{true, false}
 use native.Mathlib.Omega.{arith}
-use borrow.Author.Rules.{rules}
 use Rattle.spec_charts.specs.Refusals.{done, and_then}
 use Rattle.spec_charts.specs.Edits.{within_limit}
 use Rattle.laws_charts.proofs.CountedLaws.{event-limited}
@@ -12,7 +11,6 @@ use Rattle.spec_calls.specs.Lent.{held_mut}
 use Rattle.laws_calls.proofs.BufferLaws.{rule-drawn}
 use Rattle.laws_calls.proofs.JudgeLaws.{indexed-passed}
 use Rattle.laws_calls.proofs.EditCalls.{edit-judged, edit-refused}
-use Rattle.base_answers.specs.Outcomes.{verdict_outcome}
 use Rattle.edit_steps.specs.Edit.{event_of}
 use Rattle.edit_steps.proofs.MadeLaws.{made-drawn}
 use Rattle.call_edits.proofs.chart_edit.edit_chart.Goals as goal

@@ -1,13 +1,8 @@
 -- Every triangle before i has D > 0, so the first that has not is the lowest.
 use mathlib.Core.Path.{◌≡◌, sym, ◌∙◌, ap}
-use mathlib.Core.Bool.{true}
-use Prim.Native.Nat.{ℕ, ◌≤◌, ◌<◌, ◌-◌}
 use native.Mathlib.Omega.{arith}
-use borrow.Author.Rules.{rules}
-use borrow.Author.Count.{below_none, below_more}
-use borrow.Author.Tests.{not-true, not-false}
+use borrow.Author.Count.{below_more}
 use Rattle.spec_plane.specs.Triangle.{proper, triangle_of, corner_at}
-use Rattle.spec_charts.specs.Table.{triangle_at}
 use Rattle.call_load.proofs.FaultyLaws.{faulty-found}
 use Rattle.call_load.proofs.load_checks.first_faulty.Goals as goal
 

@@ -1,7 +1,6 @@
 use mathlib.Core.Path.{sym, ◌∙◌, ap}
 use mathlib.Core.Bool.{Bool, true}
 use native.Mathlib.Omega.{arith}
-use borrow.Author.Rules.{rules}
 use Rattle.spec_charts.specs.declared.Refusal.TheVariants.{FaultyTriangle}
 use Rattle.spec_charts.specs.Refusals.{Outcome, refused, done, and_then}
 use Rattle.spec_charts.specs.Table.{Table}

@@ -1,5 +1,4 @@
 use mathlib.Core.Path.{sym, ◌∙◌}
-use borrow.Author.Rules.{rules}
 use Rattle.spec_charts.specs.Refusals.{refuse_if}
 use Rattle.spec_calls.specs.Calls.{if_long}
 use Rattle.call_load.proofs.load_checks.judge_load.Goals as goal
