@@ -11,7 +11,6 @@ use Rattle.theory_lists.proofs.EveryLaws.{every-nil}
 use Rattle.spec_charts.specs.Refusals.{outcome_number, outcome_value, done_or}
 use Rattle.spec_charts.specs.Edits.{Event, event_on}
 use Rattle.spec_calls.specs.Buffers.{Chart}
-use Rattle.spec_calls.specs.Calls.{Changed}
 use Rattle.spec_calls.specs.History.{event_call}
 use Rattle.spec_log.specs.Log.{State, line, table_in, with_chart, event_numbers, event_step}
 use Rattle.base_answers.specs.declared.Changed as answers

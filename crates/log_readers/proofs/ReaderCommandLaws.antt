@@ -1,21 +1,18 @@
 -- Commands 6 and 7 on charts that hold the tables of a state: what they print.
 -- Assumes nothing.
-use mathlib.Core.Path.{◌≡◌, refl, sym, ◌∙◌, ap, ap₂}
+use mathlib.Core.Path.{◌≡◌, refl, sym, ◌∙◌, ap}
 use mathlib.Core.Bool.{Bool, true, false, true≢false}
 use mathlib.Core.List.{List, [], ◌∷◌, ◌++◌}
-use mathlib.Core.Option.{Option, none, some}
-use Prim.Native.Nat.{ℕ, zero, suc, ◌^◌, ◌≤◌, ◌<◌}
+use Prim.Native.Nat.{ℕ, zero, suc, ◌≤◌}
 use native.Mathlib.Omega.{arith}
 use borrow.Author.Tests.{ltb-false, eq-eqb, ne_eqb}
 use lib.Dec.{ltb}
 use lib.ListN.{length}
-use Rattle.theory_lists.proofs.ListsLaws.{every-cons}
-use Rattle.theory_lists.proofs.EveryLaws.{every-nil}
 use Rattle.spec_plane.specs.declared.Point.{Point}
 use Rattle.spec_plane.specs.Position.{position_number}
 use Rattle.spec_charts.specs.declared.Refusal.{Refusal}
 use Rattle.spec_charts.specs.declared.Refusal.TheVariants.{TooManyPairs}
-use Rattle.spec_charts.specs.Refusals.{Outcome, done, refuse_if, outcome_number}
+use Rattle.spec_charts.specs.Refusals.{Outcome, done, refuse_if}
 use Rattle.spec_charts.specs.Overlay.{Pair, OverlayAnswer, pairs_listed, overlay_of, within_pairs, max_pairs}
 use Rattle.spec_calls.specs.Buffers.{Chart, chart_table, chart_entries, pairs_length}
 use Rattle.spec_calls.specs.Calls.{locate_call, overlay_call, overlaid_by}
@@ -25,7 +22,6 @@ use Rattle.base_answers.specs.declared.Located.{Located}
 use Rattle.base_answers.specs.declared.Located.TheVariants as locations
 use Rattle.base_answers.specs.Outcomes.{located_of, found_number, is_found}
 use Rattle.log_lines.specs.Bytes.{pair_lines}
-use Rattle.log_lines.proofs.LineLaws.{line-short}
 use Rattle.log_state.specs.State.{Charts, chart_in, located_line, overlaid_lines}
 use Rattle.log_state.proofs.HoldingLaws.{locate-told, overlay-told}
 

@@ -6,12 +6,11 @@ use mathlib.Core.Path.{◌≡◌, refl, sym, ◌∙◌, ap, ap₂}
 use mathlib.Core.Bool.{Bool, true, false, not, ◌||◌}
 use mathlib.Core.List.{[], ◌∷◌, map}
 use Prim.Native.Nat.{ℕ, zero, suc, ◌+◌, ◌*◌, ◌-◌, ◌/◌, ◌%◌, ◌^◌, ◌≤◌, ◌<◌}
-use native.Mathlib.Nat.{zero-add, zero-div, zero-mod, div-add-mod', mod-eq_of_lt, add-mul-mod_self_left}
+use native.Mathlib.Nat.{zero-div, div-add-mod', mod-eq_of_lt, add-mul-mod_self_left}
 use native.Mathlib.Decide.{dec_le}
 use native.Mathlib.Omega.{arith}
 use lib.Bits.{bit_and, bit_or, and_mask, and_zero_r, or_shifted, or_lt}
 use lib.Dec.{T, ltb, ltb→lt, lt→ltb}
-use lib.ListN.{length}
 use lib.Pow.{pow_pos, pow_mono}
 use Rattle.theory_lists.specs.Lists.{count_from, up_to}
 use Rattle.theory_lists.proofs.Reflects.{test-false}

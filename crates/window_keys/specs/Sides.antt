@@ -1,6 +1,6 @@
 -- A window's sides as keys of one coordinate, and cells that lie beyond one of them by the bits of their keys.
 -- Assumes nothing.
-use Rattle.std.specs.Prelude.{Bool, ◌||◌, [], ◌∷◌, ℕ, ◌-◌, ltb}
+use Rattle.std.specs.Prelude.{Bool, ◌||◌, ℕ, ◌-◌, ltb}
 use Rattle.std.specs.Int.Bits.{bit_and, bit_or}
 use Rattle.theory_orthtree.specs.Entries.{span}
 use Rattle.spec_plane.specs.Box.{Box}

@@ -1,11 +1,11 @@
 -- A triangle with a corner in a box meets it: a triangle with D > 0 holds its own corners.
 -- Assumes nothing.
-use mathlib.Core.Path.{◌≡◌, refl}
-use mathlib.Core.Bool.{Bool, true, false, ◌&&◌, ◌||◌}
+use mathlib.Core.Path.{◌≡◌}
+use mathlib.Core.Bool.{Bool, true, false, ◌||◌}
 use native.Mathlib.Omega.{arith}
-use lib.Dec.{T, leb, ltb→lt, leb→le, le→leb}
-use Prim.Native.Nat.{ℕ, ◌≤◌}
-use Rattle.theory_lists.proofs.Reflects.{reflects-and, reflects-leb, reflects-or, test-true}
+use lib.Dec.{T, ltb→lt}
+use Prim.Native.Nat.{◌≤◌}
+use Rattle.theory_lists.proofs.Reflects.{reflects-and, reflects-leb, test-true}
 use Rattle.spec_plane.specs.declared.Point.{Point}
 use Rattle.spec_plane.specs.Triangle.{Triangle, proper, holds}
 use Rattle.spec_plane.specs.Box.{Box, triangle_meets}

@@ -7,8 +7,3 @@ pub loop-k-preserved : goal.loop-k-preserved
 loop-k-preserved c =
     let a = c.args in
     storing-next a.head a.stack.now a.out.now a.from a.to a.at c.loop-k.invariant (omega arith) (omega arith) c.wide.ensures.0
-
--- TODO no goal for same-length
--- same_length : tie.Need-same-length
--- same_length c =
---     c.loop-k.invariant.copied.kept
