@@ -40,6 +40,9 @@ import streams
 import tables
 from engines import MODEL, ROOT, model_lines
 
+sys.path.insert(0, ROOT)
+from frontend import numbers
+
 PROGRAM = sys.argv[1:]
 DISPLAY = os.path.join(ROOT, "target", "bin", "helm-display")
 CHECKED = os.path.join(ROOT, "target", "display", "helm-display")
@@ -496,7 +499,7 @@ def check_refused_windows(folder):
     for refused, more in (("", []), ("0", ["--cells"]), ("1", ["--night"]), ("01", ["--sheet"]), ("01", ["--sheet", "--cells"])):
         done = run(*words, *more, program=program, REFUSED=refused)
         report, charts = json.loads(done.stdout), [CHARTS[int(c)] for c in refused]
-        told = "refused 2: counts, table or entries break the chain rule; the plan is drawn without it"
+        told = f"refused 2: {numbers.NUMBERS[2].says}; the plan is drawn without it"
         said = "".join(f"helm-display: window {chart}: {told}\n" for chart in charts)
         same(f"told of refused windows {charts}", (done.returncode, done.stderr.decode()), (1 if charts else 0, said))
         plan = ink.Plan(png.decoded(read(place)), report, ink.NIGHT if "--night" in more else ink.DAY)
