@@ -39,6 +39,6 @@ def copy(folder, names, more):
     for c in names:
         shutil.copytree(os.path.join(ROOT, "crates", c), os.path.join(folder, "crates", c), ignore=shutil.ignore_patterns("out"))
     with open(os.path.join(ROOT, "crates.txt"), encoding="utf-8") as f:
-        lines = [line for line in f if line.split(":")[0].strip() in names]  # as they stand: a proof is known by its line too
+        lines = [line for line in f if line.split(":")[0].split()[:1] and line.split(":")[0].split()[0] in names]  # as they stand: a proof is known by its line too
     lines += [" ".join([c + ":", *on]) + "\n" for c, on in more.items()]
     write(os.path.join(folder, "crates.txt"), "".join(lines))

@@ -44,6 +44,8 @@ PASSING = {
     "call_edits": {"edit_rows": ("edit_steps", "Edited")},
     "call_soundness": {"base_geometry": ("base_boxes", "Bounds")},
     "export_charts": {"read_cells": ("call_locate", "Part")},
+    "log_commands": {"replay_lists": ("log_events", "Counts")},
+    "log_reader": {"replay_lists": ("log_events", "Counts")},
     "log_readers": {"replay_lists": ("log_events", "Counts")},
     "overlay_pairs": {"base_geometry": ("base_boxes", "Bounds")},
     "overlay_log": {"log_events": ("log_reader", "BothCounts"), "replay_lists": ("log_events", "Counts")},

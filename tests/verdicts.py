@@ -34,7 +34,7 @@ REACHED = {"libc": {"libc::lseek", "libc::read", "libc::write"}, "os": {"os::c::
 AXIOMS = r"axioms (\w+): (?:none reached|(.+) \(\d+) of the \d+ declared\)?"
 # why a fact fails, as the first error says after its name
 FACTS = {
-    "types": r"(as printed|computed as far as they go), the two (types|values|sides|indices) (first differ|differ only|are) |expected type `",
+    "types": r"(as printed|computed as far as they go), the two (types|values|sides|indices) (first differ|differ only|are) |expected type `|computed as a goal is, one side reads ",
     "omega": r"`omega`: .*does not follow from what it read|`omega`: the goal does not follow",
     "search": r"`search`: no proof of |`grind`: ",
     "rw": r"give a proof of that as the last argument, `rw L t`|`rw`: no occurrence of the path's (left|right) endpoint in ",
