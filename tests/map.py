@@ -41,17 +41,14 @@ NAMED = {"overlay_log": "log"}  # the command program, which is named by what it
 KIT = ["itoa"]  # the kit's libraries that crates.txt lists, but for std
 # what a crate lists and does not name: the crate that it comes through, and the type of the values that pass; C functions have none
 PASSING = {
-    "call_edits": {"edit_rows": ("edit_steps", "Edited")},
+    "call_overlay": {"base_boxes": ("overlay_candidates", "BoxTable")},
     "call_soundness": {"base_geometry": ("base_boxes", "Bounds")},
     "export_charts": {"read_cells": ("call_locate", "Part")},
-    "log_commands": {"replay_lists": ("log_events", "Counts")},
-    "log_reader": {"replay_lists": ("log_events", "Counts")},
-    "log_readers": {"replay_lists": ("log_events", "Counts")},
     "overlay_pairs": {"base_geometry": ("base_boxes", "Bounds")},
-    "overlay_log": {"log_events": ("log_reader", "BothCounts"), "replay_lists": ("log_events", "Counts")},
-    "test_calls": {"spec_plane": ("test_changes", "Point")},
     "test_support": {"spec_plane": ("base_answers", "Position")},
-    "test_replay": {"replay_lists": ("replay", "Counts")},
+    "test_changes": {"spec_calls": ("test_support", "ChartMut")},
+    "test_readers": {"spec_charts": ("test_support", "Refusal"), "base_answers": ("test_support", "Overlaid")},
+    "test_replay": {"spec_charts": ("test_support", "Refusal")},
 }
 NEEDS = crates.needs()
 faults = []

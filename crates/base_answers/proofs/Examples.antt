@@ -10,31 +10,36 @@ use Rattle.spec_charts.specs.Refusals.{refused, done}
 use Rattle.spec_charts.proofs.RefusalsExamples.{rows}
 use Rattle.spec_calls.specs.Buffers.{chart_of}
 use Rattle.spec_calls.specs.Calls as Calls
-use Rattle.base_answers.specs.Outcomes.{verdict_outcome, changed_of, located_outcome, located_position, located_of, found_number, is_found, soundness_outcome, soundness_of, area_outcome, area_of, windowed_of, overlaid_of}
-use Rattle.base_answers.specs.declared.Verdict.{Verdict}
-use Rattle.base_answers.specs.declared.Verdict.TheVariants as verdicts
-use Rattle.base_answers.specs.declared.Changed.{Changed}
-use Rattle.base_answers.specs.declared.Located.{Located}
-use Rattle.base_answers.specs.declared.Located.TheVariants as locations
-use Rattle.base_answers.specs.declared.Soundness.{Soundness}
-use Rattle.base_answers.specs.declared.Soundness.TheVariants as soundnesses
-use Rattle.base_answers.specs.declared.Area.{Area}
-use Rattle.base_answers.specs.declared.Area.TheVariants as areas
+use Rattle.base_answers.specs.Outcomes.{outcome_of, answered, located_outcome, located_position, located_of, found_number, is_found, soundness_of, area_of, windowed_of, overlaid_of}
+use Rattle.std.specs.Prelude.{Bool, ℕ, Result, Ok, Err, Some, None}
+use Rattle.std.specs.Prelude.{Option as Std·Option}
+use Rattle.spec_charts.specs.declared.Refusal.{Refusal}
+use Rattle.spec_charts.specs.Refusals.{Outcome}
+use Rattle.base_answers.specs.declared.Found.{Found}
 use Rattle.spec_calls.proofs.Evaluate.{evaluate}
 
--- Judging, loads, edits and overlays
+-- Judging, loads and edits
 
-verdict-example : map (λ v. verdict_outcome v) (verdicts.Accepted ∷ verdicts.Refused (FaultyTriangle 7) ∷ verdicts.Refused TableFull ∷ [])
-    ≡ done true ∷ refused (FaultyTriangle 7) ∷ refused TableFull ∷ []
-verdict-example = refl
+-- an answer that holds nothing, a yes and a no, a number
+outcome-example : map {B = Outcome (Unit {0})} (λ v. outcome_of v) (Ok tt ∷ Err (FaultyTriangle 7) ∷ Err TableFull ∷ [])
+    ≡ done tt ∷ refused (FaultyTriangle 7) ∷ refused TableFull ∷ []
+outcome-example = refl
+
+outcome-bool-example : map (λ r. outcome_of r) (Ok true ∷ Ok false ∷ Err ShortBuffer ∷ Err BrokenChain ∷ [])
+    ≡ done true ∷ done false ∷ refused ShortBuffer ∷ refused BrokenChain ∷ []
+outcome-bool-example = refl
+
+outcome-number-example : map (λ r. outcome_of {A = ℕ} r) (Ok 8589672450 ∷ Ok 3 ∷ Err ShortBuffer ∷ Err BrokenChain ∷ [])
+    ≡ done 8589672450 ∷ done 3 ∷ refused ShortBuffer ∷ refused BrokenChain ∷ []
+outcome-number-example = refl
 
 -- accepted, and every row
-abbrev all_verdicts : List Verdict
-all_verdicts = verdicts.Accepted ∷ map (λ r. verdicts.Refused r) rows
+abbrev all_verdicts : List (Result (Unit {0}) Refusal)
+all_verdicts = Ok tt ∷ map (λ r. Err r) rows
 
 -- a change with 2 triangles and 20 entries, and four lists that differ
-abbrev changed : Verdict → Calls.Changed
-changed v = changed_of (record { verdict = v; triangles = 2; entries = 20 }) (chart_of (31 ∷ []) (32 ∷ []) (33 ∷ []) (34 ∷ []))
+abbrev changed : Result (Unit {0}) Refusal → Calls.Changed
+changed v = answered v (chart_of (31 ∷ []) (32 ∷ []) (33 ∷ []) (34 ∷ []) 2 20)
 
 -- document 01's numbers, 0 to 12, document 02's 14 and 15, and the triangle beside 5
 changed-numbers-example : map (λ v. (changed v).number) all_verdicts ≡ 0 ∷ 1 ∷ 2 ∷ 3 ∷ 4 ∷ 5 ∷ 6 ∷ 7 ∷ 8 ∷ 9 ∷ 10 ∷ 11 ∷ 12 ∷ 14 ∷ 15 ∷ []
@@ -44,7 +49,7 @@ changed-values-example : map (λ v. (changed v).value) all_verdicts ≡ 0 ∷ 0 
 changed-values-example = refl
 
 -- the lists and the counts, each in its place
-changed-example : changed (verdicts.Refused (FaultyTriangle 7))
+changed-example : changed (Err (FaultyTriangle 7))
     ≡ record {
       number = 5;
       value = 7;
@@ -55,14 +60,14 @@ changed-example = refl
 
 -- Locate
 
-abbrev all_located : List Located
+abbrev all_located : List (Result (Std·Option Found) Refusal)
 all_located =
-    locations.At 9 OnCa
-    ∷ locations.At 0 Inside
-    ∷ locations.At 40031 AtB
-    ∷ locations.Nowhere
-    ∷ locations.Refused ShortBuffer
-    ∷ locations.Refused BrokenChain
+    Ok (Some (record { triangle = 9; position = OnCa }))
+    ∷ Ok (Some (record { triangle = 0; position = Inside }))
+    ∷ Ok (Some (record { triangle = 40031; position = AtB }))
+    ∷ Ok None
+    ∷ Err ShortBuffer
+    ∷ Err BrokenChain
     ∷ []
 
 located-outcome-example : map (λ r. located_outcome r) all_located
@@ -91,13 +96,9 @@ is-found-example = refl
 
 -- Soundness
 
-abbrev all_sound : List Soundness
+abbrev all_sound : List (Result Bool Refusal)
 all_sound =
-    soundnesses.Sound ∷ soundnesses.Unsound ∷ soundnesses.Refused ShortBuffer ∷ soundnesses.Refused BrokenChain ∷ []
-
-soundness-outcome-example : map (λ r. soundness_outcome r) all_sound
-    ≡ done true ∷ done false ∷ refused ShortBuffer ∷ refused BrokenChain ∷ []
-soundness-outcome-example = refl
+    Ok true ∷ Ok false ∷ Err ShortBuffer ∷ Err BrokenChain ∷ []
 
 soundness-example : map (λ r. soundness_of r) all_sound
     ≡ record { number = 0; is_sound = true }
@@ -109,12 +110,8 @@ soundness-example = refl
 
 -- Doubled area
 
-abbrev all_areas : List Area
-all_areas = areas.Sum 8589672450 ∷ areas.Sum 3 ∷ areas.Refused ShortBuffer ∷ areas.Refused BrokenChain ∷ []
-
-area-outcome-example : map (λ r. area_outcome r) all_areas
-    ≡ done 8589672450 ∷ done 3 ∷ refused ShortBuffer ∷ refused BrokenChain ∷ []
-area-outcome-example = refl
+abbrev all_areas : List (Result ℕ Refusal)
+all_areas = Ok 8589672450 ∷ Ok 3 ∷ Err ShortBuffer ∷ Err BrokenChain ∷ []
 
 area-example : map (λ r. area_of r) all_areas
     ≡ record { number = 0; area = 8589672450 }
@@ -126,23 +123,23 @@ area-example = refl
 
 -- Window
 
--- the number, how many are listed and the list, each in its place
+-- the number, how many are listed and the list, each in its place; nothing is listed at a refusal
 windowed-example :
-    map (λ v. windowed_of (record { verdict = v; listed = 3 }) (1 ∷ 2 ∷ [])) (verdicts.Accepted ∷ verdicts.Refused BrokenChain ∷ verdicts.Refused EmptyWindow ∷ [])
+    map (λ v. windowed_of v (1 ∷ 2 ∷ [])) (Ok 3 ∷ Err BrokenChain ∷ Err EmptyWindow ∷ [])
     ≡ record { number = 0; listed = 3; list = 1 ∷ 2 ∷ [] }
-    ∷ record { number = 2; listed = 3; list = 1 ∷ 2 ∷ [] }
-    ∷ record { number = 15; listed = 3; list = 1 ∷ 2 ∷ [] }
+    ∷ record { number = 2; listed = 0; list = 1 ∷ 2 ∷ [] }
+    ∷ record { number = 15; listed = 0; list = 1 ∷ 2 ∷ [] }
     ∷ []
 windowed-example = refl
 
 -- Overlay
 
--- the number, the counts and the list, each in its place
+-- the number, the counts and the list, each in its place; the counts are 0 at a refusal
 overlaid-example :
-    map (λ v. overlaid_of (record { verdict = v; pairs = 3; meetings = 8 }) (1 ∷ 2 ∷ []))
-    (verdicts.Accepted ∷ verdicts.Refused BrokenChain ∷ verdicts.Refused TooManyPairs ∷ [])
+    map (λ v. overlaid_of v (1 ∷ 2 ∷ []))
+    (Ok (record { pairs = 3; meetings = 8 }) ∷ Err BrokenChain ∷ Err TooManyPairs ∷ [])
     ≡ record { number = 0; pair_count = 3; meets = 8; pairs = 1 ∷ 2 ∷ [] }
-    ∷ record { number = 2; pair_count = 3; meets = 8; pairs = 1 ∷ 2 ∷ [] }
-    ∷ record { number = 12; pair_count = 3; meets = 8; pairs = 1 ∷ 2 ∷ [] }
+    ∷ record { number = 2; pair_count = 0; meets = 0; pairs = 1 ∷ 2 ∷ [] }
+    ∷ record { number = 12; pair_count = 0; meets = 0; pairs = 1 ∷ 2 ∷ [] }
     ∷ []
 overlaid-example = refl

@@ -17,10 +17,11 @@ const LEVEL_PLACES: u64 = 256;
 pub const MARK: u16 = 65535;
 
 // Key, level and item as one number.
+// Kept: (d) key, level and item stand in three lists at each call, so a struct with `From` would be put together to be taken apart.
 pub fn pack(key: u32, level: u8, item: u16) -> u64
     ensures { result ≡ packed (entry key level item) }
 {
-    (key as u64) * KEY_WEIGHT + (level as u64) * LEVEL_WEIGHT + item as u64
+    u64::from(key) * KEY_WEIGHT + u64::from(level) * LEVEL_WEIGHT + u64::from(item)
 }
 
 // Key and level at their places: what the entries of a cell have in common.
@@ -28,7 +29,7 @@ pub fn head_of(key: u64, level: u32) -> u64
     requires { (key < key_weight) × (level ≤ 16) }
     ensures { (result ≡ head_of key level) × (result ≤ max_head) }
 {
-    key * KEY_WEIGHT + (level as u64) * LEVEL_WEIGHT
+    key * KEY_WEIGHT + u64::from(level) * LEVEL_WEIGHT
 }
 
 // The entry of a cell that no triangle meets.
@@ -36,7 +37,7 @@ pub fn marked(head: u64) -> u64
     requires { head ≤ max_head }
     ensures { result ≡ head + empty_mark }
 {
-    head + MARK as u64
+    head + u64::from(MARK)
 }
 
 // The key of a packed entry.

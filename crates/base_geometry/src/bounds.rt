@@ -5,7 +5,6 @@ ghost use Rattle.spec_plane.specs.Triangle.{triangle_of};
 ghost use Rattle.spec_plane.specs.Box.{side_box, triangle_box};
 ghost use Rattle.base_geometry.specs.Bounds.{bounds_box};
 
-use crate::numbers;
 use spec_plane::Point;
 
 // A bounding box. Its sides are numbers of a table, of 16 bits each: so many boxes as possible are compared side by side. The box of a
@@ -23,10 +22,10 @@ pub fn side_bounds(p: Point, q: Point) -> Bounds
     ensures { bounds_box result ≡ side_box (record { start = p; end = q }) }
 {
     Bounds {
-        left: numbers::smaller(p.x, q.x),
-        top: numbers::smaller(p.y, q.y),
-        right: numbers::larger(p.x, q.x),
-        bottom: numbers::larger(p.y, q.y),
+        left: p.x.min(q.x),
+        top: p.y.min(q.y),
+        right: p.x.max(q.x),
+        bottom: p.y.max(q.y),
     }
 }
 
@@ -38,9 +37,9 @@ pub fn triangle_bounds(t: [Point; 3]) -> Bounds
     let b = t[1];
     let c = t[2];
     Bounds {
-        left: numbers::smallest(a.x, b.x, c.x),
-        top: numbers::smallest(a.y, b.y, c.y),
-        right: numbers::largest(a.x, b.x, c.x),
-        bottom: numbers::largest(a.y, b.y, c.y),
+        left: a.x.min(b.x.min(c.x)),
+        top: a.y.min(b.y.min(c.y)),
+        right: a.x.max(b.x.max(c.x)),
+        bottom: a.y.max(b.y.max(c.y)),
     }
 }

@@ -1,8 +1,7 @@
-// Numbers, D, triangles, bounding boxes.
+// D, triangles, bounding boxes.
 
 #![tactic(auto)]
 
 pub mod bounds;
 pub mod geometry;
-pub mod numbers;
 pub mod orientation;

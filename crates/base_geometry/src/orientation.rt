@@ -7,10 +7,11 @@ ghost use Rattle.spec_plane.specs.Point.{orient};
 
 use spec_plane::Point;
 
+// The product of two numbers of a table.
 fn product(a: u16, b: u16) -> u64
     ensures { (result ≡ a * b) × (result < 4294967296) }
 {
-    (a as u64) * (b as u64)
+    u64::from(a) * u64::from(b)
 }
 
 // A difference of two sums of products.

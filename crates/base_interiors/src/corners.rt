@@ -34,9 +34,9 @@ pub fn offsets_by(x: u64, y: u64, t: [Point; 3]) -> Offsets
     requires { (x ≤ 65536) × (y ≤ 65536) }
     ensures { OffsetsBy x y (triangle_of t) result × SmallOffsets result }
 {
-    let a = differences::offset_by(x, y, t[0].x, t[0].y);
-    let b = differences::offset_by(x, y, t[1].x, t[1].y);
-    let c = differences::offset_by(x, y, t[2].x, t[2].y);
+    let a = differences::offset_by(x, y, t[0]);
+    let b = differences::offset_by(x, y, t[1]);
+    let c = differences::offset_by(x, y, t[2]);
     Offsets { a, b, c }
 }
 

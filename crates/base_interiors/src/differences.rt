@@ -36,14 +36,14 @@ pub struct Offset {
 fn minus(p: u16, q: u16) -> u64
     ensures { (result + q ≡ p + 65536) × (result ≤ 131071) }
 {
-    (p as u64) + 65536 - (q as u64)
+    u64::from(p) + 65536 - u64::from(q)
 }
 
 // 65536 less p.
 fn below(p: u16) -> u64
     ensures { (result + p ≡ 65536) × (result ≤ 65536) }
 {
-    65536 - (p as u64)
+    65536 - u64::from(p)
 }
 
 // The product of two differences, each below 2^17.
@@ -69,13 +69,13 @@ fn side(p: Point, q: Point) -> SideDifferences
 }
 
 // Where a point lies, by 65536 less the coordinates of a.
-pub fn offset_by(x: u64, y: u64, p_x: u16, p_y: u16) -> Offset
+pub fn offset_by(x: u64, y: u64, p: Point) -> Offset
     requires { (x ≤ 65536) × (y ≤ 65536) }
-    ensures { ((result.x ≡ p_x + x) × (result.y ≡ p_y + y)) × SmallOffset result }
+    ensures { ((result.x ≡ p.x + x) × (result.y ≡ p.y + y)) × SmallOffset result }
 {
     Offset {
-        x: (p_x as u64) + x,
-        y: (p_y as u64) + y,
+        x: u64::from(p.x) + x,
+        y: u64::from(p.y) + y,
     }
 }
 
@@ -95,7 +95,7 @@ pub fn differences_of(s: [Point; 3]) -> Differences
     let y = below(s[0].y);
     let ab = side(s[0], s[1]);
     let ca = side(s[2], s[0]);
-    let area = raised_at(ab, offset_by(x, y, s[2].x, s[2].y));
+    let area = raised_at(ab, offset_by(x, y, s[2]));
     Differences {
         x,
         y,

@@ -10,31 +10,20 @@ use base_geometry::orientation;
 use spec_plane::{Point, Position};
 
 // By whether the triangle holds the point, and whether D is 0 for each of its sides.
+#[tactic(auto, unfolding(spec_plane::specs::Position::position_of))]
 fn position_by(held: bool, ab: bool, bc: bool, ca: bool) -> Position
     ensures { result ≡ position_of held ab bc ca }
 {
-    if !held {
-        return Position::Outside;
+    match (held, ab, bc, ca) {
+        (false, _, _, _) => Position::Outside,
+        (true, false, false, false) => Position::Inside,
+        (true, true, false, false) => Position::OnAb,
+        (true, false, true, false) => Position::OnBc,
+        (true, false, false, true) => Position::OnCa,
+        (true, true, _, true) => Position::AtA,
+        (true, true, true, false) => Position::AtB,
+        (true, false, true, true) => Position::AtC,
     }
-    if ab {
-        if ca {
-            return Position::AtA;
-        }
-        if bc {
-            return Position::AtB;
-        }
-        return Position::OnAb;
-    }
-    if bc {
-        if ca {
-            return Position::AtC;
-        }
-        return Position::OnBc;
-    }
-    if ca {
-        return Position::OnCa;
-    }
-    Position::Inside
 }
 
 // Where p lies by the triangle.
@@ -57,35 +46,18 @@ pub fn position_in(t: [Point; 3], p: Point) -> Position
 pub fn is_held(q: Position) -> bool
     ensures { result ≡ is_held q }
 {
-    match q {
-        Position::Inside => true,
-        Position::OnAb => true,
-        Position::OnBc => true,
-        Position::OnCa => true,
-        Position::AtA => true,
-        Position::AtB => true,
-        Position::AtC => true,
-        Position::Outside => false,
-    }
+    !matches!(q, Position::Outside)
 }
 
 // The point is strictly inside the triangle.
 pub fn is_inside(q: Position) -> bool
     ensures { result ≡ is_inside q }
 {
-    match q {
-        Position::Inside => true,
-        Position::OnAb => false,
-        Position::OnBc => false,
-        Position::OnCa => false,
-        Position::AtA => false,
-        Position::AtB => false,
-        Position::AtC => false,
-        Position::Outside => false,
-    }
+    matches!(q, Position::Inside)
 }
 
 // Its number: 0 inside, 1 to 3 on a side, 4 to 6 at a corner, 7 outside.
+// Kept: (d) as `From` it would stand in spec_plane, and calls would read `u64::from(u16::from(q))`, which does not say what the number is.
 pub fn position_number(q: Position) -> u16
     ensures { result ≡ position_number q }
 {

@@ -27,6 +27,6 @@ pub fn square_of_key(key: u32, level: u8) -> Square
     Square {
         x: gathered(key),
         y: gathered(key / 2),
-        level: level as u32,
+        level: u32::from(level),
     }
 }

@@ -7,11 +7,12 @@ ghost use Rattle.spec_plane.specs.Triangle.{proper, triangle_of, doubled_area};
 ghost use Rattle.spec_charts.specs.Table.{Drawn, table_of};
 ghost use Rattle.spec_charts.specs.Reading.{total_area};
 ghost use Rattle.spec_calls.specs.Calls.{area_call};
-ghost use Rattle.spec_calls.specs.Lent.{shown};
+ghost use Rattle.spec_calls.specs.Lent.{viewed};
 ghost use Rattle.base_answers.specs.Outcomes.{area_of};
 
-use base_answers::{Area, Verdict};
 use base_geometry::orientation;
+use spec_calls::ChartView;
+use spec_charts::Refusal;
 use spec_plane::Point;
 
 // The doubled area of a triangle with D > 0.
@@ -28,28 +29,17 @@ fn sum(table: &[u16], n: usize) -> u64
     requires { Drawn table.now n }
     ensures { result ≡ total_area (table_of table.now n) }
 {
-    let mut s = 0u64;
-    let mut i = 0;
-    while i < n {
+    let mut s = 0;
+    for i in 0..n {
         s += doubled(base_tables::triangle_at(table, i));
-        i += 1;
     }
     s
 }
 
 // Doubled area: the sum over the table.
-pub fn doubled_area(
-    table: &[u16],
-    keys: &[u32],
-    levels: &[u8],
-    items: &[u16],
-    triangles: usize,
-    entries: usize,
-) -> Area
-    ensures { area_of result ≡ area_call (shown table keys levels items triangles entries) }
+pub fn doubled_area(chart: ChartView) -> Result<u64, Refusal>
+    ensures { area_of result ≡ area_call (viewed chart.entry) }
 {
-    match chart_rule::judge(table, keys, levels, items, triangles, entries) {
-        Verdict::Accepted => Area::Sum(sum(table, triangles)),
-        Verdict::Refused(r) => Area::Refused(r),
-    }
+    chart_rule::judge(chart)?;
+    Ok(sum(chart.table, chart.triangles))
 }

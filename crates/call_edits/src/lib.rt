@@ -1,5 +1,4 @@
-// The public calls insert, take-out and flip of a chart. Each answers how it went and the counts that the chart has now; a refusal leaves
-// lists and counts as they were.
+// The public calls insert, take-out and flip of a chart. A refusal leaves lists and counts as they were.
 
 #![tactic(auto)]
 
@@ -7,79 +6,34 @@ mod chart_edit;
 
 ghost use Rattle.std.specs.Prelude.{◌≡◌};
 ghost use Rattle.spec_calls.specs.Calls.{insert_call, take_out_call, flip_call};
-ghost use Rattle.spec_calls.specs.Lent.{given};
-ghost use Rattle.base_answers.specs.Outcomes.{left};
+ghost use Rattle.spec_calls.specs.Lent.{viewed_mut, SameLists};
+ghost use Rattle.base_answers.specs.Outcomes.{answered};
 
-use base_answers::Changed;
 use edit_steps::Edit;
+use spec_calls::ChartMut;
+use spec_charts::Refusal;
 use spec_plane::Point;
 
 // Insert: of the point p.
-pub fn insert(
-    table: &mut [u16],
-    keys: &mut [u32],
-    levels: &mut [u8],
-    items: &mut [u16],
-    triangles: usize,
-    entries: usize,
-    p: Point,
-) -> Changed
-    ensures { left table keys levels items result ≡ insert_call p (given table keys levels items triangles entries) }
+pub fn insert(chart: &mut ChartMut, p: Point) -> Result<(), Refusal>
+    ensures inserted { answered result (viewed_mut chart.new) ≡ insert_call p (viewed_mut chart.old) }
+    ensures same_lists { SameLists chart.old chart.new }
 {
-    chart_edit::edit_chart(
-        table,
-        keys,
-        levels,
-        items,
-        triangles,
-        entries,
-        Edit::Insert(p),
-    )
+    chart_edit::edit_chart(chart, Edit::Insert(p))
 }
 
 // Take-out: of the point p.
-pub fn take_out(
-    table: &mut [u16],
-    keys: &mut [u32],
-    levels: &mut [u8],
-    items: &mut [u16],
-    triangles: usize,
-    entries: usize,
-    p: Point,
-) -> Changed
-    ensures { left table keys levels items result ≡ take_out_call p (given table keys levels items triangles entries) }
+pub fn take_out(chart: &mut ChartMut, p: Point) -> Result<(), Refusal>
+    ensures taken_out { answered result (viewed_mut chart.new) ≡ take_out_call p (viewed_mut chart.old) }
+    ensures same_lists { SameLists chart.old chart.new }
 {
-    chart_edit::edit_chart(
-        table,
-        keys,
-        levels,
-        items,
-        triangles,
-        entries,
-        Edit::TakeOut(p),
-    )
+    chart_edit::edit_chart(chart, Edit::TakeOut(p))
 }
 
 // Flip: triangles i and j.
-pub fn flip(
-    table: &mut [u16],
-    keys: &mut [u32],
-    levels: &mut [u8],
-    items: &mut [u16],
-    triangles: usize,
-    entries: usize,
-    i: usize,
-    j: usize,
-) -> Changed
-    ensures { left table keys levels items result ≡ flip_call i j (given table keys levels items triangles entries) }
+pub fn flip(chart: &mut ChartMut, i: usize, j: usize) -> Result<(), Refusal>
+    ensures flipped { answered result (viewed_mut chart.new) ≡ flip_call i j (viewed_mut chart.old) }
+    ensures same_lists { SameLists chart.old chart.new }
 {
-    chart_edit::edit_chart(
-        table,
-        keys,
-        levels,
-        items,
-        triangles,
-        entries,
-        Edit::Flip(i, j),
-    )
+    chart_edit::edit_chart(chart, Edit::Flip(i, j))
 }

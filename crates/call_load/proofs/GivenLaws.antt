@@ -28,8 +28,8 @@ abbrev pub length_test : List ℕ → Bool
 length_test ns = not (eqb (length ns % numbers_per_triangle) 0) || ltb table_length (length ns)
 
 -- refusals 4 and 5 by themselves
-abbrev pub judged_given : List ℕ → Outcome Bool
-judged_given ns = and_then (load_table ns) (λ t. done true)
+abbrev pub judged_given : List ℕ → Outcome (Unit {0})
+judged_given ns = and_then (load_table ns) (λ t. done (tt {0}))
 
 module _ (ns : List ℕ) where
   given-count : length (given_table ns) ≡ length ns / numbers_per_triangle
@@ -69,10 +69,10 @@ pub record Accepted (ns : List ℕ) : Type 0 where
   pub made : load_table ns ≡ done (given_table ns)
   pub oriented : all (λ t. proper t) (given_table ns) ≡ true
 
-module _ (ns : List ℕ) (e : done true ≡ judged_given ns) where
+module _ (ns : List ℕ) (e : done (tt {0}) ≡ judged_given ns) where
   not-refused : (r : Refusal) → load_table ns ≡ refused r → ⊥
   unfolding and_then
-  not-refused r h = refused-done (sym (e ∙ ap (λ o. and_then o (λ t. done true)) h))
+  not-refused r h = refused-done (sym (e ∙ ap (λ o. and_then o (λ t. done (tt {0}))) h))
 
   pub given-accepted : Accepted ns
   given-accepted = whole (length_test ns) refl

@@ -16,7 +16,7 @@ use Rattle.call_load.proofs.GivenLaws.{judged_given, Accepted, given-accepted}
 
 module _ (ns : List ℕ) (c : Chart) where
   -- refusals 1, 4 and 5 by themselves
-  abbrev pub judged_load : Outcome Bool
+  abbrev pub judged_load : Outcome (Unit {0})
   judged_load = if_long c (judged_given ns)
 
   -- a refusal among them is what the load gives
@@ -24,19 +24,19 @@ module _ (ns : List ℕ) (c : Chart) where
   unfolding load_call if_long event_on proposed refuse_if and_then
   load-refused e = ap (changed_by c) (go (too_short c) (load_table ns) e)
     where
-      go : (b : Bool) (o : Outcome Table) {r : Refusal} → refused r ≡ refuse_if b ShortBuffer (and_then o (λ t. done true))
+      go : (b : Bool) (o : Outcome Table) {r : Refusal} → refused r ≡ refuse_if b ShortBuffer (and_then o (λ t. done (tt {0})))
           → refused r ≡ refuse_if b ShortBuffer (and_then o (λ t. counted (load ns) t))
       go true o h = cc
       go false (refused s) h = cc
       go false (done t) h = absurd (refused-done h)
 
-  module _ (e : done true ≡ judged_load) where
+  module _ (e : done (tt {0}) ≡ judged_load) where
     -- none of them: the buffers are long enough, and the numbers make a table
-    pub load-judged : (too_short c ≡ false) × (done true ≡ judged_given ns)
+    pub load-judged : (too_short c ≡ false) × (done (tt {0}) ≡ judged_given ns)
     unfolding if_long refuse_if
     load-judged = go (too_short c) e
       where
-        go : (b : Bool) → done true ≡ refuse_if b ShortBuffer (judged_given ns) → (b ≡ false) × (done true ≡ judged_given ns)
+        go : (b : Bool) → done (tt {0}) ≡ refuse_if b ShortBuffer (judged_given ns) → (b ≡ false) × (done (tt {0}) ≡ judged_given ns)
         go true h = absurd (refused-done (sym h))
         go false h = (refl, h)
 

@@ -6,31 +6,19 @@ mod load_checks;
 
 ghost use Rattle.std.specs.Prelude.{◌≡◌};
 ghost use Rattle.spec_calls.specs.Calls.{load_call};
-ghost use Rattle.spec_calls.specs.Lent.{given};
-ghost use Rattle.base_answers.specs.Outcomes.{left};
+ghost use Rattle.spec_calls.specs.Lent.{viewed_mut, SameLists};
+ghost use Rattle.base_answers.specs.Outcomes.{answered};
 
-use base_answers::{Changed, Verdict};
+use spec_calls::ChartMut;
+use spec_charts::Refusal;
 
-// Load. It answers how it went and the counts that the chart has now; a refusal leaves lists and counts as they were.
-pub fn load(
-    numbers: &[u16],
-    table: &mut [u16],
-    keys: &mut [u32],
-    levels: &mut [u8],
-    items: &mut [u16],
-    triangles: usize,
-    entries: usize,
-) -> Changed
-    ensures { left table keys levels items result ≡ load_call numbers.now (given table keys levels items triangles entries) }
+// Load. A refusal leaves lists and counts as they were.
+pub fn load(numbers: &[u16], chart: &mut ChartMut) -> Result<(), Refusal>
+    ensures loaded { answered result (viewed_mut chart.new) ≡ load_call numbers.now (viewed_mut chart.old) }
+    ensures same_lists { SameLists chart.old chart.new }
 {
-    let verdict = load_checks::judge_load(numbers, table, keys, levels, items);
-    if let Verdict::Accepted = verdict {
-        let n = numbers.len() / base_tables::TRIANGLE_NUMBERS;
-        return chart_store::store(numbers, n, table, keys, levels, items, triangles, entries);
-    }
-    Changed {
-        verdict,
-        triangles,
-        entries,
-    }
+    let judged = load_checks::judge_load(numbers, chart.view());
+    judged?;
+    let n = numbers.len() / base_tables::TRIANGLE_NUMBERS;
+    chart_store::store(numbers, n, chart)
 }

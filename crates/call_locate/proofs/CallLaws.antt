@@ -12,7 +12,7 @@ use Rattle.spec_plane.specs.Triangle.{holds}
 use Rattle.spec_plane.specs.Position.{position}
 use Rattle.spec_charts.specs.Table.{Table, triangle_at, numbered}
 use Rattle.spec_charts.specs.declared.Refusal.{Refusal}
-use Rattle.spec_charts.specs.Refusals.{refused, done, done_or}
+use Rattle.spec_charts.specs.Refusals.{refused, done, done_or, outcome_number}
 use Rattle.spec_charts.specs.Reading.{listing, located, found_position}
 use Rattle.spec_calls.specs.Buffers.{Chart, too_short, chain_rule, chart_table, chart_entries}
 use Rattle.spec_calls.specs.Calls as Calls
@@ -23,14 +23,22 @@ use Rattle.read_cells.specs.Keys.{Listable}
 use Rattle.read_cells.specs.Place.{listed_places}
 use Rattle.read_cells.proofs.ListingLaws.{ChainLists}
 use Rattle.read_cells.proofs.PointLaws.{chain-listable}
-use Rattle.base_answers.specs.declared.Located.{Located}
-use Rattle.base_answers.specs.Outcomes.{located_of}
+use Rattle.std.specs.Prelude.{Result, Ok, Err, Some, None}
+use Rattle.std.specs.Prelude.{Option as Std·Option}
+use Rattle.base_answers.specs.declared.Found.{Found}
+use Rattle.base_answers.specs.Outcomes.{outcome_of, located_of}
 use Rattle.call_locate.specs.Holding.{found_of}
 use Rattle.call_locate.specs.Places.{places_call}
 
+-- the number of an answer does not go by what was found
+pub located-number : (r : Result (Std·Option Found) Refusal) → outcome_number (outcome_of r) ≡ (located_of r).number
+located-number (Ok (Some f)) = refl
+located-number (Ok None) = refl
+located-number (Err r) = refl
+
 -- an answer that is no refusal: the number 0, the triangle found, which is read from the table's numbers, and the position
 located_found : (table : Table) (ns : List ℕ) (p : Point) (o : Option ℕ) → ((i : ℕ) → o ≡ some i → numbered table i ≡ triangle_at ns i)
-    → ◌≡◌ {A = Calls.Located} (located_of (found_of (λ i. position (triangle_at ns i) p) o))
+    → ◌≡◌ {A = Calls.Located} (located_of (Ok (found_of (λ i. position (triangle_at ns i) p) o)))
     (record { number = 0; found = o; position = found_position table p o })
 unfolding found_position
 located_found table ns p none h = refl
@@ -38,7 +46,7 @@ located_found table ns p (some i) h = λ j. record { number = 0; found = some i;
 
 module _ (c : Chart) (p : Point) where
   -- at a refusal there are no places
-  pub places-refused : {r : Refusal} → refused r ≡ if_chained c (done true) → [] ≡ places_call c p
+  pub places-refused : {r : Refusal} → refused r ≡ if_chained c (done (tt {0})) → [] ≡ places_call c p
   unfolding places_call
   places-refused h = ap (done_or []) (reading-refused c h (listed_places (chart_entries c) p))
 
@@ -58,10 +66,10 @@ module _ (c : Chart) (p : Point) where
 
     -- locate is the first listed triangle that holds the point, and the point's position by it
     pub locate-done : {l : List ℕ} → l ≡ listing (chart_entries c) p
-        → {a : Located} → a ≡ found_of (λ i. position (triangle_at c.table i) p) (first (λ i. holds (triangle_at c.table i) p) l)
-        → ◌≡◌ {A = Calls.Located} (located_of a) (locate_call c p)
+        → {a : Std·Option Found} → a ≡ found_of (λ i. position (triangle_at c.table i) p) (first (λ i. holds (triangle_at c.table i) p) l)
+        → ◌≡◌ {A = Calls.Located} (located_of (Ok a)) (locate_call c p)
     locate-done e h =
-        ap (λ b. located_of b)
+        ap (λ b. located_of (Ok b))
         (h ∙ ap (λ o. found_of (λ i. position (triangle_at c.table i) p) o) (ap (first (λ i. holds (triangle_at c.table i) p)) e ∙ sym (located-first c s r p)))
         ∙ located_found (chart_table c) c.table p (located (chart_table c) (chart_entries c) p) (found-numbered c s r p)
         ∙ located-done c s r p

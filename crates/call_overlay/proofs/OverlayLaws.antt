@@ -25,8 +25,7 @@ use Rattle.laws_charts.proofs.TableLaws.{table_of-length, numbered-at}
 use Rattle.spec_calls.specs.Buffers.{Chart, Roomy, too_short, zip_entries, chain_rule, chart_table, chart_entries, pairs_length}
 use Rattle.spec_calls.specs.Calls.{pairs_refused, overlaid_by, overlay_call}
 use Rattle.laws_calls.proofs.BufferLaws.{ruled, rule-drawn, searchable}
-use Rattle.base_answers.specs.declared.Verdict.TheVariants.{Refused}
-use Rattle.base_answers.specs.declared.Overlaid.{Overlaid}
+use Rattle.std.specs.Prelude.{Err}
 use Rattle.base_answers.specs.Outcomes.{overlaid_of}
 use Rattle.overlay_merge.specs.Merge.{Overlapping}
 use Rattle.overlay_pairs.specs.Pairs.{meets_at, row_pairs, marked_pairs}
@@ -52,9 +51,9 @@ passed c s e =
 
 module _ (c d : Chart) (pairs : List ℕ) where
   pub overlay-short : too_short c || too_short d || ltb (length pairs) pairs_length ≡ true
-      → {r : Overlaid} → r ≡ record { verdict = Refused ShortBuffer; pairs = 0; meetings = 0 } → overlaid_of r pairs ≡ overlay_call c d pairs
+      → overlaid_of (Err ShortBuffer) pairs ≡ overlay_call c d pairs
   unfolding overlay_call overlaid_by refuse_if pairs_refused
-  overlay-short h e = ap (λ r. overlaid_of r pairs) e ∙ rw h
+  overlay-short h = rw h
 
   -- where 1 does not refuse
   module _ (long : too_short c || too_short d || ltb (length pairs) pairs_length ≡ false) where
@@ -68,9 +67,9 @@ module _ (c d : Chart) (pairs : List ℕ) where
     pairs-long = ltb-false (length pairs) pairs_length (or-neither (too_short c || too_short d) (ltb (length pairs) pairs_length) long).1
 
     pub overlay-broken : chain_rule c && chain_rule d ≡ false
-        → {r : Overlaid} → r ≡ record { verdict = Refused BrokenChain; pairs = 0; meetings = 0 } → overlaid_of r pairs ≡ overlay_call c d pairs
+        → overlaid_of (Err BrokenChain) pairs ≡ overlay_call c d pairs
     unfolding overlay_call overlaid_by refuse_if pairs_refused
-    overlay-broken h e = ap (λ r. overlaid_of r pairs) e ∙ rw (long, either (chain_rule c) (chain_rule d) h)
+    overlay-broken h = rw (long, either (chain_rule c) (chain_rule d) h)
       where
         either : (a b : Bool) → a && b ≡ false → not a || not b ≡ true
         either true true e = absurd (subst (λ b. T b) e tt)
@@ -88,6 +87,14 @@ module _ (c d : Chart) (pairs : List ℕ) where
       pub overlay-passed : overlaid_by pairs (overlay_of (chart_table c) (chart_entries c) (chart_table d) (chart_entries d)) ≡ overlay_call c d pairs
       unfolding overlay_call refuse_if
       overlay-passed = rw (long, (both (chain_rule c) (chain_rule d) rules).0, (both (chain_rule c) (chain_rule d) rules).1)
+
+-- what both charts have where neither refuses
+pub both-passed : (c d : Chart) (pairs : List ℕ) {s t : Bool} → s ≡ too_short c → t ≡ too_short d → s || t || ltb (length pairs) pairs_length ≡ false
+    → {a b : Bool} → a ≡ chain_rule c → b ≡ chain_rule d → a && b ≡ true → Passed c × Passed d
+both-passed c d pairs p q s e f r =
+    let long = sym (ap₂ (λ x y. x || y || ltb (length pairs) pairs_length) p q) ∙ s in
+    let rules = sym (ap₂ ◌&&◌ e f) ∙ r in
+    (first-passed c d pairs long rules, second-passed c d pairs long rules)
 
 -- ---- the marked pairs are those of the overlay
 

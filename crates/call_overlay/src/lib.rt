@@ -6,48 +6,49 @@ mod overlay_answers;
 
 ghost use Rattle.std.specs.Prelude.{◌≡◌};
 ghost use Rattle.spec_calls.specs.Calls.{overlay_call};
-ghost use Rattle.spec_calls.specs.Lent.{shown};
+ghost use Rattle.spec_calls.specs.Lent.{viewed};
 ghost use Rattle.base_answers.specs.Outcomes.{left_pairs};
 
 use base_answers::Overlaid;
+use overlay_merge::ChartEntries;
+use spec_calls::ChartView;
 use spec_charts::Refusal;
 
 // The end of the keys of the tree of squares.
 const TREE_END: u64 = 4294967296;
 
 // Overlay: the pairs ascending by the first number, then the second, and how many cells of the one overlap cells of the other.
-pub fn overlay(
-    table0: &[u16],
-    keys0: &[u32],
-    levels0: &[u8],
-    items0: &[u16],
-    triangles0: usize,
-    entries0: usize,
-    table1: &[u16],
-    keys1: &[u32],
-    levels1: &[u8],
-    items1: &[u16],
-    triangles1: usize,
-    entries1: usize,
-    pairs: &mut [u16],
-) -> Overlaid
-    ensures { left_pairs pairs result ≡ overlay_call (shown table0 keys0 levels0 items0 triangles0 entries0) (shown table1 keys1 levels1 items1 triangles1 entries1) pairs.old }
+pub fn overlay(first: ChartView, second: ChartView, pairs: &mut [u16]) -> Result<Overlaid, Refusal>
+    ensures { left_pairs pairs result ≡ overlay_call (viewed first.entry) (viewed second.entry) pairs.old }
 {
-    if chart_rule::too_short(table0, keys0, levels0, items0)
-        | chart_rule::too_short(table1, keys1, levels1, items1)
+    if chart_rule::too_short(first)
+        | chart_rule::too_short(second)
         | (pairs.len() < overlay_answers::PAIR_NUMBERS)
     {
-        return overlay_answers::refused(Refusal::ShortBuffer);
+        return Err(Refusal::ShortBuffer);
     }
-    let first = chart_rule::chain_rule(table0, keys0, levels0, items0, triangles0, entries0);
-    let second = chart_rule::chain_rule(table1, keys1, levels1, items1, triangles1, entries1);
-    if !(first & second) {
-        return overlay_answers::refused(Refusal::BrokenChain);
+    let first_fine = chart_rule::chain_rule(first);
+    let second_fine = chart_rule::chain_rule(second);
+    if !(first_fine & second_fine) {
+        return Err(Refusal::BrokenChain);
     }
+    let first_entries = ChartEntries {
+        keys: &first.keys[..first.entries],
+        items: &first.items[..first.entries],
+    };
+    let second_entries = ChartEntries {
+        keys: &second.keys[..second.entries],
+        items: &second.items[..second.entries],
+    };
     let mut rows = [0u64; overlay_marks::ROWS_LENGTH];
-    let meetings = overlay_merge::mark_pairs(
-        keys0, items0, entries0, keys1, items1, entries1, &mut rows, TREE_END,
+    let meetings = overlay_merge::mark_pairs(first_entries, second_entries, &mut rows, TREE_END);
+    let found = overlay_pairs::put_pairs(
+        first.table,
+        first.triangles,
+        second.table,
+        second.triangles,
+        &rows,
+        pairs,
     );
-    let found = overlay_pairs::put_pairs(table0, triangles0, table1, triangles1, &rows, pairs);
     overlay_answers::finish(found, meetings, pairs)
 }

@@ -10,97 +10,76 @@ ghost use Rattle.spec_charts.specs.Reading.{sound};
 ghost use Rattle.base_boxes.specs.Boxes.{BoxedTable};
 ghost use Rattle.base_boxes.specs.Near.{ListedRows};
 
-use base_boxes::{boxes, near_boxes};
+use base_boxes::boxes;
+use base_boxes::boxes::BoxTable;
 use base_interiors::differences;
 
 // The most triangles for which boxes do not pay.
 const MOST_UNBOXED: usize = 16;
 
-// Triangle i has a common interior point with none of the first c triangles of a list.
-fn near_disjoint(table: &[u16], near: &[usize], i: usize, c: usize) -> bool
-    requires { ListedRows table.now near.now i c }
-    ensures { result ≡ all (λ k. not (interiors_meet (triangle_at table.now i) (triangle_at table.now (get_or near.now k 0)))) (up_to c) }
+// Triangle i has a common interior point with none of the triangles of a list.
+fn near_disjoint(table: &[u16], near: &[usize], i: usize) -> bool
+    requires { ListedRows table.now near.now i }
+    ensures { result ≡ all (λ k. not (interiors_meet (triangle_at table.now i) (triangle_at table.now (get_or near.now k 0)))) (up_to (length near.now)) }
 {
     let sides = differences::differences_of(base_tables::triangle_at(table, i));
-    let mut k = 0;
-    while k < c {
-        if base_interiors::interiors_meet(sides, base_tables::triangle_at(table, near[k])) {
+    for j in near {
+        if base_interiors::interiors_meet(sides, base_tables::triangle_at(table, *j)) {
             return false;
         }
-        k += 1;
     }
     true
 }
 
 // Triangle i has a common interior point with none of those before it.
-fn is_disjoint(
-    table: &[u16],
-    lefts: &[u16],
-    tops: &[u16],
-    rights: &[u16],
-    bottoms: &[u16],
-    near: &mut [usize],
-    i: usize,
-) -> bool
-    requires { BoxedTable table.now lefts.now tops.now rights.now bottoms.now (i + 1) × (i ≤ length near.old) }
+fn is_disjoint(table: &[u16], boxes: &BoxTable, near: &mut [usize], i: usize) -> bool
+    requires { BoxedTable table.now boxes.now (i + 1) × (i ≤ length near.old) }
     ensures value { result ≡ all (λ k. not (interiors_meet (triangle_at table.now i) (triangle_at table.now k))) (up_to i) }
     ensures near_len_unchanged { length near.new ≡ length near.old }
 {
     let b = boxes::triangle_box(table, i);
-    let c = near_boxes::collect_before(b, lefts, tops, rights, bottoms, i, near);
-    near_disjoint(table, near, i, c)
+    let c = boxes.collect_before(b, i, near);
+    near_disjoint(table, &near[..c], i)
 }
 
 // No two of the first n triangles have a common interior point.
-fn pairs_disjoint(
-    table: &[u16],
-    lefts: &[u16],
-    tops: &[u16],
-    rights: &[u16],
-    bottoms: &[u16],
-    near: &mut [usize],
-    n: usize,
-) -> bool
-    requires { BoxedTable table.now lefts.now tops.now rights.now bottoms.now n × (n ≤ length near.old) }
+fn pairs_disjoint(table: &[u16], boxes: &BoxTable, near: &mut [usize], n: usize) -> bool
+    requires { BoxedTable table.now boxes.now n × (n ≤ length near.old) }
     ensures { result ≡ sound (table_of table.now n) }
 {
-    let mut i = 0;
-    while i < n {
-        if !is_disjoint(table, lefts, tops, rights, bottoms, near, i) {
+    for i in 0..n {
+        if !is_disjoint(table, boxes, near, i) {
             return false;
         }
-        i += 1;
     }
     true
 }
 
 // Triangle i has a common interior point with none of those before it, each tested at once.
+// Kept: not one with near_disjoint, since it goes over a range and that over a list: the loop is all that the two have in common.
 fn each_disjoint(table: &[u16], i: usize) -> bool
     requires { numbers_per_triangle * (i + 1) ≤ length table.now }
     ensures { result ≡ all (λ k. not (interiors_meet (triangle_at table.now i) (triangle_at table.now k))) (up_to i) }
 {
     let sides = differences::differences_of(base_tables::triangle_at(table, i));
-    let mut k = 0;
-    while k < i {
+    for k in 0..i {
         if base_interiors::interiors_meet(sides, base_tables::triangle_at(table, k)) {
             return false;
         }
-        k += 1;
     }
     true
 }
 
 // No two of the first n triangles have a common interior point, each pair tested at once.
+// Kept: not one with pairs_disjoint, which lends its list to each row: a closure for the row needs a longer contract than either loop.
 fn few_disjoint(table: &[u16], n: usize) -> bool
     requires { numbers_per_triangle * n ≤ length table.now }
     ensures { result ≡ sound (table_of table.now n) }
 {
-    let mut i = 0;
-    while i < n {
+    for i in 0..n {
         if !each_disjoint(table, i) {
             return false;
         }
-        i += 1;
     }
     true
 }
@@ -113,11 +92,8 @@ pub fn all_disjoint(table: &[u16], n: usize) -> bool
     if n <= MOST_UNBOXED {
         return few_disjoint(table, n);
     }
-    let mut lefts = [0u16; base_tables::MOST_TRIANGLES];
-    let mut tops = [0u16; base_tables::MOST_TRIANGLES];
-    let mut rights = [0u16; base_tables::MOST_TRIANGLES];
-    let mut bottoms = [0u16; base_tables::MOST_TRIANGLES];
-    boxes::put_boxes(table, n, &mut lefts, &mut tops, &mut rights, &mut bottoms);
+    let mut boxes = BoxTable::EMPTY;
+    boxes.put_boxes(table, n);
     let mut near = [0usize; base_tables::MOST_TRIANGLES];
-    pairs_disjoint(table, &lefts, &tops, &rights, &bottoms, &mut near, n)
+    pairs_disjoint(table, &boxes, &mut near, n)
 }

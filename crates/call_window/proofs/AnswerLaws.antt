@@ -15,17 +15,16 @@ use Rattle.spec_window.specs.Window.{window_of, empty_window, window_length}
 use Rattle.spec_calls.specs.Buffers.{Chart, too_short, chain_rule, chart_table, chart_entries}
 use Rattle.spec_calls.specs.Calls.{windowed_by, window_call}
 use Rattle.laws_calls.proofs.WindowCalls.{window-passes}
-use Rattle.base_answers.specs.declared.Verdict.TheVariants.{Accepted, Refused}
-use Rattle.base_answers.specs.declared.Windowed.{Windowed}
+use Rattle.std.specs.Prelude.{Ok, Err}
 use Rattle.base_answers.specs.Outcomes.{windowed_of}
 use Rattle.call_window.specs.Filled.{Filled}
 
 module _ (c : Chart) (w : Box) (before : List ℕ) where
   -- 1, of the chart's buffers and the list
   pub window-short : too_short c || ltb (length before) window_length ≡ true
-      → {r : Windowed} → r ≡ record { verdict = Refused ShortBuffer; listed = 0 } → windowed_of r before ≡ window_call c w before
+      → windowed_of (Err ShortBuffer) before ≡ window_call c w before
   unfolding window_call windowed_by refuse_if
-  window-short h e = ap (λ r. windowed_of r before) e ∙ rw h
+  window-short h = rw h
 
   module _ (long : too_short c || ltb (length before) window_length ≡ false) where
     pub chart-long : too_short c ≡ false
@@ -36,20 +35,20 @@ module _ (c : Chart) (w : Box) (before : List ℕ) where
 
     -- 2
     pub window-broken : chain_rule c ≡ false
-        → {r : Windowed} → r ≡ record { verdict = Refused BrokenChain; listed = 0 } → windowed_of r before ≡ window_call c w before
+        → windowed_of (Err BrokenChain) before ≡ window_call c w before
     unfolding window_call windowed_by refuse_if
-    window-broken h e = ap (λ r. windowed_of r before) e ∙ rw (long, h)
+    window-broken h = rw (long, h)
 
     module _ (chained : chain_rule c ≡ true) where
       -- 15
       pub window-empty : empty_window w ≡ true
-          → {r : Windowed} → r ≡ record { verdict = Refused EmptyWindow; listed = 0 } → windowed_of r before ≡ window_call c w before
+          → windowed_of (Err EmptyWindow) before ≡ window_call c w before
       unfolding window_call windowed_by refuse_if
-      window-empty h e = ap (λ r. windowed_of r before) e ∙ rw (long, chained, h)
+      window-empty h = rw (long, chained, h)
 
       -- accepted
       pub window-filled : empty_window w ≡ false → {list : List ℕ} {r : ℕ} → Filled (window_of (chart_table c) (chart_entries c) w) before list r
-          → windowed_of (record { verdict = Accepted; listed = r }) list ≡ window_call c w before
+          → windowed_of (Ok r) list ≡ window_call c w before
       window-filled h f =
-          ap₂ (λ n l. windowed_of (record { verdict = Accepted; listed = n }) l) f.count f.filled
+          ap₂ (λ n l. windowed_of (Ok n) l) f.count f.filled
           ∙ sym (window-passes c chart-long chained w h before list-long)

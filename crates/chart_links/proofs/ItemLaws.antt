@@ -2,7 +2,8 @@
 -- Assumes nothing.
 use mathlib.Core.Path.{◌≡◌, sym, ◌∙◌, ap}
 use mathlib.Core.Bool.{true, not}
-use Prim.Native.Nat.{ℕ, suc, ◌+◌, ◌<◌}
+use Prim.Native.Nat.{ℕ, suc, ◌+◌, ◌%◌, ◌<◌}
+use native.Mathlib.Decide.{ℕ_discrete}
 use native.Mathlib.Omega.{arith}
 use borrow.Author.Tests.{ltb-true, le-leb, eq-eqb, ne_eqb}
 use lib.Dec.{leb, ltb, eqb}
@@ -11,15 +12,22 @@ use Rattle.chart_links.specs.Links.{item_fits}
 use Rattle.theory_lists.proofs.TestLaws.{leb-same, or-fails, or-passes}
 
 -- one more than an item that is no mark is at most the count when the item fits
-pub item_count : (item r count : ℕ) → (item ≡ 65535 → ⊥) → r ≡ item + 1 → leb r count ≡ item_fits count item
+item_count : (item r count : ℕ) → (item ≡ 65535 → ⊥) → r ≡ item + 1 → leb r count ≡ item_fits count item
 unfolding item_fits empty_mark
 item_count item r count n e =
     leb-same r count (suc item) count (λ x. omega arith) (λ x. omega arith) ∙ or-fails (ltb item count) (ne_eqb item 65535 n)
 
 -- 0 is at most the count, and the mark fits
-pub mark-count : (item r count : ℕ) → item ≡ 65535 → r ≡ 0 → leb r count ≡ item_fits count item
+mark-count : (item r count : ℕ) → item ≡ 65535 → r ≡ 0 → leb r count ≡ item_fits count item
 unfolding item_fits empty_mark
 mark-count item r count m e = le-leb r count (omega arith) ∙ sym (or-passes (ltb item count) (eq-eqb item 65535 m))
+
+-- one more than an item of 16 bits, where the highest one is followed by 0
+pub next-count : (item count : ℕ) → item < 65536 → leb ((item + 1) % 65536) count ≡ item_fits count item
+next-count item count h = elim (ℕ_discrete item 65535) [
+  | yes m ↦ mark-count item ((item + 1) % 65536) count m (omega arith)
+  | no n ↦ item_count item ((item + 1) % 65536) count n (omega arith)
+]
 
 -- an item below another one of 16 bits is no mark
 pub no-mark : (i j : ℕ) → j < 65536 → ltb i j ≡ true → not (eqb i empty_mark) ≡ true

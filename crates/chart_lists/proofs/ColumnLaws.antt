@@ -1,16 +1,22 @@
 -- Packed entries in the three entry lists: the loop that stores their parts, and zeros after them.
 -- Assumes nothing.
-use mathlib.Core.Path.{◌≡◌, sym}
-use mathlib.Core.List.{List, map}
+use mathlib.Core.Path.{◌≡◌, refl, sym, ◌∙◌, ap, subst}
+use mathlib.Core.List.{List, ◌++◌, map}
 use Prim.Native.Nat.{ℕ, ◌+◌, ◌-◌, ◌≤◌, ◌<◌}
 use native.Mathlib.Nat.{zero-add}
-use lib.ListN.{length, get_or, take, set}
+use native.Mathlib.Omega.{arith}
+use lib.ListN.{length, get_or, take, drop, set, replicate, length-take, length-drop, length-replicate}
+use lib.Seq.{sets, sets-eq, take_all}
 use Rattle.spec_charts.specs.Cells.{max_entries}
 use Rattle.spec_calls.specs.Buffers.{Roomy}
 use Rattle.laws_calls.proofs.PaddedLaws.{padded-stored}
 use Rattle.base_entries.specs.Packed.{key_of, level_of, item_of}
-use Rattle.base_lists.proofs.CopyLaws.{Copying, copying-start, copying-next, copying-end, images-count}
+use Rattle.theory_lists.proofs.CopyLaws.{Copying, copying-start, copying-next, copying-end, images-count}
 use Rattle.chart_lists.specs.Columns.{Columns, unpacked, zeros, Stored, Filled}
+
+-- a list that begins with u, and then is as before
+pub start-stored : (u l : List ℕ) {n : ℕ} → length u ≡ n → n ≤ length l → u ++ drop n l ≡ sets l 0 u
+start-stored u l e b = ap (λ m. u ++ drop m l) (sym e) ∙ sym (sets-eq u l 0 (omega arith) ∙ ap (λ m. u ++ drop m l) (zero-add (length u)))
 
 -- the first i packed entries, of the first n, are stored by column
 pub record Unpacking (es : List ℕ) (i n : ℕ) (before after : Columns) : Type 0 where
@@ -39,10 +45,11 @@ module _ (es : List ℕ) (n : ℕ) (before : Columns) where
         items = copying-next u.items h b place item;
       }
 
-  -- after the last
-  pub unpacking-end : {i : ℕ} {after : Columns} → Unpacking es i n before after → n ≤ i → Stored 0 (unpacked (take n es)) before after
-  unpacking-end u h =
-      record { keys = copying-end u.keys h; levels = copying-end u.levels h; items = copying-end u.items h }
+  -- after the last of all
+  pub unpacking-end : {i : ℕ} {after : Columns} → Unpacking es i n before after → n ≤ i → n ≡ length es → Stored 0 (unpacked es) before after
+  unpacking-end {after = after} u h e =
+      subst (λ l. Stored 0 (unpacked l) before after) (take_all n es (omega arith))
+      (record { keys = copying-end u.keys h; levels = copying-end u.levels h; items = copying-end u.items h })
 
   -- and zeros after them
   pub filled : {between after : Columns} → n ≤ length es → n ≤ max_entries → Roomy max_entries before.keys before.levels before.items

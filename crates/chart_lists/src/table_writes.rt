@@ -9,10 +9,6 @@ pub fn put_table(given: &[u16], n: usize, table: &mut [u16])
     requires { (n ≤ length given.now) × ((n ≤ table_length) × (table_length ≤ length table.old)) }
     ensures { table.new ≡ padded table_length (take n given.now) table.old }
 {
-    let mut i = 0;
-    while i < n {
-        table[i] = given[i];
-        i += 1;
-    }
-    base_lists::zero_items(table, n, base_tables::TABLE_NUMBERS);
+    table[..n].copy_from_slice(&given[..n]);
+    table[n..base_tables::TABLE_NUMBERS].fill(0);
 }

@@ -1,18 +1,18 @@
 -- The chain rule from its parts: the tests of levels, items and neighbours that code makes list by list, and of the two ends.
 -- Assumes nothing.
-use mathlib.Core.Path.{◌≡◌, sym, ◌∙◌, ap, subst}
+use mathlib.Core.Path.{◌≡◌, sym, ◌∙◌, ap, ap₂, subst}
 use mathlib.Core.Bool.{Bool, true, false, ◌&&◌}
 use mathlib.Core.List.{List}
-use Prim.Native.Nat.{ℕ, suc, ◌<◌}
+use Prim.Native.Nat.{ℕ, zero, suc, ◌≤◌, ◌<◌}
 use native.Mathlib.Decide.{dec_le}
 use native.Mathlib.Omega.{arith}
 use native.Mathlib.Numerals.{one-add}
 use lib.Dec.{T, leb, eqb}
-use lib.ListN.{get_or, take, drop}
-use lib.Seq.{get_or-take, get_or-drop}
+use lib.ListN.{length, get_or, take, drop}
+use lib.Seq.{get_or-take, get_or-drop, length-take-le}
 use Rattle.theory_lists.specs.Lists.{all, up_to}
 use Rattle.theory_lists.proofs.Reflects.{Reflects, reflects-and, reflects-iff, reflects-eqb, reflects-test}
-use Rattle.theory_lists.proofs.IndexLaws.{reflects-same, all-below-reflects}
+use Rattle.theory_lists.proofs.IndexLaws.{reflects-same, all-below-none, all-below-more, all-below-reflects}
 use Rattle.theory_orthtree.specs.Entries.{Entry, is_mark, span, range_end, entry_fits, follows, chain}
 use Rattle.spec_squares.specs.Square.{arity, depth}
 use Rattle.spec_calls.specs.Buffers.{Roomy, zip_entries}
@@ -127,6 +127,18 @@ module _ (count : ℕ) (ks ls is : List ℕ) (n m : ℕ) (e : n ≡ suc m) where
         → i ≡ all item_test (up_to n) → f ≡ all link_test (up_to m) → d ≡ ends_tree (at m)
         → eqb (get_or ks 0 0) 0 && i && f && d ≡ chain arity depth count (take n (zip_entries ks ls is))
     chain-joined l p q s = rw (chain-parts, l, p, q, s)
+
+-- two tests that agree below n agree on all numbers below n
+all-same : (f g : ℕ → Bool) (n : ℕ) → ((i : ℕ) → i < n → f i ≡ g i) → all f (up_to n) ≡ all g (up_to n)
+all-same f g zero h = all-below-none f ∙ sym (all-below-none g)
+all-same f g (suc n) h =
+    all-below-more f n ∙ ap₂ ◌&&◌ (all-same f g n (λ i l. h i (omega arith))) (h n (omega arith)) ∙ sym (all-below-more g n)
+
+-- the first n numbers of a list that has so many pass a test exactly if they pass it where they stand in the list
+pub first-all : (f : ℕ → Bool) (l : List ℕ) {n : ℕ} → n ≤ length l → all (λ i. f (get_or (take n l) i 0)) (up_to (length (take n l))) ≡ all (λ i. f (get_or l i 0)) (up_to n)
+first-all f l {n} h =
+    ap (λ m. all (λ i. f (get_or (take n l) i 0)) (up_to m)) (length-take-le n l h)
+    ∙ all-same (λ i. f (get_or (take n l) i 0)) (λ i. f (get_or l i 0)) n (λ i k. ap f (get_or-take n l i 0 k))
 
 -- there is at least one entry
 pub no-entries : (count : ℕ) (es : List Entry) {n : ℕ} → n ≡ 0 → false ≡ chain arity depth count (take n es)

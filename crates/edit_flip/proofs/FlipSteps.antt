@@ -1,6 +1,6 @@
 -- What a flip comes to, by its tests; and the table that its rows make.
 -- Assumes nothing.
-use mathlib.Core.Path.{◌≡◌, refl, sym, ◌∙◌, ap, ap₂}
+use mathlib.Core.Path.{◌≡◌, sym, ◌∙◌, ap, ap₂}
 use mathlib.Core.Bool.{true, false, ◌&&◌, ◌||◌}
 use mathlib.Core.List.{List, ◌∷◌}
 use mathlib.Core.Logic.{inl, inr}
@@ -21,7 +21,7 @@ use Rattle.edit_rows.proofs.RowLaws.{with_row, rows-set}
 use Rattle.edit_rows.proofs.CopyLaws.{triangle-read}
 use Rattle.edit_flip.specs.Places.{BothBelow}
 use Rattle.edit_sides.specs.Sharing.{first_sharing}
-use Rattle.edit_sides.proofs.RotationSteps.{RotationsSkipped, skipped-start, skipped-here, skipped-next, skipped-all}
+use Rattle.edit_sides.proofs.RotationSteps.{RotationsSkipped, skipped-here, skipped-next, skipped-all}
 
 -- ---- a search for the rotations that share a side
 
@@ -38,35 +38,22 @@ module _ (table : Table) (i j : ℕ) (us : List Triangle) where
   unfolding flip_among flip_with
   among-unshared x e l = rw e
 
-  -- rotations of t before number k share no side with the other triangle; the scratch table is as long as it was
-  pub record Tried (t : List Point) (k : ℕ) (o o' : List ℕ) : Type 0 where
-    pub length-same : length o' ≡ length o
-    pub skipped : RotationsSkipped (flip_among table i j us) t k
-
-  -- none is tried yet
-  pub tried-start : (t : List Point) (o : List ℕ) → Tried t 0 o o
-  tried-start t o = record { length-same = refl; skipped = skipped-start (flip_among table i j us) t }
-
-  module _ (t : List Point) {k : ℕ} {o o' : List ℕ} (m : Tried t k o o') where
+  module _ (t : List Point) {k : ℕ} (s : RotationsSkipped (flip_among table i j us) t k) where
     -- rotation k shares one
     pub tried-hit : (u : Triangle) → k < 3 → first_sharing (triangle_of (rotated t k)) us ≡ some u
         → flip_among table i j us (rotations (triangle_of t)) ≡ flip_as table i j (triangle_of (rotated t k)) u
     tried-hit u h e =
-        skipped-here (flip_among table i j us) t m.skipped h
+        skipped-here (flip_among table i j us) t s h
         ∙ among-shared (triangle_of (rotated t k)) u (drop (k + 1) (rotations (triangle_of t))) e
 
     -- rotation k shares none
-    pub tried-next : k < 3 → first_sharing (triangle_of (rotated t k)) us ≡ none → Tried t (k + 1) o o'
-    tried-next h e =
-        record {
-          length-same = m.length-same;
-          skipped = skipped-next (flip_among table i j us) t m.skipped h (among-unshared (triangle_of (rotated t k)) e);
-        }
+    pub tried-next : k < 3 → first_sharing (triangle_of (rotated t k)) us ≡ none → RotationsSkipped (flip_among table i j us) t (k + 1)
+    tried-next h e = skipped-next (flip_among table i j us) t s h (among-unshared (triangle_of (rotated t k)) e)
 
     -- no rotation does
-    pub tried-end : 3 ≤ k → flip_among table i j us (rotations (triangle_of t)) ≡ refused NoFlip
+    pub tried-end : 3 ≤ k → k ≤ 3 → flip_among table i j us (rotations (triangle_of t)) ≡ refused NoFlip
     unfolding flip_among
-    tried-end h = skipped-all (flip_among table i j us) t m.skipped h
+    tried-end h b = skipped-all (flip_among table i j us) t s h b
 
 -- ---- flip
 

@@ -12,7 +12,6 @@ ghost use Rattle.edit_rows.specs.Workspace.{Workspace};
 ghost use Rattle.edit_flip.specs.Places.{BothBelow};
 
 use base_geometry::geometry;
-use edit_rows::Edited;
 use spec_charts::Refusal;
 use spec_plane::Point;
 
@@ -25,7 +24,7 @@ fn flip_as(
     s: [Point; 3],
     u: [Point; 3],
     scratch: &mut [u16],
-) -> Edited
+) -> Result<usize, Refusal>
     requires both_below { BothBelow i j n }
     requires workspace { Workspace table.now n scratch.old }
     ensures scratch_after { edited_outcome result scratch.new ≡ flip_as (table_of table.now n) i j (triangle_of s) (triangle_of u) }
@@ -34,32 +33,35 @@ fn flip_as(
     let x = [s[0], u[2], s[2]];
     let y = [u[2], s[1], s[2]];
     if !(geometry::is_proper(x) & geometry::is_proper(y)) {
-        return Edited::Refused(Refusal::NoFlip);
+        return Err(Refusal::NoFlip);
     }
     edit_rows::replace_row(table, n, i, x, scratch);
     base_tables::put_triangle(scratch, j, y);
-    Edited::Made(n)
+    Ok(n)
 }
 
 // Flip: triangles i and j.
-pub fn flip_table(table: &[u16], n: usize, i: usize, j: usize, scratch: &mut [u16]) -> Edited
+pub fn flip_table(
+    table: &[u16],
+    n: usize,
+    i: usize,
+    j: usize,
+    scratch: &mut [u16],
+) -> Result<usize, Refusal>
     requires { Workspace table.now n scratch.old }
     ensures scratch_after { edited_outcome result scratch.new ≡ flip_table i j (table_of table.now n) }
     ensures result_bound { edited_count result ≤ max_triangles }
 {
     if (i >= n) | (j >= n) {
-        return Edited::Refused(Refusal::NoSuchTriangle);
+        return Err(Refusal::NoSuchTriangle);
     }
     let s = base_tables::triangle_at(table, i);
     let u = base_tables::triangle_at(table, j);
-    let mut k = 0;
-    while k < 3 {
+    for k in 0..3 {
         let v = geometry::rotated(s, k);
-        let m = edit_sides::sharing_rotation(v, u);
-        if m < 3 {
+        if let Some(m) = edit_sides::sharing_rotation(v, u) {
             return flip_as(table, n, i, j, v, geometry::rotated(u, m), scratch);
         }
-        k += 1;
     }
-    Edited::Refused(Refusal::NoFlip)
+    Err(Refusal::NoFlip)
 }

@@ -9,7 +9,7 @@ use native.Mathlib.Decide.{dec_le}
 use native.Mathlib.Omega.{arith}
 use Rattle.spec_plane.specs.declared.Point.{Point}
 use Rattle.spec_plane.specs.declared.Position.{Position}
-use Rattle.spec_plane.specs.Triangle.{Triangle, triangle_of, holds, rotated}
+use Rattle.spec_plane.specs.Triangle.{Triangle, holds}
 use Rattle.spec_plane.specs.Position.{position, is_inside}
 use Rattle.spec_charts.specs.Table.{Table, triangle_at, table_of}
 use Rattle.spec_charts.specs.declared.Refusal.TheVariants.{NoHolder, AtCorner}
@@ -17,7 +17,6 @@ use Rattle.spec_charts.specs.Refusals.{refused}
 use Rattle.spec_charts.specs.Edits.{split_row, side_first, side_split_row, lowest_holder, insert_on_side, insert_in, insert_taken, insert_table}
 use Rattle.laws_charts.proofs.TableLaws.{table_of-length, numbered-at}
 use Rattle.laws_charts.proofs.InsertLaws.{holder-is, holder-none, holder-below}
-use Rattle.edit_sides.specs.Sharing.{RotationFound}
 
 module _ (ns : List ℕ) (n : ℕ) (p : Point) where
   -- no triangle before number j holds p
@@ -71,13 +70,13 @@ module _ (i : ℕ) (t : Triangle) (q : Position) (p : Point) (table : Table) whe
   unfolding insert_in
   beside e = rw e
 
-  module _ (e : is_inside q ≡ false) {s : List Point} {k : ℕ} (tried : RotationFound (side_first q t) s k) where
+  module _ (e : is_inside q ≡ false) where
     -- refusal 14
-    pub into-corner : 3 ≤ k → insert_in i t q p table ≡ refused AtCorner
+    pub into-corner : side_first q t ≡ none → insert_in i t q p table ≡ refused AtCorner
     unfolding insert_on_side
-    into-corner b = beside e ∙ ap (λ o. insert_on_side i o p table) (tried.absent b)
+    into-corner none-on = beside e ∙ ap (λ o. insert_on_side i o p table) none-on
 
     -- on a side
-    pub into-side : k < 3 → insert_in i t q p table ≡ side_split_row i (triangle_of (rotated s k)) p table
+    pub into-side : {u : Triangle} → side_first q t ≡ some u → insert_in i t q p table ≡ side_split_row i u p table
     unfolding insert_on_side
-    into-side b = beside e ∙ ap (λ o. insert_on_side i o p table) (tried.found b)
+    into-side on = beside e ∙ ap (λ o. insert_on_side i o p table) on

@@ -12,8 +12,6 @@ ghost use Rattle.edit_rows.specs.Edited.{edited_outcome, edited_count};
 ghost use Rattle.edit_rows.specs.Workspace.{Workspace};
 
 use base_geometry::geometry;
-use edit_rows::Edited;
-use holders::Holder;
 use spec_charts::Refusal;
 use spec_plane::{Point, Position};
 
@@ -25,7 +23,7 @@ fn insert_in(
     q: Position,
     p: Point,
     scratch: &mut [u16],
-) -> Edited
+) -> Result<usize, Refusal>
     requires i_lt_n { i < n }
     requires workspace { Workspace table.now n scratch.old }
     ensures scratch_after { edited_outcome result scratch.new ≡ insert_in i (triangle_at table.now i) q p (table_of table.now n) }
@@ -35,21 +33,25 @@ fn insert_in(
     if base_positions::is_inside(q) {
         return edit_split::split_row(table, n, i, t, p, scratch);
     }
-    let k = edit_side_split::side_rotation(q);
-    if k >= 3 {
-        return Edited::Refused(Refusal::AtCorner);
-    }
+    let Some(k) = edit_side_split::side_rotation(q) else {
+        return Err(Refusal::AtCorner);
+    };
     edit_side_split::side_split_row(table, n, i, geometry::rotated(t, k), p, scratch)
 }
 
 // Insert of p.
-pub fn insert_table(table: &[u16], n: usize, p: Point, scratch: &mut [u16]) -> Edited
+pub fn insert_table(
+    table: &[u16],
+    n: usize,
+    p: Point,
+    scratch: &mut [u16],
+) -> Result<usize, Refusal>
     requires { Workspace table.now n scratch.old }
     ensures scratch_after { edited_outcome result scratch.new ≡ insert_table p (table_of table.now n) }
     ensures result_bound { edited_count result ≤ max_triangles }
 {
-    match holders::lowest_holder(table, n, p) {
-        Holder::Nobody => Edited::Refused(Refusal::NoHolder),
-        Holder::Triangle(i, q) => insert_in(table, n, i, q, p, scratch),
-    }
+    let Some(holder) = holders::lowest_holder(table, n, p) else {
+        return Err(Refusal::NoHolder);
+    };
+    insert_in(table, n, holder.number, holder.position, p, scratch)
 }

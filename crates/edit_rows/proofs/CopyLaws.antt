@@ -1,6 +1,6 @@
 -- Rows of one table copied behind the rows of another, one by one.
 -- Assumes nothing.
-use mathlib.Core.Path.{◌≡◌, refl, sym, ◌∙◌, ap, ap₂}
+use mathlib.Core.Path.{◌≡◌, sym, ◌∙◌, ap, ap₂}
 use mathlib.Core.List.{List, [], ◌∷◌, ◌++◌, append-nil, append_assoc}
 use Prim.Native.Nat.{ℕ, suc, ◌+◌, ◌*◌, ◌-◌, ◌≤◌, ◌<◌}
 use native.Mathlib.Numerals.{add-one}
@@ -12,23 +12,17 @@ use Rattle.spec_plane.specs.declared.Point.{Point}
 use Rattle.spec_plane.specs.Triangle.{Triangle, triangle_of, corner_at, corners}
 use Rattle.spec_charts.specs.Table.{numbers_per_triangle, triangle_at, table_of}
 use Rattle.laws_charts.proofs.TableLaws.{table_of-length, table_of-suc}
-use Rattle.edit_rows.proofs.RowLaws.{with_row, with_row-length, rows_append, rows-set}
+use Rattle.edit_rows.proofs.RowLaws.{with_row, rows_append, rows-set}
 
 -- the rows first, .., i - 1 of ns stand behind the first m rows that the scratch table had
-pub record Appending (ns : List ℕ) (first end : ℕ) (o : List ℕ) (m : ℕ) (o' : List ℕ) (i : ℕ) : Type 0 where
-  pub low : first ≤ i
-  pub high : i ≤ end
-  pub length-same : length o' ≡ length o
+pub record Appending (ns : List ℕ) (first : ℕ) (o : List ℕ) (m : ℕ) (o' : List ℕ) (i : ℕ) : Type 0 where
   pub made : table_of o' (m + (i - first)) ≡ table_of o m ++ drop first (table_of ns i)
 
 -- none yet
-pub appending-start : (ns : List ℕ) (first end : ℕ) (o : List ℕ) (m : ℕ) → first ≤ end → Appending ns first end o m o first
-appending-start ns first end o m h =
+pub appending-start : (ns : List ℕ) (first : ℕ) (o : List ℕ) (m : ℕ) → Appending ns first o m o first
+appending-start ns first o m =
     let e : m + (first - first) ≡ m = omega arith in
     record {
-      low = omega arith;
-      high = h;
-      length-same = refl;
       made =
           ap (table_of o) e ∙ sym (append-nil (table_of o m))
           ∙ ap (λ l. table_of o m ++ l) (sym (drop_of_length-le (table_of ns first) {i = first} (omega (arith, table_of-length ns first))));
@@ -40,33 +34,22 @@ unfolding triangle_of corner_at
 triangle-read t e = ap triangle_of e
 
 -- one more
-pub appending-next : {ns o o' o'' : List ℕ} {first end m i : ℕ} {s : List Point} → Appending ns first end o m o' i → i < end
-    → numbers_per_triangle * (m + (end - first)) ≤ length o → s ≡ corners (triangle_at ns i) → o'' ≡ with_row o' (m + (i - first)) (triangle_of s)
-    → Appending ns first end o m o'' (i + 1)
-appending-next {ns} {o} {o'} {o''} {first} {end} {m} {i} {s} a h room read wrote =
+pub appending-next : {ns o o' o'' : List ℕ} {first m i : ℕ} {s : List Point} → Appending ns first o m o' i → first ≤ i
+    → numbers_per_triangle * (m + (i - first) + 1) ≤ length o' → s ≡ corners (triangle_at ns i) → o'' ≡ with_row o' (m + (i - first)) (triangle_of s)
+    → Appending ns first o m o'' (i + 1)
+appending-next {ns} {o} {o'} {o''} {first} {m} {i} {s} a low room read wrote =
     let t = triangle_at ns i in
     let k = m + (i - first) in
-    let low = a.low in
     let next : m + (i + 1 - first) ≡ suc k = omega arith in
     let here : o'' ≡ with_row o' k t = wrote ∙ ap (with_row o' k) (triangle-read t read) in
     record {
-      low = omega (arith, a.low);
-      high = omega arith;
-      length-same = ap length here ∙ with_row-length o' k t ∙ a.length-same;
       made =
-          ap₂ table_of here next ∙ rows_append o' k t (omega (arith, a.length-same, a.low))
+          ap₂ table_of here next ∙ rows_append o' k t room
           ∙ ap (λ l. l ++ (t ∷ [])) a.made ∙ append_assoc (table_of o m) (drop first (table_of ns i)) (t ∷ [])
           ∙ ap (λ l. table_of o m ++ l)
-          (sym (drop-append-le first (table_of ns i) (t ∷ []) (omega (arith, a.low, table_of-length ns i)))
+          (sym (drop-append-le first (table_of ns i) (t ∷ []) (omega (arith, table_of-length ns i)))
           ∙ ap (drop first) (sym (table_of-suc ns i) ∙ ap (table_of ns) (sym (add-one i))));
     }
-
--- all of them
-pub appending-end : {ns o o' : List ℕ} {first end m i : ℕ} → Appending ns first end o m o' i → end ≤ i
-    → table_of o' (m + (end - first)) ≡ table_of o m ++ drop first (table_of ns end)
-appending-end {ns} {o} {o'} {first} {end} {m} {i} a h =
-    let e : end ≡ i = omega (arith, a.high) in
-    ap (λ j. table_of o' (m + (j - first))) e ∙ a.made ∙ ap (λ j. table_of o m ++ drop first (table_of ns j)) (sym e)
 
 -- a whole table copied
 pub whole_copy : (ns o o' : List ℕ) (n : ℕ) → table_of o' (0 + (n - 0)) ≡ table_of o 0 ++ drop 0 (table_of ns n) → table_of o' n ≡ table_of ns n

@@ -1,22 +1,13 @@
-// What the edits of plain tables share: how an edit went, rows of one table copied behind those of another, and equal points.
+// What the edits of plain tables share: rows of one table copied behind those of another, and a row replaced.
 // Nothing here knows entries.
 
 #![tactic(auto)]
 
 ghost use Rattle.std.specs.Prelude.{◌≡◌, ◌++◌, ◌+◌, ◌-◌, ◌*◌, ◌≤◌, ◌<◌, length, drop, set};
-ghost use Rattle.spec_plane.specs.Point.{same_point};
 ghost use Rattle.spec_plane.specs.Triangle.{triangle_of};
 ghost use Rattle.spec_charts.specs.Table.{numbers_per_triangle, max_triangles, table_of};
 
-use spec_charts::Refusal;
 use spec_plane::Point;
-
-// How an edit of a plain table went: the scratch table holds so many triangles, or nothing is made.
-#[derive(Clone, Copy)]
-pub enum Edited {
-    Made(usize),
-    Refused(Refusal),
-}
 
 // The triangles from number `first` to before number `end` of a table, behind the first m of the scratch table.
 pub fn append_rows(table: &[u16], first: usize, end: usize, scratch: &mut [u16], m: usize)
@@ -26,10 +17,8 @@ pub fn append_rows(table: &[u16], first: usize, end: usize, scratch: &mut [u16],
     requires first_in_bounds { numbers_per_triangle * (m + (end - first)) ≤ length scratch.old }
     ensures { table_of scratch.new (m + (end - first)) ≡ table_of scratch.old m ++ drop first (table_of table.now end) }
 {
-    let mut i = first;
-    while i < end {
+    for i in first..end {
         base_tables::put_triangle(scratch, m + (i - first), base_tables::triangle_at(table, i));
-        i += 1;
     }
 }
 
@@ -43,11 +32,4 @@ pub fn replace_row(table: &[u16], n: usize, i: usize, x: [Point; 3], scratch: &m
 {
     append_rows(table, 0, n, scratch, 0);
     base_tables::put_triangle(scratch, i, x);
-}
-
-// The same point.
-pub fn same_point(p: Point, q: Point) -> bool
-    ensures { result ≡ same_point p q }
-{
-    (p.x == q.x) & (p.y == q.y)
 }

@@ -1,63 +1,23 @@
 -- What a side split comes to, by its tests; and the table that its rows make.
 -- Assumes nothing.
-use mathlib.Core.Path.{◌≡◌, refl, sym, ◌∙◌, ap, ap₂, subst}
+use mathlib.Core.Path.{◌≡◌, ◌∙◌, ap, ap₂}
 use mathlib.Core.List.{List, [], ◌∷◌, ◌++◌}
-use mathlib.Core.Option.{Option, none, some}
+use mathlib.Core.Option.{none, some}
 use Prim.Native.Nat.{ℕ, ◌+◌, ◌*◌, ◌≤◌, ◌<◌}
 use native.Mathlib.Numerals.{add-one}
 use native.Mathlib.Omega.{arith}
 use lib.ListN.{length, set}
 use Rattle.spec_plane.specs.declared.Point.{Point}
-use Rattle.spec_plane.specs.declared.Position.{Position}
-use Rattle.spec_plane.specs.declared.Position.TheVariants.{Inside, OnAb, OnBc, OnCa, AtA, AtB, AtC, Outside}
-use Rattle.spec_plane.specs.Triangle.{Triangle, triangle_of, corner_at, rotated}
+use Rattle.spec_plane.specs.Triangle.{Triangle}
 use Rattle.spec_charts.specs.Table.{numbers_per_triangle, max_triangles, Table, table_of}
 use Rattle.spec_charts.specs.declared.Refusal.TheVariants.{TableFull}
 use Rattle.spec_charts.specs.Refusals.{refused, done}
-use Rattle.spec_charts.specs.Edits.{triangle, Neighbour, neighbour_from, side_first, side_split_at, side_split_both, within_table, side_split_row}
+use Rattle.spec_charts.specs.Edits.{Neighbour, neighbour_from, side_split_at, side_split_both, within_table, side_split_row}
 use Rattle.laws_charts.proofs.TableLaws.{table_of-length}
 use Rattle.laws_charts.proofs.EditLaws.{within-full, within-fits}
 use Rattle.laws_charts.proofs.NeighbourLaws.{neighbour-found}
 use Rattle.laws_charts.proofs.SideSplitLaws.{side_split_at-length}
 use Rattle.edit_rows.proofs.RowLaws.{with_row, with_row-length, rows_append, rows-set}
-use Rattle.edit_sides.specs.Sharing.{RotationFound}
-use Rattle.edit_side_split.specs.Sides.{SideRotation}
-
--- ---- the rotation with p on its side ab
-
--- its number; 3 stands for none
-abbrev pub side_number : Position → ℕ
-side_number Inside = 3
-side_number OnAb = 0
-side_number OnBc = 1
-side_number OnCa = 2
-side_number AtA = 3
-side_number AtB = 3
-side_number AtC = 3
-side_number Outside = 3
-
--- it is found
-first_found : {o : Option Triangle} {s : List Point} (r : ℕ) → r < 3 → o ≡ some (triangle_of (rotated s r)) → RotationFound o s r
-first_found r h e = record { found = λ _. e; absent = λ over. absurd (omega arith) }
-
--- there is none
-first_absent : {o : Option Triangle} {s : List Point} → o ≡ none → RotationFound o s 3
-first_absent e = record { found = λ below. absurd (omega arith); absent = λ _. e }
-
-numbered-side : (q : Position) → SideRotation q (side_number q)
-unfolding side_first triangle triangle_of rotated corner_at
-numbered-side Inside s = first_absent refl
-numbered-side OnAb s = first_found 0 (omega arith) refl
-numbered-side OnBc s = first_found 1 (omega arith) refl
-numbered-side OnCa s = first_found 2 (omega arith) refl
-numbered-side AtA s = first_absent refl
-numbered-side AtB s = first_absent refl
-numbered-side AtC s = first_absent refl
-numbered-side Outside s = first_absent refl
-
--- for what is told of a position
-pub side-told : {q : Position} (told : Position) → q ≡ told → SideRotation q (side_number told)
-side-told told e = subst (λ q. SideRotation q (side_number told)) (sym e) (numbered-side told)
 
 -- ---- the rows
 

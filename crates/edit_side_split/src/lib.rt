@@ -14,25 +14,23 @@ ghost use Rattle.edit_rows.specs.Edited.{edited_outcome, edited_count};
 ghost use Rattle.edit_rows.specs.Workspace.{Workspace};
 ghost use Rattle.edit_side_split.specs.Sides.{SideRotation};
 
-use base_geometry::geometry;
-use edit_rows::Edited;
-use neighbours::Beside;
 use spec_charts::Refusal;
 use spec_plane::{Point, Position};
 
-// The number of the rotation with p on its side ab, by where p lies; 3 where p is on no side, or at an end of one.
-pub fn side_rotation(q: Position) -> usize
+// The number of the rotation with p on its side ab, by where p lies; there is none where p is on no side, or at an end of one.
+#[tactic(auto, unfolding(spec_charts::specs::Edits::side_first, spec_charts::specs::Edits::triangle, spec_plane::specs::Triangle::triangle_of, spec_plane::specs::Triangle::rotated, spec_plane::specs::Triangle::corner_at))]
+pub fn side_rotation(q: Position) -> Option<usize>
     ensures { SideRotation q result }
 {
     match q {
-        Position::Inside => 3,
-        Position::OnAb => 0,
-        Position::OnBc => 1,
-        Position::OnCa => 2,
-        Position::AtA => 3,
-        Position::AtB => 3,
-        Position::AtC => 3,
-        Position::Outside => 3,
+        Position::Inside => None,
+        Position::OnAb => Some(0),
+        Position::OnBc => Some(1),
+        Position::OnCa => Some(2),
+        Position::AtA => None,
+        Position::AtB => None,
+        Position::AtC => None,
+        Position::Outside => None,
     }
 }
 
@@ -44,27 +42,26 @@ pub fn side_split_row(
     t: [Point; 3],
     p: Point,
     scratch: &mut [u16],
-) -> Edited
+) -> Result<usize, Refusal>
     requires i_lt_n { i < n }
     requires workspace { Workspace table.now n scratch.old }
     ensures scratch_after { edited_outcome result scratch.new ≡ side_split_row i (triangle_of t) p (table_of table.now n) }
     ensures result_bound { edited_count result ≤ max_triangles }
 {
-    match neighbours::neighbour(table, n, t) {
-        Beside::Nobody => {
+    match neighbours::lowest_neighbour(table, n, t) {
+        None => {
             if n + 1 > base_tables::MOST_TRIANGLES {
-                return Edited::Refused(Refusal::TableFull);
+                return Err(Refusal::TableFull);
             }
             row_split::put_split(table, n, i, t, p, scratch);
-            Edited::Made(n + 1)
+            Ok(n + 1)
         }
-        Beside::Triangle(j, k) => {
+        Some(other) => {
             if n + 2 > base_tables::MOST_TRIANGLES {
-                return Edited::Refused(Refusal::TableFull);
+                return Err(Refusal::TableFull);
             }
-            let u = geometry::rotated(base_tables::triangle_at(table, j), k);
-            row_split::put_both(table, n, i, j, t, u, p, scratch);
-            Edited::Made(n + 2)
+            row_split::put_both(table, n, i, other.number, t, other.rotation, p, scratch);
+            Ok(n + 2)
         }
     }
 }

@@ -4,7 +4,7 @@
 use mathlib.Core.Path.{◌≡◌, refl, ◌∙◌, ap}
 use mathlib.Core.Bool.{true, false}
 use mathlib.Core.List.{List, [], ◌∷◌}
-use mathlib.Core.Option.{some}
+use mathlib.Core.Option.{none, some}
 use Prim.Native.Nat.{ℕ, zero, suc, ◌+◌, ◌≤◌, ◌<◌}
 use native.Mathlib.Omega.{arith}
 use lib.ListN.{drop}
@@ -12,7 +12,7 @@ use Rattle.theory_lists.specs.Lists.{first}
 use Rattle.spec_plane.specs.declared.Point.{Point}
 use Rattle.spec_plane.specs.Triangle.{Triangle, triangle_of, corner_at, rotated}
 use Rattle.spec_charts.specs.Edits.{triangle, rotations, shares_side}
-use Rattle.edit_sides.specs.Sharing.{first_sharing, RotationFound}
+use Rattle.edit_sides.specs.Sharing.{first_sharing}
 
 -- the rotations of a triangle from number k on: rotation k, and the rest
 rotation-cons : (t : List Point) (k : ℕ) → k < 3
@@ -30,13 +30,12 @@ rotations-end t k h b = let e : k ≡ 3 = omega arith in ap (λ m. drop m (rotat
 
 -- a search passes over the rotations before number k
 pub record RotationsSkipped {A : Type 0} (f : List Triangle → A) (t : List Point) (k : ℕ) : Type 0 where
-  pub high : k ≤ 3
   pub same : f (rotations (triangle_of t)) ≡ f (drop k (rotations (triangle_of t)))
 
 module _ {A : Type 0} (f : List Triangle → A) (t : List Point) where
   -- none is tried yet
   pub skipped-start : RotationsSkipped f t 0
-  skipped-start = record { high = omega arith; same = refl }
+  skipped-start = record { same = refl }
 
   module _ {k : ℕ} (s : RotationsSkipped f t k) where
     -- rotation k is next
@@ -46,11 +45,11 @@ module _ {A : Type 0} (f : List Triangle → A) (t : List Point) where
     -- it is passed over too
     pub skipped-next : k < 3 → ((l : List Triangle) → f (triangle_of (rotated t k) ∷ l) ≡ f l) → RotationsSkipped f t (k + 1)
     skipped-next h over =
-        record { high = omega arith; same = skipped-here h ∙ over (drop (k + 1) (rotations (triangle_of t))) }
+        record { same = skipped-here h ∙ over (drop (k + 1) (rotations (triangle_of t))) }
 
     -- all are passed over
-    pub skipped-all : 3 ≤ k → f (rotations (triangle_of t)) ≡ f []
-    skipped-all h = s.same ∙ ap f (rotations-end (triangle_of t) k h s.high)
+    pub skipped-all : 3 ≤ k → k ≤ 3 → f (rotations (triangle_of t)) ≡ f []
+    skipped-all h b = s.same ∙ ap f (rotations-end (triangle_of t) k h b)
 
 -- ---- the first rotation that shares a side
 
@@ -67,14 +66,12 @@ module _ (x : Triangle) where
 
   module _ (u : List Point) {k : ℕ} (s : RotationsSkipped (first_sharing x) u k) where
     -- rotation k does
-    pub sharing-found : k < 3 → shares_side x (triangle_of (rotated u k)) ≡ true → RotationFound (first_sharing x (rotations (triangle_of u))) u k
+    pub sharing-found : k < 3 → shares_side x (triangle_of (rotated u k)) ≡ true
+        → first_sharing x (rotations (triangle_of u)) ≡ some (triangle_of (rotated u k))
     sharing-found h e =
-        record {
-          found = λ _. skipped-here (first_sharing x) u s h ∙ sharing-hit (triangle_of (rotated u k)) (drop (k + 1) (rotations (triangle_of u))) e;
-          absent = λ over. absurd (omega arith);
-        }
+        skipped-here (first_sharing x) u s h ∙ sharing-hit (triangle_of (rotated u k)) (drop (k + 1) (rotations (triangle_of u))) e
 
     -- no rotation does
-    pub sharing-absent : 3 ≤ k → RotationFound (first_sharing x (rotations (triangle_of u))) u 3
+    pub sharing-absent : 3 ≤ k → k ≤ 3 → first_sharing x (rotations (triangle_of u)) ≡ none
     unfolding first
-    sharing-absent h = record { found = λ l. absurd (omega arith); absent = λ _. skipped-all (first_sharing x) u s h }
+    sharing-absent h b = skipped-all (first_sharing x) u s h b

@@ -1,6 +1,6 @@
 -- The rotation of a triangle that a search finds, and the search for one that shares a side with another triangle.
 -- Assumes nothing.
-use Rattle.std.specs.Prelude.{◌≡◌, List, ℕ, ◌≤◌, ◌<◌}
+use Rattle.std.specs.Prelude.{◌≡◌, List, ℕ, ◌<◌, Option as CodeOption, Some, None}
 use Rattle.std.proofs.Math.Option.{Option, none, some}
 use Rattle.theory_lists.specs.Lists.{first}
 use Rattle.spec_plane.specs.declared.Point.{Point}
@@ -11,7 +11,7 @@ use Rattle.spec_charts.specs.Edits.{shares_side}
 abbrev pub first_sharing : Triangle → List Triangle → Option Triangle
 first_sharing s us = first (λ u. shares_side s u) us
 
--- r is the number of the rotation of u that is found; 3 stands for none
-pub record RotationFound (o : Option Triangle) (u : List Point) (r : ℕ) : Type 0 where
-  pub found : r < 3 → o ≡ some (triangle_of (rotated u r))
-  pub absent : 3 ≤ r → o ≡ none
+-- the number of the rotation of u that is found; none where none is
+abbrev pub RotationFound : Option Triangle → List Point → CodeOption ℕ → Type 0
+RotationFound o u (Some k) = (k < 3) × (o ≡ some (triangle_of (rotated u k)))
+RotationFound o u None = o ≡ none

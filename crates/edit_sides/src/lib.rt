@@ -11,22 +11,21 @@ use base_geometry::geometry;
 use spec_plane::Point;
 
 // The side ab of s is the side ba of u.
+#[tactic(auto, unfolding(spec_charts::specs::Edits::shares_side, spec_plane::specs::Triangle::triangle_of, spec_plane::specs::Triangle::corner_at, spec_plane::specs::Point::same_point))]
 fn shares_side(s: [Point; 3], u: [Point; 3]) -> bool
     ensures { result ≡ shares_side (triangle_of s) (triangle_of u) }
 {
-    edit_rows::same_point(s[0], u[1]) & edit_rows::same_point(s[1], u[0])
+    (s[0] == u[1]) & (s[1] == u[0])
 }
 
-// The first rotation of u that shares the side ab of s; 3 if there is none.
-pub fn sharing_rotation(s: [Point; 3], u: [Point; 3]) -> usize
+// The number of the first rotation of u that shares the side ab of s.
+pub fn sharing_rotation(s: [Point; 3], u: [Point; 3]) -> Option<usize>
     ensures { RotationFound (first_sharing (triangle_of s) (rotations (triangle_of u))) u result }
 {
-    let mut k = 0;
-    while k < 3 {
+    for k in 0..3 {
         if shares_side(s, geometry::rotated(u, k)) {
-            return k;
+            return Some(k);
         }
-        k += 1;
     }
-    3
+    None
 }

@@ -11,7 +11,6 @@ ghost use Rattle.spec_charts.specs.Edits.{split_row};
 ghost use Rattle.edit_rows.specs.Edited.{edited_outcome, edited_count};
 ghost use Rattle.edit_rows.specs.Workspace.{Workspace};
 
-use edit_rows::Edited;
 use spec_charts::Refusal;
 use spec_plane::Point;
 
@@ -23,15 +22,15 @@ pub fn split_row(
     t: [Point; 3],
     p: Point,
     scratch: &mut [u16],
-) -> Edited
+) -> Result<usize, Refusal>
     requires i_lt_n { i < n }
     requires workspace { Workspace table.now n scratch.old }
     ensures scratch_after { edited_outcome result scratch.new ≡ split_row i (triangle_of t) p (table_of table.now n) }
     ensures result_bound { edited_count result ≤ max_triangles }
 {
     if n + 2 > base_tables::MOST_TRIANGLES {
-        return Edited::Refused(Refusal::TableFull);
+        return Err(Refusal::TableFull);
     }
     triangle_split::put_split(table, n, i, t, p, scratch);
-    Edited::Made(n + 2)
+    Ok(n + 2)
 }

@@ -15,7 +15,7 @@ use Rattle.spec_charts.specs.Table.{triangle_at, table_of}
 use Rattle.spec_charts.specs.Edits.{has_corner}
 use Rattle.laws_charts.proofs.TableLaws.{table_of-length}
 use Rattle.edit_rows.proofs.RowLaws.{rows-cons}
-use Rattle.edit_star.specs.Star.{around_from, NextAround}
+use Rattle.edit_star.specs.Star.{around_from, FirstAround}
 
 module _ (p : Point) where
   -- the first triangle has the corner
@@ -33,8 +33,6 @@ module _ (p : Point) where
   module _ (ns : List ℕ) (n : ℕ) where
     -- from number `first` on, no triangle before number i has the corner
     pub record RowsSkipped (first i : ℕ) : Type 0 where
-      pub low : first ≤ i
-      pub high : i ≤ n + first
       pub same : around_from p (table_of ns n) first ≡ around_from p (table_of ns n) i
 
     -- triangle i has it
@@ -59,25 +57,17 @@ module _ (p : Point) where
 
     -- none is skipped yet
     pub skipped-start : (first : ℕ) → RowsSkipped first first
-    skipped-start first = record { low = omega arith; high = omega arith; same = refl }
+    skipped-start first = record { same = refl }
 
     module _ {first i : ℕ} (s : RowsSkipped first i) where
       -- triangle i is skipped too
       pub skipped-next : i < n → has_corner p (triangle_at ns i) ≡ false → RowsSkipped first (i + 1)
-      skipped-next h e =
-          record { low = omega (arith, s.low); high = omega arith; same = s.same ∙ around-miss i h e }
+      skipped-next h e = record { same = s.same ∙ around-miss i h e }
 
       -- triangle i is the next around p
-      pub skipped-found : i < n → has_corner p (triangle_at ns i) ≡ true → NextAround p (table_of ns n) n first i
-      skipped-found h e =
-          record {
-            low = s.low;
-            high = s.high;
-            found = λ _. s.same ∙ around-hit i h e;
-            absent = λ over. absurd (omega arith);
-          }
+      pub skipped-found : first ≤ i → i < n → has_corner p (triangle_at ns i) ≡ true → FirstAround p (table_of ns n) n first i
+      skipped-found low h e = record { low = low; below = h; found = s.same ∙ around-hit i h e }
 
       -- all are skipped: there is none
-      pub skipped-all : n ≤ i → NextAround p (table_of ns n) n first i
-      skipped-all h =
-          record { low = s.low; high = s.high; found = λ l. absurd (omega arith); absent = λ _. s.same ∙ around-end i h }
+      pub skipped-all : n ≤ i → around_from p (table_of ns n) first ≡ []
+      skipped-all h = s.same ∙ around-end i h

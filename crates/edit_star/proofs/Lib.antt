@@ -1,2 +1,1 @@
 pub mod AroundSteps
-pub mod EndingLaws

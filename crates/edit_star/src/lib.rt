@@ -12,35 +12,35 @@ use base_geometry::geometry;
 use spec_plane::Point;
 
 // The triangle has p as a corner.
+#[tactic(auto, unfolding(spec_charts::specs::Edits::has_corner, spec_plane::specs::Triangle::triangle_of, spec_plane::specs::Triangle::corner_at, spec_plane::specs::Point::same_point))]
 fn has_corner(s: [Point; 3], p: Point) -> bool
     ensures { result ≡ has_corner p (triangle_of s) }
 {
-    edit_rows::same_point(p, s[0]) | edit_rows::same_point(p, s[1]) | edit_rows::same_point(p, s[2])
+    (p == s[0]) | (p == s[1]) | (p == s[2])
 }
 
-// The lowest number, from `first` on, of a triangle with p as a corner. If there is none, a number that no triangle has.
-pub fn next_around(table: &[u16], n: usize, p: Point, first: usize) -> usize
+// The lowest number, from `first` on, of a triangle with p as a corner.
+pub fn next_around(table: &[u16], n: usize, p: Point, first: usize) -> Option<usize>
     requires { numbers_per_triangle * n ≤ length table.now }
     ensures { NextAround p (table_of table.now n) n first result }
 {
-    let mut i = first;
-    while i < n {
+    for i in first..n {
         if has_corner(base_tables::triangle_at(table, i), p) {
-            return i;
+            return Some(i);
         }
-        i += 1;
     }
-    i
+    None
 }
 
 // The triangle rotated to end in its corner p.
+#[tactic(auto, unfolding(spec_charts::specs::Edits::ending_in, spec_charts::specs::Edits::triangle, spec_plane::specs::Triangle::triangle_of, spec_plane::specs::Triangle::rotated, spec_plane::specs::Triangle::corner_at, spec_plane::specs::Point::same_point))]
 fn ending_in(s: [Point; 3], p: Point) -> [Point; 3]
     ensures { triangle_of result ≡ ending_in p (triangle_of s) }
 {
-    if edit_rows::same_point(p, s[2]) {
+    if p == s[2] {
         return geometry::rotated(s, 0);
     }
-    if edit_rows::same_point(p, s[1]) {
+    if p == s[1] {
         return geometry::rotated(s, 2);
     }
     geometry::rotated(s, 1)

@@ -7,16 +7,14 @@ ghost use Rattle.spec_charts.specs.Table.{Drawn, max_triangles, table_of};
 ghost use Rattle.spec_charts.specs.Refusals.{and_then};
 ghost use Rattle.spec_charts.specs.Edits.{proposed, within_limit};
 ghost use Rattle.spec_calls.specs.Buffers.{too_short};
-ghost use Rattle.spec_calls.specs.Lent.{given, held_mut};
+ghost use Rattle.spec_calls.specs.Lent.{viewed_mut, SameLists};
 ghost use Rattle.spec_calls.specs.Calls.{changed_by};
-ghost use Rattle.base_answers.specs.declared.Changed.{Changed as Answers-as-Changed};
-ghost use Rattle.base_answers.specs.Outcomes.{left};
+ghost use Rattle.base_answers.specs.Outcomes.{answered};
 ghost use Rattle.edit_rows.specs.Edited.{edited_outcome, edited_count};
 ghost use Rattle.edit_rows.specs.Workspace.{Workspace};
 ghost use Rattle.edit_steps.specs.Edit.{event_of};
 
-use base_answers::{Changed, Verdict};
-use edit_rows::Edited;
+use spec_calls::ChartMut;
 use spec_charts::Refusal;
 use spec_plane::Point;
 
@@ -28,19 +26,13 @@ pub enum Edit {
     Flip(usize, usize),
 }
 
-// A refusal, with the counts as they were.
-pub fn refused(refusal: Refusal, triangles: usize, entries: usize) -> Changed
-    ensures { ◌≡◌ {A = Answers-as-Changed} result (record { verdict = Verdict.Refused refusal; triangles = triangles; entries = entries }) }
-{
-    Changed {
-        verdict: Verdict::Refused(refusal),
-        triangles,
-        entries,
-    }
-}
-
 // What the edit makes of a plain table.
-pub fn edit_table(edit: Edit, table: &[u16], n: usize, scratch: &mut [u16]) -> Edited
+pub fn edit_table(
+    edit: Edit,
+    table: &[u16],
+    n: usize,
+    scratch: &mut [u16],
+) -> Result<usize, Refusal>
     requires { Workspace table.now n scratch.old }
     ensures scratch_after { edited_outcome result scratch.new ≡ proposed (event_of edit) (table_of table.now n) }
     ensures result_bound { edited_count result ≤ max_triangles }
@@ -53,24 +45,19 @@ pub fn edit_table(edit: Edit, table: &[u16], n: usize, scratch: &mut [u16]) -> E
 }
 
 // What an edit made in the scratch table becomes the chart, unless it has too many entries; or its refusal is answered.
+// Kept: a match in place of `?`, so that the edits counts_exchanged, no_flip_as_8 and stale_entries_as_0 turn its refusal alone.
 pub fn finish(
-    made: Edited,
+    made: Result<usize, Refusal>,
     scratch: &[u16],
-    table: &mut [u16],
-    keys: &mut [u32],
-    levels: &mut [u8],
-    items: &mut [u16],
-    triangles: usize,
-    entries: usize,
-) -> Changed
+    chart: &mut ChartMut,
+) -> Result<(), Refusal>
     requires drawn { Drawn scratch.now (edited_count made) }
-    requires entries_value { too_short (held_mut table keys levels items triangles entries) ≡ false }
-    ensures { left table keys levels items result ≡ changed_by (given table keys levels items triangles entries) (and_then (edited_outcome made scratch.now) (λ t. within_limit t)) }
+    requires long { too_short (viewed_mut chart.old) ≡ false }
+    ensures finished { answered result (viewed_mut chart.new) ≡ changed_by (viewed_mut chart.old) (and_then (edited_outcome made scratch.now) (λ t. within_limit t)) }
+    ensures same_lists { SameLists chart.old chart.new }
 {
     match made {
-        Edited::Made(n) => {
-            chart_store::store(scratch, n, table, keys, levels, items, triangles, entries)
-        }
-        Edited::Refused(r) => refused(r, triangles, entries),
+        Ok(n) => chart_store::store(scratch, n, chart),
+        Err(refusal) => Err(refusal),
     }
 }

@@ -1,8 +1,7 @@
--- Three triangles around a point merged: the tests, and the table that the rows make.
+-- Three triangles around a point merged: the table that the rows make.
 -- The idea: without rows j and k the table is three runs of rows, of which the first has the merged triangle.
 -- Assumes nothing.
-use mathlib.Core.Path.{◌≡◌, refl, sym, ◌∙◌, ap, ap₂}
-use mathlib.Core.Bool.{Bool, true, false, false≢true, cond, ◌||◌}
+use mathlib.Core.Path.{◌≡◌, sym, ◌∙◌, ap, ap₂}
 use mathlib.Core.List.{List, [], ◌∷◌, ◌++◌, append-nil, append_assoc}
 use Prim.Native.Nat.{ℕ, zero, suc, ◌+◌, ◌-◌, ◌*◌, ◌≤◌, ◌<◌}
 use native.Mathlib.Decide.{dec_le}
@@ -12,51 +11,12 @@ use lib.ListN.{length, set, take, drop, length-set}
 use lib.Seq.{take-set-lt, drop-set-lt, take-append-le, drop-append-le, set-append_left, take_at}
 use Rattle.theory_lists.specs.Lists.{without, up_to, count_from}
 use Rattle.spec_plane.specs.Triangle.{Triangle}
-use Rattle.spec_charts.specs.Table.{numbers_per_triangle, Table, triangle_at, table_of}
-use Rattle.spec_charts.specs.declared.Refusal.TheVariants.{NotThreeAround}
-use Rattle.spec_charts.specs.Refusals.{Outcome, refused, done}
-use Rattle.spec_charts.specs.Edits.{triangle, closes_round, merge_around, merge_three}
+use Rattle.spec_charts.specs.Table.{numbers_per_triangle, triangle_at, table_of}
+use Rattle.spec_charts.specs.Edits.{merge_around}
 use Rattle.laws_charts.proofs.TableLaws.{table_of-length, table_of-suc}
 use Rattle.edit_rows.proofs.RowLaws.{with_row, rows-set}
 use Rattle.edit_rows.proofs.CopyLaws.{whole_copy}
 use Rattle.edit_take_out.specs.Places.{Ascending}
-
--- ---- the third corner
-
-module _ (table : Table) (i j k : ℕ) (t u v : Triangle) where
-  -- the merged triangle where u follows t, or else v does
-  abbrev merged_by : Bool → Triangle
-  merged_by z = triangle t.a t.b (cond z u.b v.b)
-
-  abbrev merged_if : Bool → Bool → Outcome Table
-  merged_if z y =
-      elim z [
-        | true ↦ done (merge_around table i j k (triangle t.a t.b u.b))
-        | false ↦ elim y [ true ↦ done (merge_around table i j k (triangle t.a t.b v.b)) | false ↦ refused NotThreeAround ]
-      ]
-
-  -- one of the two others follows the first
-  pub merge-made : closes_round t u v || closes_round t v u ≡ true
-      → merge_three table i j k t u v ≡ done (merge_around table i j k (merged_by (closes_round t u v)))
-  unfolding merge_three
-  merge-made e = go (closes_round t u v) (closes_round t v u) e
-    where
-      go : (z y : Bool) → z || y ≡ true → merged_if z y ≡ done (merge_around table i j k (merged_by z))
-      go true y e = refl
-      go false true e = refl
-      go false false e = absurd (false≢true e)
-
-  -- refusal 8: they do not close round p
-  pub merge-refused : closes_round t u v || closes_round t v u ≡ false → merge_three table i j k t u v ≡ refused NotThreeAround
-  unfolding merge_three
-  merge-refused e = go (closes_round t u v) (closes_round t v u) e
-    where
-      go : (z y : Bool) → z || y ≡ false → merged_if z y ≡ refused NotThreeAround
-      go true y e = absurd (false≢true (sym e))
-      go false true e = absurd (false≢true (sym e))
-      go false false e = refl
-
--- ---- the rows
 
 -- the first k triangles of a table
 pub take-rows : (ns : List ℕ) (k n : ℕ) → k ≤ n → take k (table_of ns n) ≡ table_of ns k

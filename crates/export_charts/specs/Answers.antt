@@ -1,22 +1,22 @@
 -- What the exports of the other calls answer, by the calls' own definitions.
 -- Assumes nothing.
-use Rattle.std.specs.Prelude.{cond}
+use Rattle.std.specs.Prelude.{ℕ, Result, cond}
 use Rattle.spec_calls.specs.Lent.{Lent, left_chart}
 use Rattle.spec_calls.specs.Calls as Calls
+use Rattle.spec_charts.specs.declared.Refusal.{Refusal}
 use Rattle.spec_charts.specs.Refusals.{outcome_number, outcome_value}
-use Rattle.base_answers.specs.declared.Changed.{Changed}
-use Rattle.base_answers.specs.Outcomes.{verdict_outcome}
+use Rattle.base_answers.specs.Outcomes.{outcome_of}
 use Rattle.export_charts.specs.declared.JirdChanged.{JirdChanged}
 use Rattle.export_charts.specs.declared.JirdSounded.{JirdSounded}
 use Rattle.export_charts.specs.declared.JirdMeasured.{JirdMeasured}
 
--- the numbers of a load's or an edit's answer
-abbrev pub changed_numbers : Changed → JirdChanged
-changed_numbers r = record {
-  number = outcome_number (verdict_outcome r.verdict);
-  value = outcome_value (verdict_outcome r.verdict);
-  triangles = r.triangles;
-  entries = r.entries;
+-- the numbers of a load's or an edit's answer, with the counts that its chart has then
+abbrev pub changed_numbers : Result (Unit {0}) Refusal → ℕ → ℕ → JirdChanged
+changed_numbers r triangles entries = record {
+  number = outcome_number (outcome_of r);
+  value = outcome_value (outcome_of r);
+  triangles = triangles;
+  entries = entries;
 }
 
 -- all that a load or an edit gives back: these numbers, and the lists that were lent, as it leaves them

@@ -8,7 +8,8 @@ ghost use Rattle.spec_calls.specs.Lent.{given, shown};
 ghost use Rattle.call_locate.specs.Places.{places_call, PartAt};
 ghost use Rattle.export_charts.specs.Answers.{changed_numbers, changed_left, sound_numbers, area_numbers};
 
-use base_answers::Changed;
+use spec_calls::{ChartMut, ChartView};
+use spec_charts::Refusal;
 use spec_plane::Point;
 
 // What a load or an edit answers: document 01's number, the triangle of refusal 5 or else 0, and the chart's counts.
@@ -45,15 +46,15 @@ pub struct JirdPart {
     pub length: usize,
 }
 
-fn changed_numbers(r: Changed) -> JirdChanged
-    ensures { result ≡ changed_numbers r }
+// The numbers of a load's or an edit's answer, with the counts that its chart has then.
+fn changed_numbers(answer: Result<(), Refusal>, chart: &ChartMut) -> JirdChanged
+    ensures { result ≡ changed_numbers answer chart.now.triangles chart.now.entries }
 {
-    let verdict = r.verdict;
     JirdChanged {
-        number: base_answers::verdict_number(verdict),
-        value: base_answers::verdict_value(verdict),
-        triangles: r.triangles,
-        entries: r.entries,
+        number: base_answers::number(answer),
+        value: base_answers::value(answer),
+        triangles: chart.triangles,
+        entries: chart.entries,
     }
 }
 
@@ -70,7 +71,16 @@ pub extern "C" fn jird_load(
 ) -> JirdChanged
     ensures { changed_left table keys levels items result ≡ load_call numbers.now (given table keys levels items triangles entries) }
 {
-    changed_numbers(call_load::load(numbers, table, keys, levels, items, triangles, entries))
+    let mut chart = ChartMut {
+        table,
+        keys,
+        levels,
+        items,
+        triangles,
+        entries,
+    };
+    let loaded = call_load::load(numbers, &mut chart);
+    changed_numbers(loaded, &chart)
 }
 
 // Insert: of the point (x,y).
@@ -87,8 +97,16 @@ pub extern "C" fn jird_insert(
 ) -> JirdChanged
     ensures { changed_left table keys levels items result ≡ insert_call (record { x = x; y = y }) (given table keys levels items triangles entries) }
 {
-    let p = Point { x, y };
-    changed_numbers(call_edits::insert(table, keys, levels, items, triangles, entries, p))
+    let mut chart = ChartMut {
+        table,
+        keys,
+        levels,
+        items,
+        triangles,
+        entries,
+    };
+    let inserted = call_edits::insert(&mut chart, Point { x, y });
+    changed_numbers(inserted, &chart)
 }
 
 // Take-out: of the point (x,y).
@@ -105,8 +123,16 @@ pub extern "C" fn jird_take_out(
 ) -> JirdChanged
     ensures { changed_left table keys levels items result ≡ take_out_call (record { x = x; y = y }) (given table keys levels items triangles entries) }
 {
-    let p = Point { x, y };
-    changed_numbers(call_edits::take_out(table, keys, levels, items, triangles, entries, p))
+    let mut chart = ChartMut {
+        table,
+        keys,
+        levels,
+        items,
+        triangles,
+        entries,
+    };
+    let taken_out = call_edits::take_out(&mut chart, Point { x, y });
+    changed_numbers(taken_out, &chart)
 }
 
 // Flip: triangles i and j.
@@ -123,7 +149,16 @@ pub extern "C" fn jird_flip(
 ) -> JirdChanged
     ensures { changed_left table keys levels items result ≡ flip_call i j (given table keys levels items triangles entries) }
 {
-    changed_numbers(call_edits::flip(table, keys, levels, items, triangles, entries, i, j))
+    let mut chart = ChartMut {
+        table,
+        keys,
+        levels,
+        items,
+        triangles,
+        entries,
+    };
+    let flipped = call_edits::flip(&mut chart, i, j);
+    changed_numbers(flipped, &chart)
 }
 
 // Soundness.
@@ -138,10 +173,18 @@ pub extern "C" fn jird_soundness(
 ) -> JirdSounded
     ensures { result ≡ sound_numbers (sound_call (shown table keys levels items triangles entries)) }
 {
-    let s = call_soundness::soundness(table, keys, levels, items, triangles, entries);
+    let chart = ChartView {
+        table,
+        keys,
+        levels,
+        items,
+        triangles,
+        entries,
+    };
+    let sound = call_soundness::soundness(chart);
     JirdSounded {
-        number: base_answers::soundness_number(s),
-        sound: base_answers::is_sound(s) as u32,
+        number: base_answers::number(sound),
+        sound: base_answers::done_or(sound, false) as u32,
     }
 }
 
@@ -157,10 +200,18 @@ pub extern "C" fn jird_doubled_area(
 ) -> JirdMeasured
     ensures { result ≡ area_numbers (area_call (shown table keys levels items triangles entries)) }
 {
-    let a = call_area::doubled_area(table, keys, levels, items, triangles, entries);
+    let chart = ChartView {
+        table,
+        keys,
+        levels,
+        items,
+        triangles,
+        entries,
+    };
+    let area = call_area::doubled_area(chart);
     JirdMeasured {
-        number: base_answers::area_number(a),
-        area: base_answers::area_value(a),
+        number: base_answers::number(area),
+        area: base_answers::done_or(area, 0),
     }
 }
 
@@ -179,8 +230,15 @@ pub extern "C" fn jird_cell(
     ensures value { take result.length (drop result.start items.now) ≡ listing_call (shown table keys levels items triangles entries) (record { x = x; y = y }) }
     ensures part_at { PartAt items.now (places_call (shown table keys levels items triangles entries) (record { x = x; y = y })) result.start (result.start + result.length) }
 {
-    let p = Point { x, y };
-    let part = call_locate::places::cell_part(table, keys, levels, items, triangles, entries, p);
+    let chart = ChartView {
+        table,
+        keys,
+        levels,
+        items,
+        triangles,
+        entries,
+    };
+    let part = call_locate::places::cell_part(chart, Point { x, y });
     let start = part.from;
     let length = part.to - start;
     JirdPart { start, length }

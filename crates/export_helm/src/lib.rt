@@ -8,6 +8,7 @@ ghost use Rattle.spec_calls.specs.Lent.{shown};
 ghost use Rattle.export_helm.specs.Helm.{located_numbers, overlaid_left, windowed_left};
 
 use base_geometry::bounds::Bounds;
+use spec_calls::ChartView;
 use spec_plane::Point;
 
 // What locate answers: document 01's number, the triangle or 65535, and the number of the position, 7 for outside.
@@ -50,10 +51,17 @@ pub extern "C" fn jird_locate(
 ) -> JirdLocated
     ensures { result ≡ located_numbers (locate_call (shown table keys levels items triangles entries) (record { x = x; y = y })) }
 {
-    let p = Point { x, y };
-    let located = call_locate::locate(table, keys, levels, items, triangles, entries, p);
-    let number = base_answers::located_number(located);
-    let triangle = base_answers::located_triangle(located) as u32;
+    let chart = ChartView {
+        table,
+        keys,
+        levels,
+        items,
+        triangles,
+        entries,
+    };
+    let located = call_locate::locate(chart, Point { x, y });
+    let number = base_answers::number(located);
+    let triangle = u32::from(base_answers::located_triangle(located));
     let position = base_positions::position_number(base_answers::located_position(located)) as u32;
     JirdLocated {
         number,
@@ -81,15 +89,28 @@ pub extern "C" fn jird_overlay(
 ) -> JirdOverlaid
     ensures { overlaid_left pairs result ≡ overlay_call (shown table0 keys0 levels0 items0 triangles0 entries0) (shown table1 keys1 levels1 items1 triangles1 entries1) pairs.old }
 {
-    let overlaid = call_overlay::overlay(
-        table0, keys0, levels0, items0, triangles0, entries0, table1, keys1, levels1, items1,
-        triangles1, entries1, pairs,
-    );
-    let verdict = overlaid.verdict;
+    let first = ChartView {
+        table: table0,
+        keys: keys0,
+        levels: levels0,
+        items: items0,
+        triangles: triangles0,
+        entries: entries0,
+    };
+    let second = ChartView {
+        table: table1,
+        keys: keys1,
+        levels: levels1,
+        items: items1,
+        triangles: triangles1,
+        entries: entries1,
+    };
+    let overlaid = call_overlay::overlay(first, second, pairs);
+    let counts = base_answers::overlay_counts(overlaid);
     JirdOverlaid {
-        number: base_answers::verdict_number(verdict),
-        pairs: overlaid.pairs,
-        meetings: overlaid.meetings,
+        number: base_answers::number(overlaid),
+        pairs: counts.pairs,
+        meetings: counts.meetings,
     }
 }
 
@@ -110,16 +131,23 @@ pub extern "C" fn jird_window(
 ) -> JirdWindowed
     ensures { windowed_left list result ≡ window_call (shown table keys levels items triangles entries) (record { left = left; top = top; right = right; bottom = bottom }) list.old }
 {
+    let chart = ChartView {
+        table,
+        keys,
+        levels,
+        items,
+        triangles,
+        entries,
+    };
     let w = Bounds {
         left,
         top,
         right,
         bottom,
     };
-    let windowed = call_window::window(table, keys, levels, items, triangles, entries, w, list);
-    let verdict = windowed.verdict;
+    let windowed = call_window::window(chart, w, list);
     JirdWindowed {
-        number: base_answers::verdict_number(verdict),
-        listed: windowed.listed,
+        number: base_answers::number(windowed),
+        listed: base_answers::done_or(windowed, 0),
     }
 }

@@ -20,12 +20,12 @@ use Rattle.laws_calls.proofs.OverwriteLaws.{Indexable, changed-number, changed-v
 -- an edit of any chart, by what judging the chart finds
 module _ (c : Chart) (e : Event) where
   -- a refusal
-  pub edit-refused : {r : Refusal} → refused r ≡ if_indexed c (done true) → changed_by c (refused r) ≡ edit_call e c
+  pub edit-refused : {r : Refusal} → refused r ≡ if_indexed c (done (tt {0})) → changed_by c (refused r) ≡ edit_call e c
   unfolding edit_call
   edit-refused h = ap (changed_by c) (indexed-refused c (event_on e (chart_table c)) h)
 
   -- or nothing: then what the event comes to on the chart's table
-  pub edit-judged : done true ≡ if_indexed c (done true) → changed_by c (event_on e (chart_table c)) ≡ edit_call e c
+  pub edit-judged : done (tt {0}) ≡ if_indexed c (done (tt {0})) → changed_by c (event_on e (chart_table c)) ≡ edit_call e c
   unfolding edit_call and_then
   edit-judged h =
       let next = event_on e (chart_table c) in

@@ -25,5 +25,5 @@ module _ (c : Chart) (p : Point) (on : OnGrid p) (h : Editable c) where
   pub insert-located : insert_call p c ≡ changed_by c (and_then (insert_taken (locate_call c p).found p (chart_table c)) (λ t. within_limit t))
   unfolding proposed insert_table
   insert-located =
-      sym (edit-judged c (insert p) (sym (indexed-passes c (done true) h.long h.chained h.same)))
+      sym (edit-judged c (insert p) (sym (indexed-passes c (done (tt {0})) h.long h.chained h.same)))
       ∙ ap (changed_by c) (event-limited (insert p) (chart_table c) ∙ ap (λ o. and_then (insert_taken o p (chart_table c)) (λ t. within_limit t)) taken-located)

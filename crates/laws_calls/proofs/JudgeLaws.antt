@@ -11,7 +11,7 @@ use Rattle.spec_calls.specs.Buffers.{Chart, too_short, chain_rule, indexed}
 use Rattle.spec_calls.specs.Calls.{if_long, if_chained, if_indexed}
 
 -- what one row judges, before what follows
-row-then : {A : Type 0} (b : Bool) (r : Refusal) (o : Outcome Bool) (next : Outcome A)
+row-then : {A : Type 0} (b : Bool) (r : Refusal) (o : Outcome (Unit {0})) (next : Outcome A)
     → and_then (refuse_if b r o) (λ d. next) ≡ refuse_if b r (and_then o (λ d. next))
 unfolding refuse_if and_then
 row-then true r o next = refl
@@ -20,27 +20,27 @@ row-then false r o next = refl
 module _ (c : Chart) where
   module _ {A : Type 0} (next : Outcome A) where
     -- 1 and 2, then what follows
-    pub chained-then : and_then (if_chained c (done true)) (λ b. next) ≡ if_chained c next
+    pub chained-then : and_then (if_chained c (done (tt {0}))) (λ b. next) ≡ if_chained c next
     unfolding if_chained if_long and_then
     chained-then =
-        rw (row-then (too_short c) ShortBuffer (refuse_if (not (chain_rule c)) BrokenChain (done true)) next, row-then (not (chain_rule c)) BrokenChain (done true) next)
+        rw (row-then (too_short c) ShortBuffer (refuse_if (not (chain_rule c)) BrokenChain (done (tt {0}))) next, row-then (not (chain_rule c)) BrokenChain (done (tt {0})) next)
 
     -- 1, 2 and 3, then what follows
-    pub indexed-then : and_then (if_indexed c (done true)) (λ b. next) ≡ if_indexed c next
+    pub indexed-then : and_then (if_indexed c (done (tt {0}))) (λ b. next) ≡ if_indexed c next
     unfolding if_indexed if_chained if_long and_then
     indexed-then =
         rw (
-          row-then (too_short c) ShortBuffer (refuse_if (not (chain_rule c)) BrokenChain (refuse_if (not (indexed c)) StaleEntries (done true))) next,
-          row-then (not (chain_rule c)) BrokenChain (refuse_if (not (indexed c)) StaleEntries (done true)) next,
-          row-then (not (indexed c)) StaleEntries (done true) next,
+          row-then (too_short c) ShortBuffer (refuse_if (not (chain_rule c)) BrokenChain (refuse_if (not (indexed c)) StaleEntries (done (tt {0})))) next,
+          row-then (not (chain_rule c)) BrokenChain (refuse_if (not (indexed c)) StaleEntries (done (tt {0}))) next,
+          row-then (not (indexed c)) StaleEntries (done (tt {0})) next,
         )
 
     -- a refusal that judging gives is what the whole gives
-    pub chained_refused : {r : Refusal} → refused r ≡ if_chained c (done true) → refused r ≡ if_chained c next
+    pub chained_refused : {r : Refusal} → refused r ≡ if_chained c (done (tt {0})) → refused r ≡ if_chained c next
     unfolding and_then
     chained_refused h = ap (λ o. and_then o (λ b. next)) h ∙ chained-then
 
-    pub indexed-refused : {r : Refusal} → refused r ≡ if_indexed c (done true) → refused r ≡ if_indexed c next
+    pub indexed-refused : {r : Refusal} → refused r ≡ if_indexed c (done (tt {0})) → refused r ≡ if_indexed c next
     unfolding and_then
     indexed-refused h = ap (λ o. and_then o (λ b. next)) h ∙ indexed-then
 
@@ -68,21 +68,21 @@ module _ (c : Chart) where
   judged-stale next s r i = rw (s, r, i)
 
   -- a chart that neither 1 nor 2 refuses
-  pub chained-passed : done true ≡ if_chained c (done true) → (too_short c ≡ false) × (chain_rule c ≡ true)
+  pub chained-passed : done (tt {0}) ≡ if_chained c (done (tt {0})) → (too_short c ≡ false) × (chain_rule c ≡ true)
   unfolding if_chained if_long refuse_if
   chained-passed h = go (too_short c) (chain_rule c) h
     where
-      go : (s r : Bool) → done true ≡ refuse_if s ShortBuffer (refuse_if (not r) BrokenChain (done true)) → (s ≡ false) × (r ≡ true)
+      go : (s r : Bool) → done (tt {0}) ≡ refuse_if s ShortBuffer (refuse_if (not r) BrokenChain (done (tt {0}))) → (s ≡ false) × (r ≡ true)
       go true r h = absurd (refused-done (sym h))
       go false true h = (refl, refl)
       go false false h = absurd (refused-done (sym h))
 
   -- a chart that 3 does not refuse either
-  pub indexed-passed : done true ≡ if_indexed c (done true) → (too_short c ≡ false) × ((chain_rule c ≡ true) × (indexed c ≡ true))
+  pub indexed-passed : done (tt {0}) ≡ if_indexed c (done (tt {0})) → (too_short c ≡ false) × ((chain_rule c ≡ true) × (indexed c ≡ true))
   unfolding if_indexed if_chained if_long refuse_if
   indexed-passed h = go (too_short c) (chain_rule c) (indexed c) h
     where
-      go : (s r i : Bool) → done true ≡ refuse_if s ShortBuffer (refuse_if (not r) BrokenChain (refuse_if (not i) StaleEntries (done true)))
+      go : (s r i : Bool) → done (tt {0}) ≡ refuse_if s ShortBuffer (refuse_if (not r) BrokenChain (refuse_if (not i) StaleEntries (done (tt {0}))))
           → (s ≡ false) × ((r ≡ true) × (i ≡ true))
       go true r i h = absurd (refused-done (sym h))
       go false true true h = (refl, (refl, refl))

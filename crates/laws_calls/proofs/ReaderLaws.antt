@@ -33,7 +33,7 @@ found_in table es p =
     record { number = 0; found = found; position = found_position table p found }
 
 module _ (c : Chart) where
-  module _ {r : Refusal} (h : refused r ≡ if_chained c (done true)) where
+  module _ {r : Refusal} (h : refused r ≡ if_chained c (done (tt {0}))) where
     -- nothing is read at a refusal
     pub reading-refused : {A : Type 0} (a : A) → refused r ≡ reading c a
     unfolding reading

@@ -2,12 +2,10 @@
 -- The idea: the command byte chooses among seven.
 -- Assumes nothing.
 use mathlib.Core.Path.{◌≡◌, refl, sym, ◌∙◌, ap, subst}
-use mathlib.Core.Bool.{Bool, true, false, ◌&&◌}
 use mathlib.Core.List.{List}
 use Prim.Native.Nat.{ℕ, ◌≤◌}
 use native.Mathlib.Omega.{arith}
-use borrow.Author.Tests.{ne_eqb, leb-true, le-leb}
-use lib.Dec.{leb}
+use borrow.Author.Tests.{ne_eqb}
 use lib.ListN.{get_or, drop}
 use lib.Seq.{get_or-drop}
 use Rattle.spec_calls.specs.Buffers.{Chart}
@@ -77,24 +75,3 @@ module _ (b : ℕ) (bytes : List ℕ) (s : State) {at next : ℕ} {out out' : Li
       → Wrote (overlay_step s).printed at next out out' → Running s d e w n → RanCommand (step_of b (drop 1 bytes) s) at next out out' d e w n
   unfolding overlay_step
   as-overlay h1 h2 h3 h4 h5 h6 wrote r = ran-command-as (step-overlay b bytes s h1 h2 h3 h4 h5 h6) (record { wrote = wrote; running = r })
-
--- a test of two bounds
-pub both-bounds : (b : ℕ) → leb 3 b && leb b 5 ≡ true → (3 ≤ b) × (b ≤ 5)
-both-bounds b e = (leb-true 3 b (first-true (leb 3 b) (leb b 5) e), leb-true b 5 (second-true (leb 3 b) (leb b 5) e))
-  where
-    first-true : (p q : Bool) → p && q ≡ true → p ≡ true
-    first-true true q h = refl
-    first-true false q h = h
-
-    second-true : (p q : Bool) → p && q ≡ true → q ≡ true
-    second-true true q h = h
-    second-true false q h = cc
-
-pub no-bounds : (b : ℕ) → leb 3 b && leb b 5 ≡ false → (b ≡ 3 → ⊥) × ((b ≡ 4 → ⊥) × (b ≡ 5 → ⊥))
-no-bounds b e = (λ h. go 3 (omega arith) (omega arith) h, (λ h. go 4 (omega arith) (omega arith) h, λ h. go 5 (omega arith) (omega arith) h))
-  where
-    go : (k : ℕ) → 3 ≤ k → k ≤ 5 → b ≡ k → ⊥
-    go k h l is =
-        let t : leb 3 b && leb b 5 ≡ true = rw (le-leb 3 b (omega arith), le-leb b 5 (omega arith)) refl in
-        let z : ◌≡◌ {A = Bool} true false = sym t ∙ e in
-        let y : ◌≡◌ {A = ℕ} 0 1 = cc in omega arith

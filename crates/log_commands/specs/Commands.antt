@@ -2,12 +2,10 @@
 -- Assumes nothing.
 use Rattle.std.specs.Prelude.{List, ℕ, get_or, drop}
 use Rattle.spec_calls.specs.Buffers.{Chart}
-use Rattle.spec_calls.specs.Lent.{Lent}
 use Rattle.spec_log.specs.Log.{State, Step, step_of}
 use Rattle.log_lines.specs.Bytes.{Wrote}
-use Rattle.log_events.specs.declared.BothCounts.{BothCounts}
 use Rattle.log_events.specs.Both.{Both}
-use Rattle.log_edits.specs.Edits.{Running, BothLent}
+use Rattle.log_edits.specs.Edits.{Running}
 
 -- a step was made: what it prints is written, and the buffers hold the state after it
 pub record RanCommand (st : Step) (at next : ℕ) (before after : List ℕ) (d e : Chart) (waiting : List ℕ) (n : ℕ) : Type 0 where
@@ -18,8 +16,3 @@ pub record RanCommand (st : Step) (at next : ℕ) (before after : List ℕ) (d e
 abbrev pub RanHeld : List ℕ → Both → List ℕ → ℕ → Both → List ℕ → ℕ → ℕ → ℕ → List ℕ → List ℕ → Type 0
 RanHeld held b waiting n b' waiting' n' at next before after = (s : State) → Running s b.first b.second waiting n
     → RanCommand (step_of (get_or held 0 0) (drop 1 held) s) at next before after b'.first b'.second waiting' n'
-
--- any command was made on lent lists: the counts n became n', and how many numbers wait w became w'
-abbrev pub RanLent : List ℕ → BothLent → BothCounts → BothCounts → Lent → ℕ → ℕ → Lent → ℕ → ℕ → Type 0
-RanLent held charts n n' waiting w w' out at next =
-    RanHeld held (charts.entry n) waiting.entry.now w (charts.exit n') waiting.exit.now w' at next out.entry.now out.exit.now

@@ -13,8 +13,9 @@ use Rattle.spec_charts.specs.Edits.{Event, event_on}
 use Rattle.spec_calls.specs.Buffers.{Chart}
 use Rattle.spec_calls.specs.History.{event_call}
 use Rattle.spec_log.specs.Log.{State, line, table_in, with_chart, event_numbers, event_step}
-use Rattle.base_answers.specs.declared.Changed as answers
-use Rattle.base_answers.specs.Outcomes.{verdict_outcome, changed_of}
+use Rattle.std.specs.Prelude.{Result}
+use Rattle.spec_charts.specs.declared.Refusal.{Refusal}
+use Rattle.base_answers.specs.Outcomes.{outcome_of, answered}
 use Rattle.log_lines.specs.Bytes.{Wrote}
 use Rattle.log_lines.proofs.LineLaws.{line-short, wrote_as}
 use Rattle.log_state.specs.State.{Charts, Ran, chart_in, told_numbers}
@@ -23,51 +24,48 @@ use Rattle.log_events.specs.Events.{CalledOn, line_room}
 
 -- ---- the call on chart 0, or on the other
 
-module _ (chart : ℕ → ℕ → Chart) (counted : (n m : ℕ) → (chart n m).entry_count ≡ m) {r : answers.Changed} where
-  pub first-called : (c : ℕ) (e : Event) (d₀ d₁ : Chart) → c ≡ 0 → changed_of r chart ≡ event_call e d₀
-      → CalledOn c e d₀ d₁ r (chart r.triangles r.entries) d₁
+module _ {r : Result (Unit {0}) Refusal} {d : Chart} where
+  pub first-called : (c : ℕ) (e : Event) (d₀ d₁ : Chart) → c ≡ 0 → answered r d ≡ event_call e d₀ → CalledOn c e d₀ d₁ r d d₁
   unfolding chart_in
-  first-called c e d₀ d₁ z h = rw z (record {
-    number = ap (λ x. x.number) h;
-    value = ap (λ x. x.value) h;
-    entries = sym (counted r.triangles r.entries) ∙ ap (λ x. x.chart.entry_count) h;
-    first = ap (λ x. x.chart) h;
-    second = refl;
-  })
+  first-called c e d₀ d₁ z h =
+      rw z (record { number = ap (λ x. x.number) h; value = ap (λ x. x.value) h; first = ap (λ x. x.chart) h; second = refl })
 
-  pub other-called : (c : ℕ) (e : Event) (d₀ d₁ : Chart) → (c ≡ 0 → ⊥) → changed_of r chart ≡ event_call e d₁
-      → CalledOn c e d₀ d₁ r d₀ (chart r.triangles r.entries)
+  pub other-called : (c : ℕ) (e : Event) (d₀ d₁ : Chart) → (c ≡ 0 → ⊥) → answered r d ≡ event_call e d₁ → CalledOn c e d₀ d₁ r d₀ d
   unfolding chart_in
   other-called zero e d₀ d₁ z h = absurd (z refl)
-  other-called (suc c) e d₀ d₁ z h = record {
-    number = ap (λ x. x.number) h;
-    value = ap (λ x. x.value) h;
-    entries = sym (counted r.triangles r.entries) ∙ ap (λ x. x.chart.entry_count) h;
-    first = refl;
-    second = ap (λ x. x.chart) h;
-  }
+  other-called (suc c) e d₀ d₁ z h = record { number = ap (λ x. x.number) h; value = ap (λ x. x.value) h; first = refl; second = ap (λ x. x.chart) h }
+
+-- the entry count of the chart that c names
+pub first_entries : (c : ℕ) (d e : Chart) → c ≡ 0 → d.entry_count ≡ (chart_in c d e).entry_count
+unfolding chart_in
+first_entries c d e z = rw z refl
+
+pub other_entries : (c : ℕ) (d e : Chart) → (c ≡ 0 → ⊥) → e.entry_count ≡ (chart_in c d e).entry_count
+unfolding chart_in
+other_entries zero d e z = absurd (z refl)
+other_entries (suc c) d e z = refl
 
 -- ---- what it comes to, where the charts hold the tables of a state
 
-module _ (e : Event) {d₀ d₁ d₀' d₁' : Chart} {r : answers.Changed} (s : State) (h : Charts s d₀ d₁) where
+module _ (e : Event) {d₀ d₁ d₀' d₁' : Chart} {r : Result (Unit {0}) Refusal} (s : State) (h : Charts s d₀ d₁) where
   numbers-told : (c : ℕ) → CalledOn c e d₀ d₁ r d₀' d₁'
-      → told_numbers (outcome_number (verdict_outcome r.verdict)) (outcome_value (verdict_outcome r.verdict)) r.entries ≡ event_numbers (event_on e (table_in c s))
+      → told_numbers (outcome_number (outcome_of r)) (outcome_value (outcome_of r)) (chart_in c d₀' d₁').entry_count ≡ event_numbers (event_on e (table_in c s))
   unfolding chart_in table_in
-  numbers-told zero k = rw (k.number, k.value, k.entries) (event-told h.first e)
-  numbers-told (suc c) k = rw (k.number, k.value, k.entries) (event-told h.second e)
+  numbers-told zero k = rw (k.number, k.value, k.first) (event-told h.first e)
+  numbers-told (suc c) k = rw (k.number, k.value, k.second) (event-told h.second e)
 
   charts-after : (c : ℕ) → CalledOn c e d₀ d₁ r d₀' d₁' → Charts (with_chart c (done_or (table_in c s) (event_on e (table_in c s))) s) d₀' d₁'
   unfolding chart_in table_in with_chart
   charts-after zero k = rw (k.first, k.second) (record { first = holding-event h.first e; second = h.second })
   charts-after (suc c) k = rw (k.first, k.second) (record { first = h.first; second = holding-event h.second e })
 
-pub event-ran : (command c : ℕ) (e : Event) {d₀ d₁ d₀' d₁' : Chart} {r : answers.Changed} {at next : ℕ} {out out' : List ℕ}
-    → CalledOn c e d₀ d₁ r d₀' d₁'
-    → Wrote (line command (told_numbers (outcome_number (verdict_outcome r.verdict)) (outcome_value (verdict_outcome r.verdict)) r.entries)) at next out out'
+pub event-ran : (command c : ℕ) (e : Event) {d₀ d₁ d₀' d₁' : Chart} {r : Result (Unit {0}) Refusal} {n at next : ℕ} {out out' : List ℕ}
+    → CalledOn c e d₀ d₁ r d₀' d₁' → n ≡ (chart_in c d₀' d₁').entry_count
+    → Wrote (line command (told_numbers (outcome_number (outcome_of r)) (outcome_value (outcome_of r)) n)) at next out out'
     → (s : State) → Charts s d₀ d₁ → Ran (event_step command c (event_on e (table_in c s)) s) at next out out' d₀' d₁'
 unfolding event_step
-event-ran command c e k w s h =
-    record { wrote = wrote_as (ap (line command) (numbers-told e s h c k)) w; charts = charts-after e s h c k }
+event-ran command c e {r = r} k i w s h =
+    record { wrote = wrote_as (ap (line command) (ap (told_numbers (outcome_number (outcome_of r)) (outcome_value (outcome_of r))) i ∙ numbers-told e s h c k)) w; charts = charts-after e s h c k }
 
 -- ---- the numbers of a line, by the number of the call
 

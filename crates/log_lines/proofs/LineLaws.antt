@@ -3,14 +3,18 @@
 use mathlib.Core.Path.{◌≡◌, refl, sym, ◌∙◌, ap, ap₂, subst}
 use mathlib.Core.Bool.{Bool, true, false}
 use mathlib.Core.List.{List, [], ◌∷◌, ◌++◌, append-nil, flat_map}
-use Prim.Native.Nat.{ℕ, zero, suc, ◌+◌, ◌*◌, ◌/◌, ◌%◌, ◌^◌, ◌≤◌, ◌<◌}
-use native.Mathlib.Nat.{pow-suc}
+use Prim.Native.Nat.{ℕ, zero, suc, ◌+◌, ◌-◌, ◌*◌, ◌/◌, ◌%◌, ◌^◌, ◌≤◌, ◌<◌}
 use native.Mathlib.Numerals.{add-one}
 use native.Mathlib.Omega.{arith}
+use borrow.Rule.Slice.PartMut.{put_mid}
 use borrow.Author.Tests.{lt-ltb, le-ltb, ltb-true, ltb-false}
 use lib.Dec.{ltb}
 use lib.ListN.{length, get_or, take, drop, set, length-set, length-append, take-append-drop, get_or-append}
-use lib.Seq.{sets, length-sets, length-take-le, take-suc, take_all, take-length}
+use lib.Seq.{sets, length-sets, take-suc, take_all, take-length}
+use Rattle.std.specs.Fmt.{decimal as Fmt·decimal}
+use Rattle.std.proofs.lemmas.Fmt.{decimal_by_steps, length-decimal-le}
+use Rattle.std.proofs.lemmas.List.Edits.{sets-eq}
+use Rattle.std.proofs.lemmas.Slice.{put_mid-paste}
 use Rattle.theory_lists.proofs.ListsLaws.{Every, every-uncons, get_or-stride, sets-join}
 use Rattle.theory_lists.proofs.FlatMapLaws.{flat_map-append, flat_map-length}
 use Rattle.spec_charts.specs.Overlay.{Pair, pair, pair_numbers}
@@ -40,27 +44,30 @@ digits-fuel (suc k) (suc m) n h l = go (digits-fuel k m (n / 10)) (ltb n 10) ref
         let g = ltb-false n 10 e in
         digits_more k n g ∙ ap (λ d. d ++ ((48 + n % 10) ∷ [])) (same (omega arith) (omega arith)) ∙ sym (digits_more m n g)
 
-pub decimal-one : (n : ℕ) → n < 10 → decimal n ≡ (48 + n) ∷ []
+decimal-one : (n : ℕ) → n < 10 → decimal n ≡ (48 + n) ∷ []
 unfolding decimal
 decimal-one n h = digits-one n n h
 
-pub decimal-more : (n : ℕ) → 10 ≤ n → decimal n ≡ decimal (n / 10) ++ ((48 + n % 10) ∷ [])
+decimal-more : (n : ℕ) → 10 ≤ n → decimal n ≡ decimal (n / 10) ++ ((48 + n % 10) ∷ [])
 unfolding decimal
 decimal-more zero h = absurd (omega arith)
 decimal-more (suc n) h =
     digits_more n (suc n) h
     ∙ ap (λ d. d ++ ((48 + suc n % 10) ∷ [])) (digits-fuel n (suc n / 10) (suc n / 10) (omega arith) (omega arith))
 
+-- std's text of a number is these digits
+decimal-same : (n : ℕ) → n < 2 ^ 64 → Fmt·decimal n ≡ decimal n
+decimal-same n h =
+    decimal_by_steps (λ n ds. ds ≡ decimal n) (λ n l. sym (decimal-one n l))
+    (λ n ds l e. ap (λ d. d ++ ((48 + n % 10) ∷ [])) e ∙ sym (decimal-more n l)) n h
+
+-- so its bytes are too
+pub text-decimal : {n : ℕ} {text bytes : List ℕ} → n < 2 ^ 64 → text ≡ Fmt·decimal n → bytes ≡ text → bytes ≡ decimal n
+text-decimal {n} h e f = f ∙ e ∙ decimal-same n h
+
 -- below 10 ^ k there are at most k digits
-pub decimal-short : (k n : ℕ) → n < 10 ^ suc k → length (decimal n) ≤ suc k
-decimal-short zero n h = rw (decimal-one n (omega arith)) (omega arith)
-decimal-short (suc k) n h = go (decimal-short k (n / 10)) (ltb n 10) refl
-  where
-    go : (n / 10 < 10 ^ suc k → length (decimal (n / 10)) ≤ suc k) → (b : Bool) → ltb n 10 ≡ b → length (decimal n) ≤ suc (suc k)
-    go shorter true e = rw (decimal-one n (ltb-true n 10 e)) (omega arith)
-    go shorter false e =
-        let l = shorter (omega (arith, pow-suc 10 (suc k))) in
-        rw (decimal-more n (ltb-false n 10 e)) (omega (arith, length-append (decimal (n / 10)) ((48 + n % 10) ∷ [])))
+decimal-short : (k n : ℕ) → n < 10 ^ suc k → n < 2 ^ 64 → length (decimal n) ≤ suc k
+decimal-short k n h l = subst (λ d. length d ≤ suc k) (decimal-same n l) (length-decimal-le (suc k) n (omega arith) h l)
 
 -- ---- bytes
 
@@ -85,20 +92,15 @@ wrote_as {u} {v} {a} {b} {l} {m} e w = subst (λ x. Wrote x a b l m) e w
 pub wrote-length : {u : List ℕ} {a b : ℕ} {l m : List ℕ} → Wrote u a b l m → length m ≡ length l
 wrote-length {u} {a} {b} {l} f = ap length f.stored ∙ length-sets l a u
 
--- ---- a number in decimal
-
-pub room-one : {n at m : ℕ} → n < 10 → at + length (decimal n) ≤ m → at < m
-room-one {n} h l = omega (arith, ap length (decimal-one n h))
-
-pub length_more : (n : ℕ) → 10 ≤ n → length (decimal n) ≡ suc (length (decimal (n / 10)))
-length_more n h = ap length (decimal-more n h) ∙ length-append (decimal (n / 10)) ((48 + n % 10) ∷ []) ∙ omega arith
-
-pub wrote-digit : {n d a b : ℕ} {l m : List ℕ} → n < 10 → d ≡ 48 + n → Wrote (d ∷ []) a b l m → Wrote (decimal n) a b l m
-wrote-digit {n} {d} {a} {b} {l} {m} h e w = subst (λ u. Wrote u a b l m) (ap (λ k. k ∷ []) e ∙ sym (decimal-one n h)) w
-
-pub wrote-digits : {n d a b c : ℕ} {l m o : List ℕ} → 10 ≤ n → Wrote (decimal (n / 10)) a b l m → d ≡ 48 + n % 10 → Wrote (d ∷ []) b c m o → Wrote (decimal n) a c l o
-wrote-digits {n} {d} {a} {b} {c} {l} {m} {o} h w e v =
-    subst (λ u. Wrote u a c l o) (ap (λ k. decimal (n / 10) ++ (k ∷ [])) e ∙ sym (decimal-more n h)) (wrote-join w v)
+-- the bytes of a list, copied
+pub wrote-copied : (l u ys : List ℕ) (a : ℕ) → a + length u ≤ length l → ys ≡ u → Wrote u a (a + length u) l (put_mid a (a + length u - a) l ys)
+wrote-copied l u ys a h e =
+    let k : length u ≡ a + length u - a = omega arith in
+    let stored : put_mid a (a + length u - a) l ys ≡ sets l a u =
+    put_mid-paste a (a + length u - a) l ys u (length u) e k refl
+    ∙ ap (λ v. take a l ++ v ++ drop (a + length u) l) (take-length u)
+    ∙ sym (sets-eq u l a h) in
+    record { end = refl; stored = stored; room = omega (arith, ap length stored, length-sets l a u) }
 
 -- ---- bytes of a list
 
@@ -109,10 +111,6 @@ bytes-step l k h v w = wrote_as (sym (ap (λ j. take j l) (add-one k) ∙ take-s
 
 pub bytes-all : (l : List ℕ) (k : ℕ) → length l ≤ k → {a b : ℕ} {o p : List ℕ} → Wrote (take k l) a b o p → Wrote l a b o p
 bytes-all l k h w = wrote_as (take_all k l h) w
-
--- there is room for one more
-pub bytes-room : (l : List ℕ) (k : ℕ) → k < length l → {a b : ℕ} {o p : List ℕ} → Wrote (take k l) a b o p → a + length l ≤ length o → b < length p
-bytes-room l k h w r = omega (arith, w.end, wrote-length w, length-take-le k l (omega arith))
 
 -- ---- a line
 
@@ -131,9 +129,6 @@ spaced-step l k h v w x = wrote_as (sym (ap (λ j. spaced (take j l)) (add-one k
 pub spaced-none : (l : List ℕ) (a : ℕ) (o : List ℕ) → a ≤ length o → Wrote (spaced (take 0 l)) a a o o
 unfolding spaced flat_map
 spaced-none l a o h = wrote_none a o h
-
-pub spaced-all : (l : List ℕ) (k : ℕ) → length l ≤ k → {a b : ℕ} {o p : List ℕ} → Wrote (spaced (take k l)) a b o p → Wrote (spaced l) a b o p
-spaced-all l k h w = wrote_as (ap spaced (take_all k l h)) w
 
 -- some numbers take as much room as all of them, or less
 spaced-part : (l : List ℕ) (k : ℕ) → length (spaced (take k l)) ≤ length (spaced l)
@@ -165,18 +160,18 @@ spaced-short : (l : List ℕ) → Every (λ n. n < 2 ^ 64) l → length (spaced 
 unfolding spaced flat_map
 spaced-short [] h = omega arith
 spaced-short (n ∷ l) h =
-    let d = decimal-short 19 n (omega (arith, (every-uncons h).0)) in
+    let d = decimal-short 19 n (omega (arith, (every-uncons h).0)) (omega (arith, (every-uncons h).0)) in
     omega (arith, length-append (32 ∷ decimal n) (flat_map (λ n. 32 ∷ decimal n) l), spaced-short l (every-uncons h).1)
 
 pub line-short : (n : ℕ) (l : List ℕ) → n < 2 ^ 64 → Every (λ m. m < 2 ^ 64) l → length (line n l) ≤ 21 + 21 * length l
-line-short n l h s = omega (arith, line-length n l, decimal-short 19 n (omega arith), spaced-short l s)
+line-short n l h s = omega (arith, line-length n l, decimal-short 19 n (omega arith) h, spaced-short l s)
 
 -- the line of two 16-bit numbers has at most twelve bytes
 pub pair-short : (i j : ℕ) → i < 65536 → j < 65536 → length (line i (j ∷ [])) ≤ pair_bytes
 unfolding spaced flat_map
 pair-short i j h k =
     let one : length (spaced (j ∷ [])) ≡ suc (length (decimal j)) = ap length (append-nil (32 ∷ decimal j)) in
-    omega (arith, line-length i (j ∷ []), decimal-short 4 i (omega arith), decimal-short 4 j (omega arith), one)
+    omega (arith, line-length i (j ∷ []), decimal-short 4 i (omega arith) (omega arith), decimal-short 4 j (omega arith) (omega arith), one)
 
 -- the heading is this byte string
 pub heading-is : 111 ∷ 118 ∷ 101 ∷ 114 ∷ 108 ∷ 97 ∷ 121 ∷ 32 ∷ 108 ∷ 111 ∷ 103 ∷ 10 ∷ [] ≡ heading
@@ -194,7 +189,7 @@ unfolding bad_line
 bad-length n = omega (arith, length-append (decimal n) (10 ∷ []))
 
 pub bad-short : (n : ℕ) → n < 2 ^ 64 → length (bad_line n) ≤ 25
-bad-short n h = omega (arith, bad-length n, decimal-short 19 n (omega arith))
+bad-short n h = omega (arith, bad-length n, decimal-short 19 n (omega arith) h)
 
 -- ---- the lines of pairs
 

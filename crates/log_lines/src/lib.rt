@@ -6,7 +6,7 @@ ghost use Rattle.std.specs.Prelude.{◌≡◌, [], ◌∷◌, ◌+◌, ◌*◌, 
 ghost use Rattle.spec_log.specs.Log.{decimal, spaced, line, heading, bad_line};
 ghost use Rattle.log_lines.specs.Bytes.{Wrote, pair_lines, pair_bytes};
 
-use base_geometry::numbers;
+use itoa::Buffer;
 
 // One byte.
 fn put_byte(b: u8, out: &mut [u8], at: usize) -> usize
@@ -22,21 +22,9 @@ fn put_bytes(bytes: &[u8], out: &mut [u8], at: usize) -> usize
     requires { at + length bytes.now ≤ length out.old }
     ensures { Wrote bytes.now at result out.old out.new }
 {
-    let mut next = at;
-    let mut k = 0;
-    while k < bytes.len() {
-        next = put_byte(bytes[k], out, next);
-        k += 1;
-    }
+    let next = at + bytes.len();
+    out[at..next].copy_from_slice(bytes);
     next
-}
-
-// The byte of a digit.
-fn digit(n: u64) -> u8
-    requires { n < 10 }
-    ensures { result ≡ 48 + n }
-{
-    48 + n as u8
 }
 
 // A number in decimal.
@@ -44,11 +32,8 @@ fn put_decimal(n: u64, out: &mut [u8], at: usize) -> usize
     requires { at + length (decimal n) ≤ length out.old }
     ensures { Wrote (decimal n) at result out.old out.new }
 {
-    if n < 10 {
-        return put_byte(digit(n), out, at);
-    }
-    let next = put_decimal(n / 10, out, at);
-    put_byte(digit(n % 10), out, next)
+    let mut digits = Buffer::new();
+    put_bytes(digits.format(n).as_bytes(), out, at)
 }
 
 // Numbers in decimal, each after a space.
@@ -57,11 +42,9 @@ fn put_spaced(numbers: &[u64], out: &mut [u8], at: usize) -> usize
     ensures { Wrote (spaced numbers.now) at result out.old out.new }
 {
     let mut next = at;
-    let mut k = 0;
-    while k < numbers.len() {
+    for n in numbers {
         let space = put_byte(32, out, next);
-        next = put_decimal(numbers[k], out, space);
-        k += 1;
+        next = put_decimal(*n, out, space);
     }
     next
 }
@@ -77,16 +60,15 @@ pub fn put_line(first: u64, others: &[u64], out: &mut [u8], at: usize) -> usize
 }
 
 // The lines of the first n pairs of a list of numbers.
+// Kept: the list is the caller's, longer than what is listed, and n the count beside it; put_pairs' contract names both.
 pub fn put_pairs(pairs: &[u16], n: usize, out: &mut [u8], at: usize) -> usize
     requires { (2 * n ≤ length pairs.now) × (at + pair_bytes * n ≤ length out.old) }
     ensures { Wrote (pair_lines pairs.now n) at result out.old out.new }
 {
     let mut next = at;
-    let mut k = 0;
-    while k < n {
-        let other = [numbers::wide(pairs[2 * k + 1])];
-        next = put_line(numbers::wide(pairs[2 * k]), &other, out, next);
-        k += 1;
+    for k in 0..n {
+        let other = [u64::from(pairs[2 * k + 1])];
+        next = put_line(u64::from(pairs[2 * k]), &other, out, next);
     }
     next
 }

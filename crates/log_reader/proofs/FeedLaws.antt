@@ -17,7 +17,6 @@ use Rattle.log_portions.specs.Portions.{Progress, more, whole, bad, fine_so_far,
 use Rattle.log_portions.proofs.PortionLaws.{step-prefix, fine-known}
 use Rattle.log_lines.specs.Bytes.{Wrote}
 use Rattle.log_lines.proofs.LineLaws.{wrote_none, wrote_as}
-use Rattle.log_events.specs.declared.BothCounts.{BothCounts}
 use Rattle.log_commands.specs.Commands.{RanCommand}
 use Rattle.log_reader.specs.declared.Reader.{Reader}
 use Rattle.log_reader.specs.Reader.{Keeps, FedAs}
@@ -106,7 +105,7 @@ module _ {q : Reading} {r : Reader} {d e : Chart} {w : List ℕ} (k : Keeps q r 
   -- no command begins so
   pub fed-bad : {at next : ℕ} {out out' : List ℕ} → not (fine_so_far (command (held r x)) (after r.count (held r x))) ≡ true
       → Wrote (bad_line r.offset) at next out out'
-      → FedAs (feed_byte x q) at next out out' (record { held = held r x; count = 0; offset = r.offset; ended = true; waits = r.waits; counts = r.counts }) d e w
+      → FedAs (feed_byte x q) at next out out' (record { held = held r x; count = 0; offset = r.offset; ended = true; waits = r.waits }) d e w
   unfolding settle
   fed-bad h wrote = as_settled (progress-bad _ _ h) (record {
     wrote = wrote_as (ap bad_line (sym k.offset)) wrote;
@@ -116,11 +115,11 @@ module _ {q : Reading} {r : Reader} {d e : Chart} {w : List ℕ} (k : Keeps q r 
   module _ (h : not (fine_so_far (command (held r x)) (after r.count (held r x))) ≡ false) where
     -- more must come
     pub fed-more : {at : ℕ} {out : List ℕ} → r.count < operand_bytes (command (held r x)) → at ≤ length out
-        → FedAs (feed_byte x q) at at out out (record { held = held r x; count = r.count + 1; offset = r.offset; ended = false; waits = r.waits; counts = r.counts }) d e w
+        → FedAs (feed_byte x q) at at out out (record { held = held r x; count = r.count + 1; offset = r.offset; ended = r.ended; waits = r.waits }) d e w
     unfolding settle
     fed-more {at} {out} lt room = as_settled (progress-more _ _ h (omega (arith, rest-length))) (record {
       wrote = wrote_none at out room;
-      keeps = record { held = first-bytes (held r x) r.count (omega (arith, held-long)); offset = k.offset; ended = refl; running = k.running };
+      keeps = record { held = first-bytes (held r x) r.count (omega (arith, held-long)); offset = k.offset; ended = sym going; running = k.running };
     })
 
     step-held : operand_bytes (command (held r x)) ≤ r.count → step_of (command (held r x)) (drop 1 (held r x)) q.state ≡ step_of (command (held r x)) (after r.count (held r x)) q.state
@@ -130,13 +129,13 @@ module _ {q : Reading} {r : Reader} {d e : Chart} {w : List ℕ} (k : Keeps q r 
         ∙ step-prefix (command (held r x)) rest (drop r.count (drop 1 (held r x))) q.state (fine-known (command (held r x)) rest (fine _ h)) (omega (arith, rest-length))
 
     -- it is whole, and was run
-    pub fed-whole : {at next n : ℕ} {out out' : List ℕ} {d' e' : Chart} {w' : List ℕ} (c : BothCounts) → operand_bytes (command (held r x)) ≤ r.count
+    pub fed-whole : {at next n : ℕ} {out out' : List ℕ} {d' e' : Chart} {w' : List ℕ} → operand_bytes (command (held r x)) ≤ r.count
         → RanCommand (step_of (command (held r x)) (drop 1 (held r x)) q.state) at next out out' d' e' w' n
-        → FedAs (feed_byte x q) at next out out' (record { held = held r x; count = 0; offset = r.offset + 1 + operand_bytes (command (held r x)); ended = false; waits = n; counts = c }) d' e' w'
+        → FedAs (feed_byte x q) at next out out' (record { held = held r x; count = 0; offset = r.offset + 1 + operand_bytes (command (held r x)); ended = r.ended; waits = n }) d' e' w'
     unfolding settle
-    fed-whole {at} {next} {n} {out} {out'} {d'} {e'} {w'} c le ran =
+    fed-whole {at} {next} {n} {out} {out'} {d'} {e'} {w'} le ran =
         let same = subst (λ st. RanCommand st at next out out' d' e' w' n) (step-held le) ran in
         as_settled (progress-whole _ _ h (omega (arith, rest-length))) (record {
           wrote = same.wrote;
-          keeps = record { held = refl; offset = ap (λ o. o + 1 + operand_bytes (command (held r x))) k.offset; ended = refl; running = same.running };
+          keeps = record { held = refl; offset = ap (λ o. o + 1 + operand_bytes (command (held r x))) k.offset; ended = sym going; running = same.running };
         })

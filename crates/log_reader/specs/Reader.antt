@@ -2,14 +2,12 @@
 -- Assumes nothing.
 use Rattle.std.specs.Prelude.{◌≡◌, false, List, ℕ, ◌+◌, ◌≤◌, ◌<◌, length, take}
 use Rattle.spec_calls.specs.Buffers.{Chart, too_short}
-use Rattle.spec_calls.specs.Lent.{Lent}
 use Rattle.log_portions.specs.Portions.{Reading, start_reading, Fed}
 use Rattle.log_lines.specs.Bytes.{Wrote}
-use Rattle.log_events.specs.declared.BothCounts.{BothCounts}
 use Rattle.log_events.specs.Both.{Both}
 use Rattle.log_readers.specs.Readers.{overlay_room}
 use Rattle.log_waiting.specs.Waiting.{Whole}
-use Rattle.log_edits.specs.Edits.{Running, BothLent}
+use Rattle.log_edits.specs.Edits.{Running}
 use Rattle.log_reader.specs.declared.Reader.{Reader}
 
 -- there are 13 places for bytes and one of them is free, and whole triangles wait
@@ -43,15 +41,6 @@ pub record ReadOn (r : Reader) (n room : ℕ) (r' : Reader) (used at : ℕ) : Ty
 abbrev pub FedFrom : (Reading → Fed) → Reader → Both → List ℕ → Reader → Both → List ℕ → ℕ → ℕ → List ℕ → List ℕ → Type 0
 FedFrom f r b waiting r' b' waiting' at next before after = (q : Reading) → Keeps q r b.first b.second waiting
     → FedAs (f q) at next before after r' b'.first b'.second waiting'
-
--- the same on lent lists
-abbrev pub FedLent : (Reading → Fed) → Reader → Reader → BothLent → Lent → Lent → ℕ → ℕ → Type 0
-FedLent f r r' charts waiting out at next =
-    FedFrom f r (charts.entry r.counts) waiting.entry.now r' (charts.exit r'.counts) waiting.exit.now at next out.entry.now out.exit.now
-
--- the counts of charts that are not begun
-abbrev pub no_counts : BothCounts
-no_counts = record { first = record { triangles = 0; entries = 0 }; second = record { triangles = 0; entries = 0 } }
 
 -- both charts are begun: in buffers that are long enough the reader keeps the reading before the first byte
 abbrev pub Begun : Both → Reader → Both → Type 0

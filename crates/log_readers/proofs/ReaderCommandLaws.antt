@@ -12,15 +12,18 @@ use Rattle.spec_plane.specs.declared.Point.{Point}
 use Rattle.spec_plane.specs.Position.{position_number}
 use Rattle.spec_charts.specs.declared.Refusal.{Refusal}
 use Rattle.spec_charts.specs.declared.Refusal.TheVariants.{TooManyPairs}
-use Rattle.spec_charts.specs.Refusals.{Outcome, done, refuse_if}
+use Rattle.spec_charts.specs.Refusals.{Outcome, done, refuse_if, row_of}
+use Rattle.laws_charts.proofs.OutcomeLaws.{row-positive}
 use Rattle.spec_charts.specs.Overlay.{Pair, OverlayAnswer, pairs_listed, overlay_of, within_pairs, max_pairs}
 use Rattle.spec_calls.specs.Buffers.{Chart, chart_table, chart_entries, pairs_length}
 use Rattle.spec_calls.specs.Calls.{locate_call, overlay_call, overlaid_by}
 use Rattle.spec_calls.specs.Calls as Calls
 use Rattle.spec_log.specs.Log.{State, line, table_in, located_numbers, locate_step, overlay_step}
-use Rattle.base_answers.specs.declared.Located.{Located}
-use Rattle.base_answers.specs.declared.Located.TheVariants as locations
-use Rattle.base_answers.specs.Outcomes.{located_of, found_number, is_found}
+use Rattle.std.specs.Prelude.{Result, Ok, Err, Some, None}
+use Rattle.std.specs.Prelude.{Option as Std·Option}
+use Rattle.base_answers.specs.declared.Found.{Found}
+use Rattle.base_answers.specs.declared.Overlaid.{Overlaid}
+use Rattle.base_answers.specs.Outcomes.{located_of, found_number, is_found, overlaid_of}
 use Rattle.log_lines.specs.Bytes.{pair_lines}
 use Rattle.log_state.specs.State.{Charts, chart_in, located_line, overlaid_lines}
 use Rattle.log_state.proofs.HoldingLaws.{locate-told, overlay-told}
@@ -38,20 +41,20 @@ in-second zero d e p z = absurd (z refl)
 in-second (suc c) d e p z = refl
 
 -- the line where a triangle was found, and where none was
-pub found-line : (l : Located) {n i k : ℕ} → is_found (located_of l).found ≡ true
+pub found-line : (l : Result (Std·Option Found) Refusal) {n i k : ℕ} → is_found (located_of l).found ≡ true
     → n ≡ (located_of l).number → i ≡ found_number (located_of l).found → k ≡ position_number (located_of l).position
     → line 6 (n ∷ i ∷ k ∷ []) ≡ located_line (located_of l)
 unfolding located_line located_numbers
-found-line (locations.At i q) f g h e = rw (g, h, e)
-found-line locations.Nowhere f g h e = absurd (true≢false (sym f))
-found-line (locations.Refused r) f g h e = absurd (true≢false (sym f))
+found-line (Ok (Some d)) f g h e = rw (g, h, e)
+found-line (Ok None) f g h e = absurd (true≢false (sym f))
+found-line (Err r) f g h e = absurd (true≢false (sym f))
 
-pub nowhere-line : (l : Located) {n i : ℕ} → is_found (located_of l).found ≡ false
+pub nowhere-line : (l : Result (Std·Option Found) Refusal) {n i : ℕ} → is_found (located_of l).found ≡ false
     → n ≡ (located_of l).number → i ≡ found_number (located_of l).found → line 6 (n ∷ i ∷ []) ≡ located_line (located_of l)
 unfolding located_line located_numbers
-nowhere-line (locations.At i q) f g h = absurd (true≢false f)
-nowhere-line locations.Nowhere f g h = rw (g, h)
-nowhere-line (locations.Refused r) f g h = rw (g, h)
+nowhere-line (Ok (Some d)) f g h = absurd (true≢false f)
+nowhere-line (Ok None) f g h = rw (g, h)
+nowhere-line (Err r) f g h = rw (g, h)
 
 pub locate-printed : (c : ℕ) (p : Point) {l : Calls.Located} {d e : Chart} → l ≡ locate_call (chart_in c d e) p
     → (s : State) → Charts s d e → located_line l ≡ (locate_step c p s).printed
@@ -86,12 +89,12 @@ pub overlay-printed : {o : Calls.Overlaid} {d e : Chart} (before : List ℕ) →
 unfolding overlay_step
 overlay-printed before room q s h = ap overlaid_lines q ∙ overlay-told h.first h.second before room
 
--- the lines by the number of the answer
-pub lines-done : (o : Calls.Overlaid) {n i j : ℕ} → n ≡ o.number → n ≡ 0 → i ≡ o.pair_count → j ≡ o.meets
-    → line 7 (n ∷ i ∷ j ∷ []) ++ pair_lines o.pairs o.pair_count ≡ overlaid_lines o
+-- the lines by the answer
+pub lines-done : (o : Overlaid) (pairs : List ℕ) {n : ℕ} → n ≡ 0
+    → line 7 (n ∷ o.pairs ∷ o.meetings ∷ []) ++ pair_lines pairs o.pairs ≡ overlaid_lines (overlaid_of (Ok o) pairs)
 unfolding overlaid_lines
-lines-done o h z f g = rw (eq-eqb o.number 0 (sym h ∙ z), z, f, g)
+lines-done o pairs z = rw z refl
 
-pub lines-refused : (o : Calls.Overlaid) {n : ℕ} → n ≡ o.number → (n ≡ 0 → ⊥) → line 7 (n ∷ []) ≡ overlaid_lines o
+pub lines-refused : (r : Refusal) (pairs : List ℕ) {n : ℕ} → n ≡ (row_of r).number → line 7 (n ∷ []) ≡ overlaid_lines (overlaid_of (Err r) pairs)
 unfolding overlaid_lines
-lines-refused o h z = rw (ne_eqb o.number 0 (λ q. z (h ∙ q)), h)
+lines-refused r pairs z = let p = row-positive r in rw (ne_eqb (row_of r).number 0 (omega arith), z)

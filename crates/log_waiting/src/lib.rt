@@ -7,15 +7,14 @@ ghost use Rattle.spec_log.specs.Log.{words_of};
 ghost use Rattle.log_events.specs.Events.{line_room};
 ghost use Rattle.log_waiting.specs.Waiting.{Whole, waiting_length, Waited};
 
+use base_tables::{TABLE_NUMBERS, TRIANGLE_NUMBERS};
 use log_bytes::words;
 
 // The numbers before those of the waiting table, so that with them it is the call that loads it.
 pub const CALL_HEAD: usize = 2;
 
-// The most numbers that wait: those of 512 triangles.
-const TABLE_LENGTH: usize = 3072;
-
 // How many numbers wait after a command, and the place after what it printed.
+// Kept: no heap, so what waits stands in a fixed list with its count beside it.
 #[derive(Clone, Copy)]
 pub struct Waiting {
     pub waits: usize,
@@ -33,14 +32,13 @@ pub fn wait_command(
     requires { Whole waits × ((waiting_length ≤ length waiting.old) × (at + line_room ≤ length out.old)) }
     ensures { Waited (words_of 6 (drop 1 held.now)) at result.at out.old out.new waits result.waits waiting.old waiting.new }
 {
-    if waits < TABLE_LENGTH {
+    if waits < TABLE_NUMBERS {
         words::put_six(held, waiting, CALL_HEAD + waits);
         return Waiting {
-            waits: waits + base_tables::TRIANGLE_NUMBERS,
+            waits: waits + TRIANGLE_NUMBERS,
             at,
         };
     }
-    let refused = [4u64];
-    let next = log_lines::put_line(1, &refused, out, at);
+    let next = log_lines::put_line(1, &[4], out, at);
     Waiting { waits, at: next }
 }

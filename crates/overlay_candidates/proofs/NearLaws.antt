@@ -100,11 +100,6 @@ module _ (rows : List ℕ) (i j q w : ℕ) (fits : get_or rows (row_words * i + 
 -- ---- what the loops have done
 
 module _ (b : Box) (box : ℕ → Box) (rows : List ℕ) (m i : ℕ) (start near : List ℕ) where
-  -- the words before word q of row i are looked at
-  pub record WordsDone (q c : ℕ) : Type 0 where
-    pub within : q ≤ row_words
-    pub collected : Collected b box rows m i start near (64 * q) c
-
   -- of word q of row i the marks before place j are looked at, and w has those that are left
   pub record MarksDone (q w j c : ℕ) : Type 0 where
     pub low : 64 * q ≤ j

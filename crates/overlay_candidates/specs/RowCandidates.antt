@@ -4,7 +4,7 @@ use Rattle.std.specs.Prelude.{◌≡◌, Bool, ◌&&◌, List, ℕ, ◌+◌, ◌
 use Rattle.theory_lists.specs.Lists.{Compacted}
 use Rattle.spec_plane.specs.Box.{Box}
 use Rattle.spec_charts.specs.Table.{max_triangles}
-use Rattle.base_boxes.specs.Boxes.{boxes_overlap, Places}
+use Rattle.base_boxes.specs.Boxes.{boxes_overlap}
 use Rattle.overlay_marks.specs.Bits.{has_bit}
 use Rattle.overlay_marks.specs.PairMarks.{rows_length}
 
@@ -20,9 +20,8 @@ is_near b box rows m i j = marked_at rows i j && boxes_overlap b box j && ltb j 
 abbrev pub NearInRow : Box → (ℕ → Box) → List ℕ → ℕ → ℕ → List ℕ → ℕ → ℕ → Type 0
 NearInRow b box rows m i near j c = Compacted (λ k. is_near b box rows m i k) near j c
 
--- where candidates are found and listed: boxes in four lists, rows of marks and a list, with places for all triangles
-pub record RowPlaces (lefts tops rights bottoms rows near : List ℕ) : Type 0 where
-  pub boxes : Places lefts tops rights bottoms max_triangles
+-- where candidates are found and listed: rows of marks and a list, with places for all triangles
+pub record RowPlaces (rows near : List ℕ) : Type 0 where
   pub marks : rows_length ≤ length rows
   pub room : max_triangles ≤ length near
 

@@ -4,7 +4,7 @@
 use mathlib.Core.Path.{◌≡◌, refl, sym, ◌∙◌, ap, ap₂}
 use mathlib.Core.Bool.{Bool, true, false, ◌&&◌, ◌||◌}
 use mathlib.Core.List.{List}
-use Prim.Native.Nat.{ℕ, zero, suc, ◌+◌, ◌*◌, ◌-◌, ◌/◌, ◌%◌, ◌^◌, ◌≤◌, ◌<◌, max}
+use Prim.Native.Nat.{ℕ, zero, suc, ◌+◌, ◌*◌, ◌-◌, ◌/◌, ◌%◌, ◌^◌, ◌<◌, max}
 use native.Mathlib.Nat.{zero-div, mul-add-mod_self_right, mod-eq_of_lt, div-eq_of_lt, pow-suc}
 use native.Mathlib.Omega.{arith}
 use native.Mathlib.Decide.{dec_le, dec_lt, ℕ_discrete}
@@ -12,8 +12,8 @@ use borrow.Author.Tests.{eq-eqb, ne_eqb, lt-ltb, le-ltb, le-leb, lt-leb}
 use lib.Bits.{bit_or, or_shr, or_step}
 use lib.Pow.{pow-add, pow-lt, shl-shr, shl_exact}
 use lib.Dec.{leb, ltb, eqb}
-use lib.ListN.{length, get_or, set, replicate, length-set, length-replicate, get_or-replicate, get_or-eq_default}
-use lib.Seq.{get_or-set_same, get_or-set_other}
+use lib.ListN.{length, get_or, set, take, replicate, length-set, length-replicate, get_or-replicate, get_or-eq_default}
+use lib.Seq.{get_or-set_same, get_or-set_other, get_or-take}
 use Rattle.overlay_marks.specs.Bits.{word_bit, has_bit, Inserted, Joined}
 
 -- a word that is 0 has no bit
@@ -119,11 +119,6 @@ module _ (ws : List ℕ) (k : ℕ) (h : k / 64 < length ws) where
   pub inserted : Inserted ws k (set ws (k / 64) marked)
   inserted = record { bits = inserted-bits; kept = length-set ws (k / 64) marked }
 
--- the first i of n words are joined
-pub record WordsJoined (before : List ℕ) (at : ℕ) (set : List ℕ) (n i : ℕ) (after : List ℕ) : Type 0 where
-  pub within : i ≤ n
-  pub joined : Joined before at set i after
-
 -- nothing joined yet
 pub joined-none : (ws : List ℕ) (at : ℕ) (s : List ℕ) → Joined ws at s 0 ws
 joined-none ws at s =
@@ -200,3 +195,8 @@ zeros-empty n m = empty-word (replicate n 0) (m / 64) m zero-there refl
           | yes h ↦ get_or-replicate n (m / 64) 0 0 h
           | no h ↦ get_or-eq_default (replicate n 0) 0 (omega (arith, length-replicate {A = ℕ} n 0))
         ]
+
+-- a bit of the first n words
+pub bit-taken : (ws : List ℕ) (n m : ℕ) → m < 64 * n → has_bit (take n ws) m ≡ has_bit ws m
+unfolding has_bit
+bit-taken ws n m h = ap (λ w. word_bit w (m % 64)) (get_or-take n ws (m / 64) 0 (omega arith))

@@ -8,12 +8,13 @@ use native.Mathlib.Decide.{dec_lt, ℕ_discrete}
 use native.Mathlib.Omega.{arith}
 use borrow.Author.Tests.{eq-eqb, ne_eqb, lt-ltb, le-ltb, le-leb, lt-leb}
 use lib.Dec.{leb, ltb, eqb}
-use lib.ListN.{length, get_or, take, drop, replicate}
+use lib.ListN.{length, get_or, take, replicate}
 use Rattle.theory_lists.specs.Lists.{any}
-use Rattle.theory_lists.proofs.PartLaws.{part-snoc}
+use native.Mathlib.Numerals.{add-one}
+use lib.Seq.{take-suc, length-take-le}
 use Rattle.spec_charts.specs.Table.{max_triangles}
 use Rattle.overlay_marks.specs.Bits.{has_bit, Inserted, Joined}
-use Rattle.overlay_marks.proofs.BitLaws.{or-false, zeros-empty}
+use Rattle.overlay_marks.proofs.BitLaws.{or-false, zeros-empty, bit-taken}
 use Rattle.overlay_marks.specs.PairMarks.{row_words, place_of, some_at, ItemsInserted, SetJoined, PartsMarked}
 
 or_assoc : (a b c : Bool) → (a || b) || c ≡ a || (b || c)
@@ -35,19 +36,17 @@ any-one f (x ∷ xs) y = step (f x) (any-one f xs y)
     step true e = refl
     step false e = e
 
--- no item is at any place
-pub some-none : (is : List ℕ) (a i : ℕ) → some_at is a a i ≡ false
+-- no item has any place
+pub some-none : (i : ℕ) → some_at [] i ≡ false
 unfolding some_at any
-some-none is a i =
-    let n : a - a ≡ 0 = omega arith in
-    ap (λ k. any (λ t. eqb (place_of t) i) (take k (drop a is))) n
+some-none i = refl
 
 -- with one more item
-pub some_more : (is : List ℕ) (a r i : ℕ) → a ≤ r → r < length is → some_at is a (r + 1) i ≡ some_at is a r i || eqb (place_of (get_or is r 0)) i
+pub some_more : (is : List ℕ) (k i : ℕ) → k < length is → some_at (take (k + 1) is) i ≡ some_at (take k is) i || eqb (place_of (get_or is k 0)) i
 unfolding some_at
-some_more is a r i h l =
-    ap (λ xs. any (λ t. eqb (place_of t) i) xs) (part-snoc a r is h l)
-    ∙ any-one (λ t. eqb (place_of t) i) (take (r - a) (drop a is)) (get_or is r 0)
+some_more is k i h =
+    ap (any (λ t. eqb (place_of t) i)) (ap (λ n. take n is) (add-one k) ∙ take-suc is k 0 h)
+    ∙ any-one (λ t. eqb (place_of t) i) (take k is) (get_or is k 0)
 
 eqb-sym : (a b : ℕ) → eqb a b ≡ eqb b a
 eqb-sym a b = elim (ℕ_discrete a b) [
@@ -55,26 +54,20 @@ eqb-sym a b = elim (ℕ_discrete a b) [
   | no n ↦ ne_eqb a b n ∙ sym (ne_eqb b a (λ e. n (sym e)))
 ]
 
--- the items from place a up to place i are inserted
-pub record Inserting (before is : List ℕ) (a r i : ℕ) (after : List ℕ) : Type 0 where
-  pub low : a ≤ i
-  pub high : i ≤ r
-  pub inserted : ItemsInserted before is a i after
-
 -- no item inserted yet
-pub insert-start : (set is : List ℕ) (a : ℕ) → ItemsInserted set is a a set
-insert-start set is a = record {
-  bits = λ j. sym (or-false (has_bit set j)) ∙ ap (λ x. has_bit set j || x) (sym (some-none is a j));
+pub insert-start : (set : List ℕ) → ItemsInserted set [] set
+insert-start set = record {
+  bits = λ j. sym (or-false (has_bit set j)) ∙ ap (λ x. has_bit set j || x) (sym (some-none j));
   kept = refl;
 }
 
 -- one more
-pub insert-more : {set is : List ℕ} {a r : ℕ} {vs : List ℕ} → ItemsInserted set is a r vs → a ≤ r → r < length is
-    → {k : ℕ} {ws : List ℕ} → k ≡ place_of (get_or is r 0) → Inserted vs k ws → ItemsInserted set is a (r + 1) ws
-insert-more {set} {is} {a} {r} p h l {k} e i = record {
+pub insert-more : {set : List ℕ} (is : List ℕ) (r : ℕ) {vs : List ℕ} → ItemsInserted set (take r is) vs → r < length is
+    → {k : ℕ} {ws : List ℕ} → k ≡ place_of (get_or is r 0) → Inserted vs k ws → ItemsInserted set (take (r + 1) is) ws
+insert-more {set} is r p l {k} e i = record {
   bits = λ j. i.bits j ∙ ap₂ ◌||◌ (p.bits j) (eqb-sym j k ∙ ap (λ x. eqb x j) e)
-      ∙ or_assoc (has_bit set j) (some_at is a r j) (eqb (place_of (get_or is r 0)) j)
-      ∙ ap (λ x. has_bit set j || x) (sym (some_more is a r j h l));
+      ∙ or_assoc (has_bit set j) (some_at (take r is) j) (eqb (place_of (get_or is r 0)) j)
+      ∙ ap (λ x. has_bit set j || x) (sym (some_more is r j l));
   kept = i.kept ∙ p.kept;
 }
 
@@ -102,34 +95,31 @@ both false true true false = refl
 both false true false false = refl
 both false false e y = refl
 
--- the set is joined into the rows of the items from place a up to place i
-pub record Joining (before is : List ℕ) (a r i : ℕ) (set after : List ℕ) : Type 0 where
-  pub low : a ≤ i
-  pub high : i ≤ r
-  pub joined : SetJoined before is a i set after
-
 -- no row joined yet
-pub join-start : (rows is : List ℕ) (a : ℕ) (set : List ℕ) → SetJoined rows is a a set rows
-join-start rows is a set = record {
-  bits = λ i j h. sym (or-false (has_bit rows (max_triangles * i + j))) ∙ ap (λ x. has_bit rows (max_triangles * i + j) || x && has_bit set j) (sym (some-none is a i));
+pub join-start : (rows set : List ℕ) → SetJoined rows [] set rows
+join-start rows set = record {
+  bits = λ i j h. sym (or-false (has_bit rows (max_triangles * i + j))) ∙ ap (λ x. has_bit rows (max_triangles * i + j) || x && has_bit set j) (sym (some-none i));
   kept = refl;
 }
 
 -- one more
-pub join_more : {rows is : List ℕ} {a r : ℕ} {set vs : List ℕ} → SetJoined rows is a r set vs → a ≤ r → r < length is
-    → {k : ℕ} {ws : List ℕ} → k ≡ place_of (get_or is r 0) → Joined vs (row_words * k) set row_words ws → SetJoined rows is a (r + 1) set ws
-join_more {rows} {is} {a} {r} {set} p h l {k} e q = record {
-  bits = λ i j s. q.bits (max_triangles * i + j) ∙ ap₂ ◌||◌ (p.bits i j s) (row-bits k i j set s ∙ ap (λ x. eqb x i && has_bit set j) e)
-      ∙ both (has_bit rows (max_triangles * i + j)) (some_at is a r i) (eqb (place_of (get_or is r 0)) i) (has_bit set j)
-      ∙ ap (λ x. has_bit rows (max_triangles * i + j) || x && has_bit set j) (sym (some_more is a r i h l));
-  kept = q.kept ∙ p.kept;
-}
+pub join_more : {rows : List ℕ} (is : List ℕ) (r : ℕ) (set : List ℕ) {vs : List ℕ} → SetJoined rows (take r is) set vs → r < length is → row_words ≤ length set
+    → {k : ℕ} {ws : List ℕ} → k ≡ place_of (get_or is r 0) → Joined vs (row_words * k) (take row_words set) (length (take row_words set)) ws
+    → SetJoined rows (take (r + 1) is) set ws
+join_more {rows} is r set {vs} p l room {k} {ws} e joined =
+    let q : Joined vs (row_words * k) (take row_words set) row_words ws = rw (length-take-le row_words set room) at joined in
+    record {
+      bits = λ i j s. q.bits (max_triangles * i + j)
+          ∙ ap₂ ◌||◌ (p.bits i j s) (row-bits k i j (take row_words set) s ∙ ap₂ (λ x b. eqb x i && b) e (bit-taken set row_words j (omega arith)))
+          ∙ both (has_bit rows (max_triangles * i + j)) (some_at (take r is) i) (eqb (place_of (get_or is r 0)) i) (has_bit set j)
+          ∙ ap (λ x. has_bit rows (max_triangles * i + j) || x && has_bit set j) (sym (some_more is r i l));
+      kept = q.kept ∙ p.kept;
+    }
 
--- a set of the items of the one part, joined into the rows of the items of the other
-pub parts-marked : {rows is : List ℕ} {a p : ℕ} {js : List ℕ} {b q : ℕ} {set after : List ℕ} (w : ℕ)
-    → ItemsInserted (replicate w 0) js b q set → SetJoined rows is a p set after → PartsMarked rows is a p js b q after
-parts-marked {rows} {is} {a} {p} {js} {b} {q} w s t = record {
+-- a set of the items of the one list, joined into the rows of the items of the other
+pub parts-marked : {rows is js set after : List ℕ} (w : ℕ) → ItemsInserted (replicate w 0) js set → SetJoined rows is set after → PartsMarked rows is js after
+parts-marked {rows} {is} {js} w s t = record {
   bits = λ i j h. t.bits i j h
-      ∙ ap (λ x. has_bit rows (max_triangles * i + j) || some_at is a p i && x) (s.bits j ∙ ap (λ x. x || some_at js b q j) (zeros-empty w j));
+      ∙ ap (λ x. has_bit rows (max_triangles * i + j) || some_at is i && x) (s.bits j ∙ ap (λ x. x || some_at js j) (zeros-empty w j));
   kept = t.kept;
 }

@@ -1,6 +1,6 @@
 -- Pairs of items in rows of bits.
 -- Assumes nothing.
-use Rattle.std.specs.Prelude.{◌≡◌, Bool, ◌&&◌, ◌||◌, List, ℕ, ◌+◌, ◌*◌, ◌-◌, ◌≤◌, ◌<◌, min, eqb, length, take, drop}
+use Rattle.std.specs.Prelude.{◌≡◌, Bool, ◌&&◌, ◌||◌, List, ℕ, ◌+◌, ◌*◌, ◌<◌, min, eqb, length}
 use Rattle.theory_lists.specs.Lists.{any}
 use Rattle.spec_charts.specs.Table.{max_triangles}
 use Rattle.overlay_marks.specs.Bits.{has_bit}
@@ -17,26 +17,21 @@ rows_length = row_words * (max_triangles + 1)
 abbrev pub place_of : ℕ → ℕ
 place_of t = min t max_triangles
 
--- the items have a part from place a up to place r
-pub record HasPart (is : List ℕ) (a r : ℕ) : Type 0 where
-  pub ordered : a ≤ r
-  pub within : r ≤ length is
+-- some item has this row, or bit
+unfoldable pub some_at : List ℕ → ℕ → Bool
+some_at is i = any (λ t. eqb (place_of t) i) is
 
--- some item from place a up to place r has this row, or bit
-unfoldable pub some_at : List ℕ → ℕ → ℕ → ℕ → Bool
-some_at is a r i = any (λ t. eqb (place_of t) i) (take (r - a) (drop a is))
-
--- the set with the items from place a up to place r
-pub record ItemsInserted (before is : List ℕ) (a r : ℕ) (after : List ℕ) : Type 0 where
-  pub bits : (j : ℕ) → has_bit after j ≡ has_bit before j || some_at is a r j
+-- the set with the items
+pub record ItemsInserted (before is after : List ℕ) : Type 0 where
+  pub bits : (j : ℕ) → has_bit after j ≡ has_bit before j || some_at is j
   pub kept : length after ≡ length before
 
--- the rows with the set's bits in those of the items from place a up to place r
-pub record SetJoined (before is : List ℕ) (a r : ℕ) (set after : List ℕ) : Type 0 where
-  pub bits : (i j : ℕ) → j < max_triangles → has_bit after (max_triangles * i + j) ≡ has_bit before (max_triangles * i + j) || some_at is a r i && has_bit set j
+-- the rows with the set's bits in those of the items
+pub record SetJoined (before is set after : List ℕ) : Type 0 where
+  pub bits : (i j : ℕ) → j < max_triangles → has_bit after (max_triangles * i + j) ≡ has_bit before (max_triangles * i + j) || some_at is i && has_bit set j
   pub kept : length after ≡ length before
 
--- the rows with each item of a part of the one list marked with each item of a part of the other
-pub record PartsMarked (before is : List ℕ) (a p : ℕ) (js : List ℕ) (b q : ℕ) (after : List ℕ) : Type 0 where
-  pub bits : (i j : ℕ) → j < max_triangles → has_bit after (max_triangles * i + j) ≡ has_bit before (max_triangles * i + j) || some_at is a p i && some_at js b q j
+-- the rows with each item of the one list marked with each item of the other
+pub record PartsMarked (before is js after : List ℕ) : Type 0 where
+  pub bits : (i j : ℕ) → j < max_triangles → has_bit after (max_triangles * i + j) ≡ has_bit before (max_triangles * i + j) || some_at is i && some_at js j
   pub kept : length after ≡ length before

@@ -11,17 +11,15 @@ pub fn insert(words: &mut [u64], k: usize)
     requires { k / 64 < length words.old }
     ensures { Inserted words.old k words.new }
 {
-    words[k / WORD] = words[k / WORD] | (1u64 << ((k % WORD) as u32));
+    words[k / WORD] |= 1u64 << ((k % WORD) as u32);
 }
 
-// Joins the first n words of a set into the words from place `at` on.
-pub fn join(words: &mut [u64], at: usize, set: &[u64], n: usize)
-    requires { (at + n ≤ length words.old) × (n ≤ length set.now) }
-    ensures { Joined words.old at set.now n words.new }
+// Joins the words of a set into the words from place `at` on.
+pub fn join(words: &mut [u64], at: usize, set: &[u64])
+    requires { at + length set.now ≤ length words.old }
+    ensures { Joined words.old at set.now (length set.now) words.new }
 {
-    let mut i = 0;
-    while i < n {
-        words[at + i] = words[at + i] | set[i];
-        i += 1;
+    for (i, bits) in set.iter().enumerate() {
+        words[at + i] |= *bits;
     }
 }

@@ -1,11 +1,12 @@
 -- Keys passed from left to right: to the end of a cell, and to the end of a run with its cells counted.
 -- Assumes nothing.
-use mathlib.Core.Path.{◌≡◌, refl, sym, ◌∙◌, ap, ap₂}
-use mathlib.Core.Bool.{Bool, true, false, cond}
+use mathlib.Core.Path.{◌≡◌, refl, sym, ◌∙◌, ap, ap₂, subst}
+use mathlib.Core.Bool.{Bool, true, false, not, cond}
 use mathlib.Core.List.{List, [], ◌∷◌}
 use Prim.Native.Nat.{ℕ, zero, suc, ◌+◌, ◌-◌, ◌≤◌, ◌<◌}
 use native.Mathlib.Decide.{ℕ_discrete}
 use native.Mathlib.Omega.{arith}
+use mir.Val.{bool_byte}
 use borrow.Author.Tests.{eq-eqb}
 use lib.Dec.{eqb}
 use lib.ListN.{length, get_or, take, drop}
@@ -47,8 +48,10 @@ module _ (ks : List ℕ) (n a : ℕ) where
     cell-met h = record { after = p.after; within = p.within; same = p.same; other = λ l e. h (e ∙ sym p.known) }
 
     -- no key any more
-    pub cell-over : n ≤ r → CellEnd ks n a r
-    cell-over h = record { after = p.after; within = p.within; same = p.same; other = λ l. absurd (omega arith) }
+    pub cell-over : n ≤ r → CellEnd ks n a n
+    cell-over h =
+        let e : r ≡ n = omega (arith, p.within) in
+        subst (CellEnd ks n a) e (record { after = p.after; within = p.within; same = p.same; other = λ l. absurd (omega arith) })
 
 changes-few : (k : ℕ) (ls : List ℕ) → changes_after k ls ≤ length ls
 unfolding changes_after
@@ -73,6 +76,11 @@ change-few k l = few (eqb k l)
     few : (b : Bool) → cond b 0 1 ≤ 1
     few true = omega arith
     few false = omega arith
+
+-- a key that is not the one before it counts as one
+pub change-counted : (b : Bool) → bool_byte (not b) ≡ cond b 0 1
+change-counted true = refl
+change-counted false = refl
 
 -- the keys of one cell
 cell-keys : (ks : List ℕ) (a j : ℕ) → a + j < length ks → ((i : ℕ) → a ≤ i → i ≤ a + j → get_or ks i 0 ≡ get_or ks a 0) → key_cells (take (suc (a + j) - a) (drop a ks)) ≡ 1
@@ -129,10 +137,15 @@ module _ (ks : List ℕ) (n p end : ℕ) where
             ∙ key_cells-grow ks a (r - 1) (omega arith) (omega arith)
             ∙ ap (λ k. key_cells (take (k - a) (drop a ks)) + cond (eqb (get_or ks (r - 1) 0) (get_or ks k 0)) 0 1) back
 
-    -- the end is reached, or there is no key any more
+    -- the end is reached
     pub run-met : (r < n → end ≤ get_or ks r 0) → RunOf ks n p end r cells
     run-met h = record {
       ends = record { from = g.from; within = g.within; below = g.below; reached = h };
       few = g.few;
       count = g.count;
     }
+
+    -- there is no key any more
+    pub run-over : n ≤ r → RunOf ks n p end n cells
+    run-over h =
+        let e : r ≡ n = omega (arith, g.within) in subst (λ r. RunOf ks n p end r cells) e (run-met (λ l. absurd (omega arith)))

@@ -2,14 +2,15 @@
 -- all that is said of the tree, so that it serves every tree whose keys end there.
 -- Assumes nothing.
 use Rattle.std.specs.Prelude.{◌≡◌, true, false, List, ℕ, ◌+◌, ◌*◌, ◌-◌, ◌≤◌, ◌<◌, length, take, drop}
+use Rattle.theory_lists.specs.Lists.{part}
 use Rattle.theory_orthtree.specs.Entries.{Entry, span, chain, meetings, listed_together}
 use Rattle.theory_orthtree.specs.KeyCells.{RunEnd, key_cells}
 use Rattle.spec_charts.specs.Table.{max_triangles}
 use Rattle.spec_charts.specs.Cells.{max_entries}
 use Rattle.spec_calls.specs.Buffers.{zip_entries}
-use Rattle.spec_calls.specs.Lent.{Held, Shown}
 use Rattle.overlay_marks.specs.Bits.{has_bit}
 use Rattle.overlay_marks.specs.PairMarks.{rows_length, PartsMarked}
+use Rattle.overlay_merge.specs.declared.ChartEntries.{ChartEntries}
 use Rattle.overlay_merge.specs.declared.Marked.{Marked}
 use Rattle.overlay_merge.specs.Runs.{BlockEnd}
 
@@ -19,13 +20,9 @@ pub record KeyedItems : Type 0 where
   pub items : List ℕ
   pub count : ℕ
 
--- those that two lists hold at one moment
-abbrev pub keyed : Held → Held → ℕ → KeyedItems
-keyed keys items count = record { keys = keys.now; items = items.now; count = count }
-
--- those that are lent, at entry
-abbrev pub lent : Shown → Shown → ℕ → KeyedItems
-lent keys items count = keyed keys.entry items.entry count
+-- those of a chart's entries
+abbrev pub keyed : ChartEntries → KeyedItems
+keyed entries = record { keys = entries.keys.now; items = entries.items.now; count = length entries.keys.now }
 
 -- the entries, with these levels
 abbrev pub with_levels : KeyedItems → List ℕ → List Entry
@@ -49,7 +46,7 @@ pub record BlockMarked (tree_end : ℕ) (s : KeyedItems) (a : ℕ) (t : KeyedIte
   pub first : RunEnd s.keys s.count ends.p end r.first
   pub second : RunEnd t.keys t.count ends.q end r.second
   pub count : r.pairs ≡ key_cells (take (r.first - a) (drop a s.keys)) * key_cells (take (r.second - b) (drop b t.keys))
-  pub marks : PartsMarked before s.items a r.first t.items b r.second after
+  pub marks : PartsMarked before (part a r.first s.items) (part b r.second t.items) after
 
 -- the rows have a bit for each pair of items that are listed together, and r is the number of meetings
 pub record Overlapping (arity depth : ℕ) (es fs : List Entry) (rows : List ℕ) (r : ℕ) : Type 0 where

@@ -1,18 +1,7 @@
 -- Where the blocks and runs of two lists of entries end, by their keys.
 -- Assumes nothing.
-use Rattle.std.specs.Prelude.{◌≡◌, List, ℕ, ◌+◌, ◌-◌, ◌≤◌, ◌<◌, max, length, take, drop}
+use Rattle.std.specs.Prelude.{◌≡◌, List, ℕ, ◌+◌, ◌-◌, ◌≤◌, max, take, drop}
 use Rattle.theory_orthtree.specs.KeyCells.{CellEnd, RunEnd, key_cells, key_from}
-
--- there are n keys, and place a is one of theirs
-pub record KeyAt (ks : List ℕ) (n a : ℕ) : Type 0 where
-  pub below : a < n
-  pub room : n ≤ length ks
-
--- there are n keys, and place p comes after one of theirs
-pub record KeyBefore (ks : List ℕ) (n p : ℕ) : Type 0 where
-  pub after : 1 ≤ p
-  pub within : p ≤ n
-  pub room : n ≤ length ks
 
 -- the key at which the larger of the cells at places a and b ends, where the tree's keys end at tree_end
 pub record BlockEnd (tree_end : ℕ) (ks : List ℕ) (n a : ℕ) (ls : List ℕ) (m b e : ℕ) : Type 0 where

@@ -1,6 +1,6 @@
 -- The pairs of an overlay, from two tables and a table of marks: row i has a bit for each triangle of the second table.
 -- Assumes nothing.
-use Rattle.std.specs.Prelude.{◌≡◌, Bool, ◌&&◌, cond, ℕ, suc, ◌+◌, ◌*◌, ◌≤◌, ◌<◌, min, length, get_or, drop}
+use Rattle.std.specs.Prelude.{◌≡◌, Bool, ◌&&◌, cond, ℕ, ◌+◌, ◌*◌, ◌≤◌, ◌<◌, Option, MatchOption, length, get_or, drop}
 use mathlib.Core.List.{List, [], ◌∷◌, map, flat_map}
 use Rattle.std.proofs.lemmas.List.Edits.{sets}
 use Rattle.theory_lists.specs.Lists.{filter, up_to}
@@ -10,6 +10,7 @@ use Rattle.spec_charts.specs.Overlay.{Pair, pair_numbers, max_pairs}
 use Rattle.spec_calls.specs.Buffers.{pairs_length}
 use Rattle.spec_calls.specs.Lent.{Lent}
 use Rattle.base_boxes.specs.Boxes.{BoxedTable}
+use Rattle.overlay_candidates.specs.declared.MarkedBoxes.{MarkedBoxes}
 use Rattle.overlay_candidates.specs.RowCandidates.{marked_at, RowPlaces}
 
 -- triangle i of the first table has a common interior point with triangle j of the second
@@ -33,10 +34,10 @@ row_pairs first second m rows i =
 unfoldable pub marked_pairs : List ℕ → ℕ → List ℕ → ℕ → List ℕ → List Pair
 marked_pairs first n second m rows = flat_map (λ i. row_pairs first second m rows i) (up_to n)
 
--- pairs are written after the first `at`: how many there are then, at most one more than may be; where they may be, they are
--- stored; and what comes after the lent places stays
-pub record Wrote (ps : List Pair) (at next : ℕ) (before after : List ℕ) : Type 0 where
-  pub count : next ≡ min (at + length ps) (suc max_pairs)
+-- pairs are written after the first `at`: how many there are then, or none where they are more than may be; where they may be, they
+-- are stored; and what comes after the lent places stays
+pub record Wrote (ps : List Pair) (at : ℕ) (next : Option ℕ) (before after : List ℕ) : Type 0 where
+  pub count : MatchOption next (max_pairs < at + length ps) (λ n. (n ≡ at + length ps) × (n ≤ max_pairs))
   pub stored : at + length ps ≤ max_pairs → after ≡ sets before (2 * at) (pair_numbers ps)
   pub beyond : drop pairs_length after ≡ drop pairs_length before
   pub kept : length after ≡ length before
@@ -46,23 +47,22 @@ pub record TriangleIn (table : List ℕ) (i : ℕ) : Type 0 where
   pub few : i < max_triangles
   pub room : numbers_per_triangle * (i + 1) ≤ length table
 
--- the first d numbers of a list are those of triangles of a table
-pub record NearTriangles (table near : List ℕ) (d : ℕ) : Type 0 where
-  pub room : d ≤ length near
-  pub each : (k : ℕ) → k < d → TriangleIn table (get_or near k 0)
+-- the numbers of a list are those of triangles of a table
+abbrev pub NearTriangles : List ℕ → List ℕ → Type 0
+NearTriangles table near = (k : ℕ) → k < length near → TriangleIn table (get_or near k 0)
 
--- a list has room for all pairs, and those found so far are at most one more than may be
+-- a list has room for all pairs, and those found so far are no more than may be
 pub record PairsRoom (found : ℕ) (pairs : List ℕ) : Type 0 where
-  pub few : found ≤ max_pairs + 1
+  pub few : found ≤ max_pairs
   pub room : pairs_length ≤ length pairs
 
--- the first m triangles of the second table with their boxes, and where candidates are found and listed
-pub record SecondTable (second lefts tops rights bottoms rows near : List ℕ) (m : ℕ) : Type 0 where
-  pub few : m ≤ max_triangles
-  pub boxed : BoxedTable second lefts tops rights bottoms m
-  pub places : RowPlaces lefts tops rights bottoms rows near
+-- the triangles of the second table with their boxes, and where candidates are found and listed
+pub record SecondTable (second : List ℕ) (marked : MarkedBoxes) (near : List ℕ) : Type 0 where
+  pub few : marked.triangles ≤ max_triangles
+  pub boxed : BoxedTable second marked.boxes.now marked.triangles
+  pub places : RowPlaces marked.rows.now near
 
 -- the marked pairs of triangle i are written, and the list of candidates is as long as it was
-pub record RowWrote (first second : List ℕ) (m : ℕ) (rows : List ℕ) (i found next : ℕ) (near pairs : Lent) : Type 0 where
+pub record RowWrote (first second : List ℕ) (m : ℕ) (rows : List ℕ) (i found : ℕ) (next : Option ℕ) (near pairs : Lent) : Type 0 where
   pub wrote : Wrote (row_pairs first second m rows i) found next pairs.entry.now pairs.exit.now
   pub kept : length near.exit.now ≡ length near.entry.now

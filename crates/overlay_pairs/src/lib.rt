@@ -12,9 +12,10 @@ ghost use Rattle.spec_calls.specs.Buffers.{pairs_length};
 ghost use Rattle.overlay_marks.specs.PairMarks.{rows_length};
 ghost use Rattle.overlay_pairs.specs.Pairs.{marked_pairs, Wrote};
 
-use base_boxes::boxes;
+use base_boxes::boxes::BoxTable;
+use overlay_candidates::MarkedBoxes;
 
-// Writes the marked pairs whose triangles have a common interior point, ascending: how many they are, or 4097 where they are more.
+// Writes the marked pairs whose triangles have a common interior point, ascending: how many they are, or none where they are too many.
 pub fn put_pairs(
     first: &[u16],
     first_triangles: usize,
@@ -22,35 +23,18 @@ pub fn put_pairs(
     second_triangles: usize,
     rows: &[u64],
     pairs: &mut [u16],
-) -> usize
+) -> Option<usize>
     requires drawn { Drawn first.now first_triangles × Drawn second.now second_triangles }
     requires rows_length_in_bounds { (rows_length ≤ length rows.now) × (pairs_length ≤ length pairs.old) }
     ensures { Wrote (marked_pairs first.now first_triangles second.now second_triangles rows.now) 0 result pairs.old pairs.new }
 {
-    let mut lefts = [0u16; base_tables::MOST_TRIANGLES];
-    let mut tops = [0u16; base_tables::MOST_TRIANGLES];
-    let mut rights = [0u16; base_tables::MOST_TRIANGLES];
-    let mut bottoms = [0u16; base_tables::MOST_TRIANGLES];
-    boxes::put_boxes(
-        second,
-        second_triangles,
-        &mut lefts,
-        &mut tops,
-        &mut rights,
-        &mut bottoms,
-    );
-    let mut near = [0usize; base_tables::MOST_TRIANGLES];
-    pair_rows::put_rows(
-        first,
-        first_triangles,
-        second,
-        second_triangles,
-        &lefts,
-        &tops,
-        &rights,
-        &bottoms,
+    let mut boxes = BoxTable::EMPTY;
+    boxes.put_boxes(second, second_triangles);
+    let marked = MarkedBoxes {
+        boxes: &boxes,
+        triangles: second_triangles,
         rows,
-        &mut near,
-        pairs,
-    )
+    };
+    let mut near = [0usize; base_tables::MOST_TRIANGLES];
+    pair_rows::put_rows(first, first_triangles, second, marked, &mut near, pairs)
 }

@@ -8,43 +8,26 @@ ghost use Rattle.overlay_pairs.specs.Pairs.{marked_pairs, Wrote, TriangleIn, Pai
 
 use crate::pair_writes;
 use base_boxes::boxes;
+use overlay_candidates::MarkedBoxes;
 
-// The pairs of row i, after those found. The boxes of the second table's triangles are in the four lists.
+// The pairs of row i, after those found. The marked boxes are those of the second table's triangles.
 fn put_row(
     first: &[u16],
     second: &[u16],
-    lefts: &[u16],
-    tops: &[u16],
-    rights: &[u16],
-    bottoms: &[u16],
-    rows: &[u64],
-    second_triangles: usize,
+    marked: MarkedBoxes,
     i: usize,
     near: &mut [usize],
     pairs: &mut [u16],
     found: usize,
-) -> usize
+) -> Option<usize>
     requires triangle_in { TriangleIn first.now i × (proper (triangle_at first.now i) ≡ true) }
-    requires second_table { SecondTable second.now lefts.now tops.now rights.now bottoms.now rows.now near.old second_triangles }
+    requires second_table { SecondTable second.now marked near.old }
     requires pairs_room { PairsRoom found pairs.old }
-    ensures { RowWrote first.now second.now second_triangles rows.now i found result near pairs }
+    ensures { RowWrote first.now second.now marked.entry.triangles marked.entry.rows.now i found result near pairs }
 {
-    if found > pair_writes::MOST_PAIRS {
-        return found;
-    }
     let b = boxes::triangle_box(first, i);
-    let d = overlay_candidates::collect_row(
-        b,
-        lefts,
-        tops,
-        rights,
-        bottoms,
-        rows,
-        second_triangles,
-        i,
-        near,
-    );
-    pair_writes::put_near(first, i, second, near, d, pairs, found)
+    let d = marked.collect_row(b, i, near);
+    pair_writes::put_near(first, i, second, &near[..d], pairs, found)
 }
 
 // The pairs of all rows, one for each triangle of the first table.
@@ -52,38 +35,18 @@ pub fn put_rows(
     first: &[u16],
     first_triangles: usize,
     second: &[u16],
-    second_triangles: usize,
-    lefts: &[u16],
-    tops: &[u16],
-    rights: &[u16],
-    bottoms: &[u16],
-    rows: &[u64],
+    marked: MarkedBoxes,
     near: &mut [usize],
     pairs: &mut [u16],
-) -> usize
+) -> Option<usize>
     requires drawn { Drawn first.now first_triangles }
-    requires second_table { SecondTable second.now lefts.now tops.now rights.now bottoms.now rows.now near.old second_triangles }
+    requires second_table { SecondTable second.now marked near.old }
     requires pairs_length_in_bounds { pairs_length ≤ length pairs.old }
-    ensures { Wrote (marked_pairs first.now first_triangles second.now second_triangles rows.now) 0 result pairs.old pairs.new }
+    ensures { Wrote (marked_pairs first.now first_triangles second.now marked.entry.triangles marked.entry.rows.now) 0 result pairs.old pairs.new }
 {
     let mut found = 0;
-    let mut i = 0;
-    while i < first_triangles {
-        found = put_row(
-            first,
-            second,
-            lefts,
-            tops,
-            rights,
-            bottoms,
-            rows,
-            second_triangles,
-            i,
-            near,
-            pairs,
-            found,
-        );
-        i += 1;
+    for i in 0..first_triangles {
+        found = put_row(first, second, marked, i, near, pairs, found)?;
     }
-    found
+    Some(found)
 }

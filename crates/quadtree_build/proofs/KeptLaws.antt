@@ -3,11 +3,11 @@
 use mathlib.Core.Path.{◌≡◌, refl, sym, ◌∙◌, ap, ap₂, subst}
 use mathlib.Core.Bool.{true}
 use mathlib.Core.List.{List, [], ◌∷◌, map, flat_map}
-use Prim.Native.Nat.{ℕ, zero, suc, ◌+◌, ◌*◌, ◌-◌, ◌/◌, ◌%◌, ◌≤◌, ◌<◌}
+use Prim.Native.Nat.{ℕ, zero, suc, ◌+◌, ◌*◌, ◌/◌, ◌%◌, ◌≤◌, ◌<◌}
 use native.Mathlib.Omega.{arith}
 use lib.ListN.{length, get_or, take}
 use lib.Seq.{sets}
-use Rattle.theory_lists.specs.Lists.{all, up_to, part}
+use Rattle.theory_lists.specs.Lists.{all, up_to}
 use Rattle.theory_lists.proofs.ListsLaws.{Every, every-uncons, get_or-stride, up_to-to, sets-length}
 use Rattle.theory_lists.proofs.FlatMapLaws.{flat_map-length}
 use Rattle.theory_lists.proofs.StoredLaws.{take-stored}
@@ -79,15 +79,14 @@ take-small b p (suc m) (x ∷ l) h (suc k) = take-small b p m l (λ j. h (suc j)
 module _ (n : ℕ) (ns : List ℕ) {sh o cs sh₁ o₁ cs₁ l : List ℕ} (stored : StoredShapes (table_of ns n) sh o cs sh₁ o₁ cs₁) (room : BuildRoom n sh o cs l)
     (small : (k : ℕ) → get_or ns k 0 < 65536) where
   abbrev kept : List ℕ
-  kept = part 0 (triangle_corners * n) cs₁
+  kept = take (triangle_corners * n) cs₁
 
   stored-length : length (flat_map (λ t. corners_of t) (table_of ns n)) ≡ triangle_corners * n
   stored-length = flat_map-length (λ t. corners_of t) triangle_corners corners-length (table_of ns n) ∙ ap (λ m. triangle_corners * m) (table_of-length ns n)
 
   kept-corners : kept ≡ flat_map (λ t. corners_of t) (table_of ns n)
   kept-corners =
-      let z : triangle_corners * n - 0 ≡ triangle_corners * n = omega arith in
-      ap (λ m. take m cs₁) z ∙ ap (take (triangle_corners * n)) stored.points
+      ap (take (triangle_corners * n)) stored.points
       ∙ take-stored cs (flat_map (λ t. corners_of t) (table_of ns n)) (triangle_corners * n) stored-length room.numbers.points
 
   kept-length : length kept ≡ triangle_corners * n
@@ -127,7 +126,7 @@ module _ (n : ℕ) (ns : List ℕ) {sh o cs sh₁ o₁ cs₁ l : List ℕ} (stor
           ready = here (λ m. Ready m 0 n (coordinates kept) sh₁ o₁ l₁)
               (whole_ready n l (omega (arith, coordinates-length kept, kept-length)) (omega (arith, r.shapes)) (omega (arith, r.offs)) fit el);
           prepared = here (λ m. Prepared m (coordinates kept) sh₁ o₁)
-              (whole-prepared n (coordinates kept) r shapes (coordinates-small kept (take-small 4294967296 (omega arith) (triangle_corners * n - 0) cs₁ wide))
+              (whole-prepared n (coordinates kept) r shapes (coordinates-small kept (take-small 4294967296 (omega arith) (triangle_corners * n) cs₁ wide))
               (ap (all (λ t. proper t)) same-table ∙ good));
           candidates = here (λ m. Candidates m 0 n (coordinates kept) l₁ s.square) (whole-candidates n (coordinates kept) l fit el es);
           keyed = whole-keyed key;

@@ -2,34 +2,39 @@
 -- Assumes nothing.
 use mathlib.Core.Path.{◌≡◌, ◌∙◌, ap}
 use mathlib.Core.List.{List, map}
-use Prim.Native.Nat.{ℕ, ◌+◌, ◌≤◌, ◌<◌}
+use Prim.Native.Nat.{ℕ, ◌≤◌, ◌<◌}
 use native.Mathlib.Decide.{dec_le}
 use native.Mathlib.Omega.{arith}
 use lib.ListN.{length, take, length-map}
+use Rattle.std.proofs.Common.{Option, Some, None}
 use Rattle.theory_orthtree.specs.Entries.{Entry}
 use Rattle.base_entries.specs.Packed.{packed}
 use Rattle.theory_lists.proofs.StoredLaws.{take-stored}
 use Rattle.quadtree_build.specs.Packed.{Packed}
 
--- a number within the limit says that it is the count of what fits
-pub few-entries : (most count r : ℕ) → (most < count → r ≡ most + 1) → r ≤ most → count ≤ most
-few-entries most count r over h = elim (dec_le count most) [
-  | yes f ↦ f
-  | no n ↦ let e = over (omega arith) in absurd (omega arith)
+-- a count that was given where the entries fit, and none where they do not: it is theirs
+pub count-given : {most count m : ℕ} → (count ≤ most → ◌≡◌ {A = Option ℕ} (Some m) (Some count)) → (most < count → ◌≡◌ {A = Option ℕ} (Some m) None)
+    → (count ≤ most) × (m ≡ count)
+count-given {most} {count} fits over = elim (dec_le count most) [
+  | yes f ↦ let e = fits f in (f, cc)
+  | no n ↦ let e = over (omega arith) in absurd cc
 ]
 
-module _ {most : ℕ} {es : List Entry} {r : ℕ} {l l' : List ℕ} (p : Packed most es r l l') where
-  -- a number within the limit says that the entries fit
-  pub packed-few : r ≤ most → length es ≤ most
-  packed-few h = few-entries most (length es) r p.over h
+-- and if none was given, they are too many
+pub none-given : {most count : ℕ} → (count ≤ most → ◌≡◌ {A = Option ℕ} None (Some count)) → most < count
+none-given {most} {count} fits = elim (dec_le count most) [
+  | yes f ↦ let e = fits f in absurd cc
+  | no n ↦ omega arith
+]
 
-  -- then it is their number, and the first places hold them
-  pub packed-count : r ≤ most → r ≡ length es
-  packed-count h = (p.fits (packed-few h)).0
+module _ {most : ℕ} {es : List Entry} {m : ℕ} {l l' : List ℕ} (p : Packed most es (Some m) l l') where
+  -- where a number is given, the entries fit, and it is theirs
+  pub packed-count : (length es ≤ most) × (m ≡ length es)
+  packed-count = count-given (λ f. (p.fits f).0) p.over
 
-  pub packed-take : r ≤ most → take r l' ≡ map (λ e. packed e) es
-  packed-take h =
-      let f = packed-few h in
-      ap (λ k. take k l') (packed-count h)
-      ∙ ap (take (length es)) (p.fits f).1
-      ∙ take-stored l (map (λ e. packed e) es) (length es) (length-map es (λ e. packed e)) (omega (arith, p.room))
+  -- the first places hold them
+  pub packed-take : take m l' ≡ map (λ e. packed e) es
+  packed-take =
+      ap (λ k. take k l') packed-count.1
+      ∙ ap (take (length es)) (p.fits packed-count.0).1
+      ∙ take-stored l (map (λ e. packed e) es) (length es) (length-map es (λ e. packed e)) (omega (arith, p.room, packed-count))

@@ -9,12 +9,15 @@ use native.Mathlib.Numerals.{add-one}
 use native.Mathlib.Decide.{dec_le}
 use native.Mathlib.Omega.{arith}
 use borrow.Author.Tests.{eq-eqb}
-use lib.ListN.{length, get_or, take}
-use lib.Seq.{take-suc}
+use lib.ListN.{length, get_or, take, drop}
+use Rattle.std.proofs.Common.{Option, None}
+use Rattle.std.proofs.lemmas.List.{take-append-drop}
+use lib.Seq.{take-suc, take-length}
 use Rattle.theory_lists.specs.Lists.{filter}
 use Rattle.theory_lists.proofs.ListsLaws.{get_or-member}
 use Rattle.theory_lists.proofs.FlatMapLaws.{flat_map-append}
-use Rattle.theory_lists.proofs.StoredLaws.{part-kept}
+use Rattle.theory_lists.proofs.StoredLaws.{part-kept, take_less}
+use Rattle.theory_orthtree.specs.Entries.{Entry}
 use Rattle.spec_plane.specs.Box.{triangle_meets}
 use Rattle.spec_squares.specs.declared.Square.{Square}
 use Rattle.spec_squares.specs.Square.{arity, depth, quarters, top_left, top_right, bottom_left, bottom_right, square_key, square_box, Aligned}
@@ -25,7 +28,8 @@ use Rattle.laws_charts.proofs.EntriesOfTable.{entries_in-split, meeting-narrow, 
 use Rattle.quadtree_cells.specs.declared.quarters.KeyedSquare.{KeyedSquare}
 use Rattle.quadtree_cells.proofs.ReadyLaws.{ready-kept}
 use Rattle.quadtree_stopping.specs.Stopping.{corner_table}
-use Rattle.quadtree_build.specs.Build.{levels_from, Buildable}
+use Rattle.quadtree_build.specs.Build.{levels_from, Buildable, Built}
+use Rattle.quadtree_build.proofs.WalkLaws.{built-over}
 use Rattle.quadtree_build.proofs.SquareWalk.{Narrowed}
 
 quarters-four : (s : Square) → length (quarters s) ≡ arity
@@ -68,6 +72,31 @@ unfolding flat_map quarters
 quarters-all table s lev st =
     ap (λ r. entries_in table (top_left s) ++ (entries_in table (top_right s) ++ (entries_in table (bottom_left s) ++ r))) (append-nil (entries_in table (bottom_right s)))
     ∙ sym (entries_in-split table s lev st)
+
+-- if those of the first quarters do not fit, neither do all
+pub quarters-over : (s : Square) (k : ℕ) → k < arity → (table : Table) → s.level < depth → stopped table s ≡ false
+    → {most at t : ℕ} {o o₁ l l₁ : List ℕ}
+    → Built (flat_map (λ x. entries_in table x) (take k (quarters s)) ++ entries_in table (get_or (quarters s) k s)) most at None t o o₁ l l₁
+    → Built (entries_in table s) most at None t o o₁ l l₁
+quarters-over s k lt table lev st b =
+    let rest = flat_map (λ x. entries_in table x) (drop (k + 1) (quarters s)) in
+    let e = ap (λ r. r ++ rest) (sym (quarters-more s k lt table))
+    ∙ sym (flat_map-append (λ x. entries_in table x) (take (k + 1) (quarters s)) (drop (k + 1) (quarters s)))
+    ∙ ap (flat_map (λ x. entries_in table x)) (take-append-drop (k + 1) (quarters s) ∙ sym (ap (λ m. take m (quarters s)) (sym (quarters-four s)) ∙ take-length (quarters s)))
+    ∙ quarters-all table s lev st
+    in
+    rw e at (built-over rest b)
+
+-- what is built above the square's triangles is kept below them too
+pub built-below : {es : List Entry} {most at t top : ℕ} {r : Option ℕ} {cs sh o l l₁ l₂ out out' : List ℕ} {s : Square}
+    → Narrowed t top cs sh o l l₁ s → Built es most at r top out out' l₁ l₂ → Built es most at r t out out' l l₂
+built-below {t = t} w b = record {
+  fits = b.fits;
+  over = b.over;
+  kept = take_less t _ _ _ w.ready.order b.kept ∙ w.kept;
+  outs = b.outs;
+  stacks = b.stacks ∙ w.same;
+}
 
 -- what building quarter k asks, on a stack that is kept up to the square's triangles
 pub quarter-buildable : {f t top : ℕ} {cs sh o l l₁ l₂ : List ℕ} {s q : KeyedSquare} (k : ℕ) → k < arity → s.square.level < depth

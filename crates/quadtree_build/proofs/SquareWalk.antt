@@ -1,16 +1,16 @@
 -- One square of the recursion: the candidates that pass are its triangles, and as a leaf it leaves their entries.
 -- Assumes nothing.
-use mathlib.Core.Path.{◌≡◌, refl, sym, ◌∙◌, ap}
+use mathlib.Core.Path.{◌≡◌, refl, sym, ◌∙◌, ap, subst}
 use mathlib.Core.Bool.{true}
-use mathlib.Core.List.{List, [], ◌∷◌, map}
+use mathlib.Core.List.{List, [], ◌∷◌, map, Memᴰ}
 use Prim.Native.Nat.{ℕ, zero, suc, ◌+◌, ◌*◌, ◌-◌, ◌≤◌, ◌<◌}
-use native.Mathlib.Nat.{suc-mul}
-use native.Mathlib.Decide.{dec_le}
+use native.Mathlib.Nat.{suc-mul, le_refl}
+use Rattle.std.proofs.Common.{None, Option, Some}
 use native.Mathlib.Omega.{arith}
-use lib.ListN.{length, take, length-map}
+use lib.ListN.{length, get_or, take, length-map}
 use lib.Seq.{sets}
 use Rattle.theory_lists.specs.Lists.{filter, part}
-use Rattle.theory_lists.proofs.ListsLaws.{Every, sets-length}
+use Rattle.theory_lists.proofs.ListsLaws.{Every, get_or-member, sets-length}
 use Rattle.theory_lists.proofs.FilterLaws.{filter-agree, filter-length}
 use Rattle.theory_lists.proofs.PartLaws.{part_length, part-every}
 use Rattle.theory_lists.proofs.StoredLaws.{part-stored, take-before}
@@ -86,6 +86,19 @@ module _ {f t : ℕ} {cs sh o l : List ℕ} {s : KeyedSquare} (b : Buildable f t
     framed = e.framed;
   }
 
+  -- so they are ready, one after another
+  pub among-ready : {l' : List ℕ} {top : ℕ} → Narrowed t top cs sh o l l' s.square → Ready n 0 (length (part t top l')) ns sh o (part t top l')
+  among-ready {l'} {top} w =
+      let is = part t top l' in
+      record {
+        order = omega arith;
+        within = le_refl (length is);
+        held = λ k a h. below (get_or is k 0) (subst (λ x. Memᴰ (get_or is k 0) x) w.triangles (get_or-member is k 0 h));
+        tables = w.ready.tables;
+        shapes = w.ready.shapes;
+        offs = w.ready.offs;
+      }
+
   pub after-narrow : {fr : Frame} {l' : List ℕ} {top : ℕ} → FrameOf s.square fr
       → Narrowing (λ i. triangle_meets_at sh o i (frame_box fr)) l l' f t t top → Narrowed t top cs sh o l l' s.square
   after-narrow {fr} e w =
@@ -120,13 +133,13 @@ module _ (table : Table) (s : Square) where
       go [] = refl
       go (i ∷ is) = ap (λ r. (head_of (square_key s) s.level + i) ∷ r) (go is)
 
-  -- what a leaf leaves
-  pub built-leaf : {most at r t : ℕ} {out out' l l' is : List ℕ} {head : ℕ}
+  -- what a leaf leaves: the place after its entries, if they fit
+  pub built-leaf : {most at t : ℕ} {r : Option ℕ} {out out' l l' is : List ℕ} {head : ℕ}
       → stopped table s ≡ true
       → is ≡ triangles_meeting table s
       → head ≡ head_of (square_key s) s.level
-      → (at + length (or_mark is) ≤ most → (r ≡ at + length (or_mark is)) × (out' ≡ sets out at (map (λ i. head + i) (or_mark is))))
-      → (most < at + length (or_mark is) → r ≡ most + 1)
+      → (at + length (or_mark is) ≤ most → (r ≡ Some (at + length (or_mark is))) × (out' ≡ sets out at (map (λ i. head + i) (or_mark is))))
+      → (most < at + length (or_mark is) → r ≡ None)
       → take t l' ≡ take t l → length out' ≡ length out → length l' ≡ length l
       → Built (entries_in table s) most at r t out out' l l'
   built-leaf {most} {at} {out = out} {is = is} {head = head} st ei eh fits over kept outs stacks =
@@ -140,14 +153,12 @@ module _ (table : Table) (s : Square) where
       rw (entries_in-stopped table s st)
       (record {
         fits = λ g.
-            let x = fits (omega arith) in
-            (x.0 ∙ ap (λ m. at + m) len, x.1 ∙ ap (λ y. sets out at (map (λ i. head + i) (or_mark y))) ei ∙ ap (sets out at) pc);
+            let x = fits (omega arith) in (
+              x.0 ∙ ap (λ n. Some (at + n)) len,
+              x.1 ∙ ap (λ y. sets out at (map (λ i. head + i) (or_mark y))) ei ∙ ap (sets out at) pc,
+            );
         over = λ g. over (omega arith);
         kept = kept;
         outs = outs;
         stacks = stacks;
-        end = elim (dec_le (at + length (or_mark is)) most) [
-          | yes g ↦ let x = fits g in omega (arith, x.0)
-          | no g ↦ let x = over (omega arith) in omega arith
-        ];
       })

@@ -1,6 +1,7 @@
 -- Building a square: the triangles that it starts from, what it asks, and what it leaves.
 -- Assumes nothing.
 use Rattle.std.specs.Prelude.{◌≡◌, List, map, ℕ, ◌+◌, ◌*◌, ◌-◌, ◌≤◌, ◌<◌, length, take}
+use Rattle.std.specs.Prelude.{Option, Some, None}
 use Rattle.std.proofs.lemmas.List.Edits.{sets}
 use Rattle.theory_lists.specs.Lists.{filter, part}
 use Rattle.theory_orthtree.specs.Entries.{Entry}
@@ -43,11 +44,11 @@ pub record BuildRoom (n : ℕ) (shape offsets corners stack : List ℕ) : Type 0
   pub numbers : ShapeRoom n shape offsets corners
   pub levels : stack_levels * n ≤ length stack
 
--- what building a square leaves: its entries where they fit below place `most`, or most + 1; the stack is kept up to t
-pub record Built (es : List Entry) (most at r t : ℕ) (out out' stack stack' : List ℕ) : Type 0 where
-  pub fits : at + length es ≤ most → (r ≡ at + length es) × (out' ≡ sets out at (map (λ e. packed e) es))
-  pub over : most < at + length es → r ≡ most + 1
+-- what building a square leaves: its entries, and the place after them, where they fit below place `most`, or none; the stack is
+-- kept up to t
+pub record Built (es : List Entry) (most at : ℕ) (r : Option ℕ) (t : ℕ) (out out' stack stack' : List ℕ) : Type 0 where
+  pub fits : at + length es ≤ most → (r ≡ Some (at + length es)) × (out' ≡ sets out at (map (λ e. packed e) es))
+  pub over : most < at + length es → r ≡ None
   pub kept : take t stack' ≡ take t stack
   pub outs : length out' ≡ length out
   pub stacks : length stack' ≡ length stack
-  pub end : r ≤ most + 1

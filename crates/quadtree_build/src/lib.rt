@@ -24,7 +24,8 @@ const DEPTH: usize = 16;
 const STACK_LEVELS: usize = DEPTH + 2;
 
 // The entries of a small table.
-fn build_small(table: &[u16], n: usize, out: &mut [u64], most: usize) -> usize
+// Kept: a twin of `build_large`: one function of both takes four const parameters, computed in eight constants, and is no plainer.
+fn build_small(table: &[u16], n: usize, out: &mut [u64], most: usize) -> Option<usize>
     requires { Drawn table.now n × ((n ≤ few_triangles) × EntryRoom most out.old) }
     ensures { Packed most (entries_of (table_of table.now n)) result out.old out.new }
 {
@@ -45,7 +46,7 @@ fn build_small(table: &[u16], n: usize, out: &mut [u64], most: usize) -> usize
 }
 
 // The entries of any table.
-fn build_large(table: &[u16], n: usize, out: &mut [u64], most: usize) -> usize
+fn build_large(table: &[u16], n: usize, out: &mut [u64], most: usize) -> Option<usize>
     requires { Drawn table.now n × EntryRoom most out.old }
     ensures { Packed most (entries_of (table_of table.now n)) result out.old out.new }
 {
@@ -65,8 +66,8 @@ fn build_large(table: &[u16], n: usize, out: &mut [u64], most: usize) -> usize
     )
 }
 
-// The entries of a table, packed, from place 0 on, or most + 1 where they are more than `most`.
-pub fn build_packed(table: &[u16], n: usize, out: &mut [u64], most: usize) -> usize
+// The entries of a table, packed, from place 0 on: their number, or none where they are more than `most`.
+pub fn build_packed(table: &[u16], n: usize, out: &mut [u64], most: usize) -> Option<usize>
     requires { Drawn table.now n × EntryRoom most out.old }
     ensures { Packed most (entries_of (table_of table.now n)) result out.old out.new }
 {

@@ -11,14 +11,13 @@ ghost use Rattle.quadtree_build.specs.Packed.{EntryRoom, Packed};
 use quadtree_cells::quarters::KeyedSquare;
 use quadtree_cells::{candidates, leaves, quarters};
 use quadtree_shapes::shapes;
+use quadtree_stopping::Shapes;
 use spec_squares::Square;
 
-// Builds a square: its entries from `at` on, or most + 1 where they do not fit below place `most`. Its triangles are among the
-// candidates from `from` up to `to` of the stack.
+// Builds a square: its entries from `at` on, up to the place that it answers, or none where they do not fit below place `most`. Its
+// triangles are among the candidates from `from` up to `to` of the stack.
 fn build_square(
-    corners: &[u32],
-    shape: &[u16],
-    offsets: &[u64],
+    shapes: &Shapes,
     stack: &mut [u16],
     from: usize,
     to: usize,
@@ -26,30 +25,27 @@ fn build_square(
     out: &mut [u64],
     at: usize,
     most: usize,
-) -> usize
-    requires buildable { Buildable from to corners.now shape.now offsets.now stack.old s }
-    requires entry_room { EntryRoom most out.old × (at ≤ most + 1) }
-    ensures { Built (entries_in (corner_table corners.now) s.square) most at result to out.old out.new stack.old stack.new }
+) -> Option<usize>
+    requires buildable { Buildable from to shapes.now.corners.now shapes.now.shape.now shapes.now.offsets.now stack.old s }
+    requires entry_room { EntryRoom most out.old × (at ≤ most) }
+    ensures { Built (entries_in (corner_table shapes.now.corners.now) s.square) most at result to out.old out.new stack.old stack.new }
 {
-    if most < at {
-        return most + 1;
-    }
     let square = s.square;
     let f = quarters::frame_of(square);
-    let top = candidates::narrow(shape, offsets, stack, from, to, f);
-    if quadtree_stopping::is_stopped(corners, shape, offsets, stack, to, top, square, f) {
+    let top = candidates::narrow(shapes.shape, shapes.offsets, stack, from, to, f);
+    if shapes.is_stopped(&stack[to..top], square, f) {
         let head = base_entries::head_of(s.key, square.level);
-        return leaves::put_leaf(stack, to, top, head, out, at, most);
+        return leaves::put_leaf(&stack[to..top], head, out, at, most);
     }
     let mut next = at;
-    for k in 0..4u32 {
+    for k in 0..4 {
         let q = quarters::keyed_quarter(s, k);
-        next = build_square(corners, shape, offsets, stack, to, top, q, out, next, most);
+        next = build_square(shapes, stack, to, top, q, out, next, most)?;
     }
-    next
+    Some(next)
 }
 
-// The entries of a table, packed, from place 0 on, or most + 1 where they are more than `most`.
+// The entries of a table, packed, from place 0 on: their number, or none where they are more than `most`.
 pub fn build(
     table: &[u16],
     n: usize,
@@ -59,7 +55,7 @@ pub fn build(
     stack: &mut [u16],
     out: &mut [u64],
     most: usize,
-) -> usize
+) -> Option<usize>
     requires { Drawn table.now n × (BuildRoom n shape.old offsets.old corners.old stack.old × EntryRoom most out.old) }
     ensures { Packed most (entries_of (table_of table.now n)) result out.old out.new }
 {
@@ -69,16 +65,10 @@ pub fn build(
         square: Square::whole(),
         key: 0,
     };
-    build_square(
-        &corners[0..shapes::TRIANGLE_CORNERS * n],
+    let shapes = Shapes {
+        corners: &corners[..shapes::TRIANGLE_CORNERS * n],
         shape,
         offsets,
-        stack,
-        0,
-        n,
-        whole,
-        out,
-        0,
-        most,
-    )
+    };
+    build_square(&shapes, stack, 0, n, whole, out, 0, most)
 }

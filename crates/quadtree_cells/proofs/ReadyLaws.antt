@@ -6,7 +6,7 @@ use Prim.Native.Nat.{ℕ, ◌+◌, ◌-◌, ◌≤◌, ◌<◌}
 use native.Mathlib.Omega.{arith}
 use lib.ListN.{length, get_or, take, drop}
 use lib.Seq.{sets, length-sets, get_or-drop, get_or-take}
-use Rattle.theory_lists.proofs.StoredLaws.{get_d_kept, part-stored}
+use Rattle.theory_lists.proofs.StoredLaws.{get_or-kept, part-stored}
 use Rattle.theory_lists.proofs.ListsLaws.{Every, get_or-member}
 use Rattle.quadtree_cells.specs.Stack.{Fits, Ready}
 
@@ -16,7 +16,7 @@ pub ready-kept : {n f t : ℕ} {table shape offsets l l' : List ℕ} → take t 
 ready-kept {t = t} {l = l} {l' = l'} e h r = record {
   order = r.order;
   within = rw h r.within;
-  held = λ k a b. rw (get_d_kept k t l l' b e) (r.held k a b);
+  held = λ k a b. rw (get_or-kept k t l l' b e) (r.held k a b);
   tables = r.tables;
   shapes = r.shapes;
   offs = r.offs;

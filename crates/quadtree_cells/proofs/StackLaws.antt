@@ -9,13 +9,13 @@ use native.Mathlib.Omega.{arith}
 use lib.ListN.{length, get_or, length-append}
 use lib.Seq.{sets}
 use Rattle.theory_lists.specs.Lists.{filter, only, part}
-use Rattle.theory_lists.proofs.ListsLaws.{sets-join, sets-length}
+use Rattle.theory_lists.proofs.ListsLaws.{sets-join}
 use Rattle.theory_lists.proofs.FilterLaws.{filter-snoc, filter-length}
 use Rattle.theory_lists.proofs.PartLaws.{part_length, part_none, part-snoc}
 use Rattle.theory_lists.proofs.StoredLaws.{get_or-before}
 use Rattle.quadtree_cells.specs.Stack.{Pushed, Narrowing}
 
-module _ (m : ℕ → Bool) (l : List ℕ) (f t : ℕ) (within : t ≤ length l) where
+module _ {m : ℕ → Bool} {l : List ℕ} {f t : ℕ} (within : t ≤ length l) where
   -- before the first candidate
   pub narrowing-start : f ≤ t → Narrowing m l l f t f t
   unfolding filter
@@ -27,30 +27,26 @@ module _ (m : ℕ → Bool) (l : List ℕ) (f t : ℕ) (within : t ≤ length l)
   }
 
   -- what is still to be read stands as before
-  pub narrowing-read : (l' : List ℕ) (k top : ℕ) → Narrowing m l l' f t k top → k < t → get_or l' k 0 ≡ get_or l k 0
-  narrowing-read l' k top n h = ap (λ x. get_or x k 0) n.stored ∙ get_or-before l t (filter m (part f k l)) k h
-
-  -- the stack is as long as before
-  pub narrowing-length : {l' : List ℕ} {k top : ℕ} → Narrowing m l l' f t k top → length l' ≡ length l
-  narrowing-length {k = k} n = sets-length l t (filter m (part f k l)) n.stored
+  pub narrowing-read : {l' : List ℕ} {k top : ℕ} → Narrowing m l l' f t k top → k < t → get_or l' k 0 ≡ get_or l k 0
+  narrowing-read {k = k} n h = ap (λ x. get_or x k 0) n.stored ∙ get_or-before l t (filter m (part f k l)) k h
 
   -- no more are stored than are read
-  pub narrowing-room : (l' : List ℕ) (k top : ℕ) → Narrowing m l l' f t k top → top ≤ t + (k - f)
-  narrowing-room l' k top n =
+  pub narrowing-room : {l' : List ℕ} {k top : ℕ} → Narrowing m l l' f t k top → top ≤ t + (k - f)
+  narrowing-room {k = k} n =
       let h = filter-length m (part f k l) in
       let e = part_length f k l (omega (arith, n.high)) in
       omega (arith, n.end)
 
-  -- one candidate more
-  pub narrowing-next : (l' l'' : List ℕ) (k top top' i : ℕ) (b : Bool) → Narrowing m l l' f t k top → k < t
-      → i ≡ get_or l' k 0 → b ≡ m i → Pushed b i l' l'' top top' → Narrowing m l l'' f t (k + 1) top'
-  narrowing-next l' l'' k top top' i b n h ei eb p =
-      let r = ei ∙ narrowing-read l' k top n h in
+  -- one candidate more, of number w
+  pub narrowing-next : {l' l'' : List ℕ} {k top top' w : ℕ} {b : Bool} → Narrowing m l l' f t k top → k < t
+      → w ≡ get_or l' k 0 → b ≡ m w → Pushed b (get_or l' k 0) l' l'' top top' → Narrowing m l l'' f t (k + 1) top'
+  narrowing-next {l'} {l''} {k} {top} {top'} {w} {b} n h ew eb p =
+      let i = get_or l' k 0 in
       let e : filter m (part f (k + 1) l) ≡ filter m (part f k l) ++ only b i =
       ap (filter m) (part-snoc f k l n.low (omega arith))
       ∙ filter-snoc m (part f k l) (get_or l k 0)
-      ∙ ap (λ x. filter m (part f k l) ++ only (m x) x) (sym r)
-      ∙ ap (λ x. filter m (part f k l) ++ only x i) (sym eb)
+      ∙ ap (λ x. filter m (part f k l) ++ only (m x) x) (sym (narrowing-read n h))
+      ∙ ap (λ x. filter m (part f k l) ++ only x i) (ap m (sym ew) ∙ sym eb)
       in
       record {
         low = omega (arith, n.low);

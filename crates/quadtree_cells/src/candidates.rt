@@ -8,7 +8,6 @@ ghost use Rattle.spec_charts.specs.Table.{max_triangles};
 ghost use Rattle.quadtree_shapes.specs.Shape.{frame_box, triangle_meets_at};
 ghost use Rattle.quadtree_cells.specs.Stack.{Pushed, Narrowable, Narrowing};
 
-use base_geometry::numbers;
 use quadtree_shapes::box_tests;
 use quadtree_shapes::shapes::Frame;
 
@@ -37,12 +36,10 @@ pub fn narrow(
     ensures { Narrowing (λ i. triangle_meets_at shape.now offsets.now i (frame_box f)) stack.old stack.new from to to result }
 {
     let mut top = to;
-    let mut k = from;
-    while k < to {
+    for k in from..to {
         let i = stack[k];
-        let b = box_tests::triangle_meets(shape, offsets, numbers::index(i), f);
+        let b = box_tests::triangle_meets(shape, offsets, usize::from(i), f);
         top = push_when(b, stack, top, i);
-        k += 1;
     }
     top
 }
@@ -52,9 +49,7 @@ pub fn put_numbers(stack: &mut [u16], n: usize)
     requires { (n ≤ length stack.old) × (n ≤ max_triangles) }
     ensures { stack.new ≡ sets stack.old 0 (up_to n) }
 {
-    let mut i = 0;
-    while i < n {
+    for i in 0..n {
         stack[i] = i as u16;
-        i += 1;
     }
 }

@@ -24,28 +24,11 @@ pub fn frame_of(s: Square) -> Frame
     let right = s.x + side;
     let bottom = s.y + side;
     Frame {
-        left: s.x as u64,
-        top: s.y as u64,
-        right: right as u64,
-        bottom: bottom as u64,
+        left: u64::from(s.x),
+        top: u64::from(s.y),
+        right: u64::from(right),
+        bottom: u64::from(bottom),
     }
-}
-
-// Quarter k of a square, in their order.
-fn quarter(s: Square, k: u32) -> Square
-    requires { HasQuarter s k }
-    ensures { result ≡ get_or (quarters s) k s }
-{
-    if k == 0 {
-        return s.top_left();
-    }
-    if k == 1 {
-        return s.top_right();
-    }
-    if k == 2 {
-        return s.bottom_left();
-    }
-    s.bottom_right()
 }
 
 // How many keys a quarter of a square of this level covers: 4^(15 - level).
@@ -65,7 +48,7 @@ pub fn keyed_quarter(s: KeyedSquare, k: u32) -> KeyedSquare
     let square = s.square;
     let step = key_step(square.level);
     KeyedSquare {
-        square: quarter(square, k),
-        key: s.key + (k as u64) * step,
+        square: square.quarter(k),
+        key: s.key + u64::from(k) * step,
     }
 }

@@ -5,43 +5,35 @@
 
 ghost use Rattle.std.specs.Prelude.{◌≡◌, ◌+◌, ◌≤◌, length};
 ghost use Rattle.std.proofs.lemmas.List.Edits.{sets};
-ghost use Rattle.spec_plane.specs.Point.{distance as Point·distance};
 ghost use Rattle.spec_plane.specs.Triangle.{triangle_of};
 ghost use Rattle.spec_charts.specs.Table.{triangle_at, table_of};
 ghost use Rattle.base_geometry.specs.Bounds.{bounds_box};
 ghost use Rattle.quadtree_shapes.specs.Shape.{triangle_sides, triangle_corners, line_numbers, box_numbers, side_numbers, shape_numbers, at_most, box_shape, line_shape, side_shape, shape_of, side_offset, offsets_of, packed_point, corners_of};
 ghost use Rattle.quadtree_prepare.specs.Prepare.{Preparable, StoredShape, StoredShapes};
 
+use base_geometry::bounds;
 use base_geometry::bounds::Bounds;
-use base_geometry::{bounds, numbers};
 use quadtree_shapes::shapes;
 use spec_plane::Point;
-
-// How far apart a and b are.
-fn distance(a: u16, b: u16) -> u16
-    ensures { result ≡ Point·distance a b }
-{
-    if b < a { a - b } else { b - a }
-}
 
 // 1 where a is at most b, otherwise 0.
 fn flag(a: u16, b: u16) -> u16
     ensures { result ≡ at_most a b }
 {
-    if a <= b { 1 } else { 0 }
+    u16::from(a <= b)
 }
 
 // V(p) of the side from p to q.
 fn offset(p: Point, q: Point) -> u64
     ensures { result ≡ side_offset p q }
 {
-    let x = numbers::wide(p.x);
-    let y = numbers::wide(p.y);
+    let x = u64::from(p.x);
+    let y = u64::from(p.y);
     shapes::weighted(
-        distance(p.y, q.y),
+        p.y.abs_diff(q.y),
         shapes::choose_by_flag(flag(q.y, p.y), 65536 - x, x),
     ) + shapes::weighted(
-        distance(q.x, p.x),
+        q.x.abs_diff(p.x),
         shapes::choose_by_flag(flag(p.x, q.x), 65536 - y, y),
     )
 }
@@ -62,8 +54,8 @@ fn put_line(shape: &mut [u16], k: usize, p: Point, q: Point)
     requires { k + line_numbers ≤ length shape.old }
     ensures { shape.new ≡ sets shape.old k (line_shape p q) }
 {
-    shape[k] = distance(p.y, q.y);
-    shape[k + 1] = distance(q.x, p.x);
+    shape[k] = p.y.abs_diff(q.y);
+    shape[k + 1] = q.x.abs_diff(p.x);
     shape[k + 2] = flag(q.y, p.y);
     shape[k + 3] = flag(p.x, q.x);
 }
@@ -102,7 +94,7 @@ fn put_offsets(offsets: &mut [u64], k: usize, t: [Point; 3])
 fn packed_point(p: Point) -> u32
     ensures { result ≡ packed_point p }
 {
-    (p.x as u32) + 65536 * (p.y as u32)
+    u32::from(p.x) + 65536 * u32::from(p.y)
 }
 
 // The corners of a triangle, from k on.
@@ -137,9 +129,7 @@ pub fn prepare(table: &[u16], n: usize, shape: &mut [u16], offsets: &mut [u64], 
     requires { Preparable n table.now shape.old offsets.old corners.old }
     ensures { StoredShapes (table_of table.now n) shape.old offsets.old corners.old shape.new offsets.new corners.new }
 {
-    let mut i = 0;
-    while i < n {
+    for i in 0..n {
         prepare_triangle(table, i, shape, offsets, corners);
-        i += 1;
     }
 }

@@ -6,17 +6,16 @@ ghost use Rattle.quadtree_shapes.specs.Shape.{box_numbers, side_numbers, frame_b
 
 use crate::shapes;
 use crate::shapes::Frame;
-use base_geometry::numbers;
 
 // The box whose numbers start at k is not strictly apart from the frame.
 fn touches(shape: &[u16], k: usize, f: Frame) -> bool
     requires { k + box_numbers ≤ length shape.now }
     ensures { result ≡ touches_at shape.now k (frame_box f) }
 {
-    (f.left <= numbers::wide(shape[k + 2]))
-        & (numbers::wide(shape[k]) <= f.right)
-        & (f.top <= numbers::wide(shape[k + 3]))
-        & (numbers::wide(shape[k + 1]) <= f.bottom)
+    (f.left <= u64::from(shape[k + 2]))
+        & (u64::from(shape[k]) <= f.right)
+        & (f.top <= u64::from(shape[k + 3]))
+        & (u64::from(shape[k + 1]) <= f.bottom)
 }
 
 // Triangle i meets the frame.

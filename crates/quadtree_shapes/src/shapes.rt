@@ -8,8 +8,6 @@ ghost use Rattle.std.specs.Prelude.{◌≡◌, ◌+◌, ◌*◌, ◌≤◌, leng
 ghost use Rattle.spec_plane.specs.Box.{Framed};
 ghost use Rattle.quadtree_shapes.specs.Shape.{line_numbers, chosen, frame_box, value_of, largest_at, smallest_at};
 
-use base_geometry::numbers;
-
 // The sides of a triangle, each with an offset, and its corners.
 pub const TRIANGLE_SIDES: usize = 3;
 
@@ -54,7 +52,7 @@ pub fn weighted(weight: u16, coordinate: u64) -> u64
     requires { coordinate ≤ 65536 }
     ensures { (result ≡ weight * coordinate) × (result ≤ 65535 * 65536) }
 {
-    numbers::wide(weight) * coordinate
+    u64::from(weight) * coordinate
 }
 
 // V at a point, for the line whose numbers start at k: mx and my are the mirrored x and y.

@@ -1,8 +1,8 @@
 -- The stopping test in code: the sides of candidates, the states of its loops, and what its functions ask.
 -- Assumes nothing.
-use Rattle.std.specs.Prelude.{◌≡◌, Bool, ◌||◌, ℕ, ◌/◌, ◌≤◌, ◌<◌, eqb, length, get_or}
+use Rattle.std.specs.Prelude.{◌≡◌, Bool, ◌&&◌, ◌||◌, ℕ, ◌/◌, ◌<◌, eqb, length, get_or, take}
 use mathlib.Core.List.{List, [], flat_map}
-use Rattle.theory_lists.specs.Lists.{all, part}
+use Rattle.theory_lists.specs.Lists.{all}
 use Rattle.theory_lists.specs.Masks.{mask_of, masked}
 use Rattle.spec_plane.specs.declared.Point.{Point}
 use Rattle.spec_plane.specs.Triangle.{Side, sides}
@@ -16,6 +16,7 @@ use Rattle.quadtree_shapes.specs.Shape.{triangle_corners, coordinates}
 use Rattle.quadtree_shapes.specs.Masks.{side_masks, sides_met}
 use Rattle.quadtree_cells.specs.Stack.{Rows, Fits, Ready, Prepared}
 use Rattle.quadtree_cells.specs.Quarters.{FrameOf}
+use Rattle.quadtree_stopping.specs.declared.Shapes.{Shapes}
 
 -- how many triangles have their corners in a list
 abbrev pub triangle_total : List ℕ → ℕ
@@ -29,54 +30,48 @@ corner_table corners = table_of (coordinates corners) (triangle_total corners)
 unfoldable pub sides_at : List ℕ → List ℕ → List ℕ → Box → ℕ → List Side
 sides_at table s o b i = masked (mask_of (sides_met s o b i)) (sides (triangle_at table i))
 
--- such sides of the candidates from f up to t of the stack, whose corners are in a list
-abbrev pub sides_from : List ℕ → List ℕ → List ℕ → Box → List ℕ → ℕ → ℕ → List Side
-sides_from corners s o b stack f t = flat_map (λ i. sides_at (coordinates corners) s o b i) (part f t stack)
+-- such sides of the candidates
+abbrev pub sides_of : Shapes → Box → List ℕ → List Side
+sides_of v b candidates = flat_map (λ i. sides_at (coordinates v.corners.now) v.shape.now v.offsets.now b i) candidates
 
--- p or q is an end of every side
-unfoldable pub either_end : Point → Point → List Side → Bool
-either_end p q ds = all (λ d. is_end p d) ds || all (λ d. is_end q d) ds
+-- p is an end of every side and x is 0, or q is an end of every side and y is 0
+unfoldable pub either_end : Point → Point → ℕ → ℕ → List Side → Bool
+either_end p q x y ds = (eqb x 0 && all (λ d. is_end p d) ds) || (eqb y 0 && all (λ d. is_end q d) ds)
 
--- of the candidates from f up to t, none before k has a side
-pub record Skipped (S : ℕ → List Side) (stack : List ℕ) (f t k : ℕ) : Type 0 where
-  pub low : f ≤ k
-  pub high : k ≤ t
-  pub none : flat_map S (part f k stack) ≡ []
-
--- of the candidates from f up to t, those before k are tested: x and y are 0 if p and q are ends of every side of theirs
-pub record Tested (S : ℕ → List Side) (stack : List ℕ) (p q : Point) (f t k x y : ℕ) : Type 0 where
-  pub low : f ≤ k
-  pub high : k ≤ t
-  pub first : eqb x 0 ≡ all (is_end p) (flat_map S (part f k stack))
-  pub second : eqb y 0 ≡ all (is_end q) (flat_map S (part f k stack))
+-- the first k candidates are tested against p and q, from x and y on: a number is 0 if the one before was and the point is an end of
+-- every side of theirs
+pub record Tested (S : ℕ → List Side) (candidates : List ℕ) (p q : Point) (x y k x' y' : ℕ) : Type 0 where
+  pub first : eqb x' 0 ≡ (eqb x 0 && all (is_end p) (flat_map S (take k candidates)))
+  pub second : eqb y' 0 ≡ (eqb y 0 && all (is_end q) (flat_map S (take k candidates)))
 
 -- ---- what the functions ask and leave
 
--- the candidates from f up to t have their numbers in the two lists, and the box is one of the grid
-pub record Scannable (f t : ℕ) (shape offsets stack : List ℕ) (b : Box) : Type 0 where
-  pub fits : Fits f t shape offsets stack
+-- the candidates have their numbers in the two lists, and the box is one of the grid
+pub record Scannable (v : Shapes) (candidates : List ℕ) (b : Box) : Type 0 where
+  pub fits : Fits 0 (length candidates) v.shape.now v.offsets.now candidates
   pub framed : Framed b
 
 -- and their corners in a third
-pub record Readable (f t : ℕ) (corners shape offsets stack : List ℕ) (b : Box) : Type 0 where
-  pub scannable : Scannable f t shape offsets stack b
-  pub points : Rows triangle_corners f t corners stack
+pub record Readable (v : Shapes) (candidates : List ℕ) (b : Box) : Type 0 where
+  pub scannable : Scannable v candidates b
+  pub points : Rows triangle_corners 0 (length candidates) v.corners.now candidates
 
--- m is the mask of the sides of triangle i that meet the box, of which there are some
-pub record MetMask (shape offsets : List ℕ) (b : Box) (i m : ℕ) : Type 0 where
-  pub mask : m ≡ mask_of (sides_met shape offsets b i)
+-- no candidate has a side that meets the box
+abbrev pub NoneMet : Shapes → List ℕ → Box → Type 0
+NoneMet v candidates b = sides_of v b candidates ≡ []
+
+-- candidate k is the first of which some side meets the box, and m is the mask of its sides that do
+pub record FirstMet (v : Shapes) (candidates : List ℕ) (b : Box) (k m : ℕ) : Type 0 where
+  pub place : k < length candidates
+  pub none : sides_of v b (take k candidates) ≡ []
+  pub mask : m ≡ mask_of (sides_met v.shape.now v.offsets.now b (get_or candidates k 0))
   pub some : 0 < m
   pub below : m < side_masks
 
--- place k has the first of the candidates from f up to t of which some side meets the box, and m is its mask; or k is t
-pub record FirstMet (shape offsets stack : List ℕ) (b : Box) (f t k m : ℕ) : Type 0 where
-  pub skipped : (table : List ℕ) → Skipped (λ i. sides_at table shape offsets b i) stack f t k
-  pub met : k < t → MetMask shape offsets b (get_or stack k 0) m
-
--- what the stopping test asks: the candidates from f up to t are the triangles of the table that meet the square, whose frame is given
-pub record Stoppable (f t : ℕ) (corners shape offsets stack : List ℕ) (s : Square) (frame : Frame) : Type 0 where
-  pub ready : Ready (triangle_total corners) f t (coordinates corners) shape offsets stack
-  pub prepared : Prepared (triangle_total corners) (coordinates corners) shape offsets
+-- what the stopping test asks: the candidates are the triangles of the table that meet the square, whose frame is given
+pub record Stoppable (v : Shapes) (candidates : List ℕ) (s : Square) (frame : Frame) : Type 0 where
+  pub ready : Ready (triangle_total v.corners.now) 0 (length candidates) (coordinates v.corners.now) v.shape.now v.offsets.now candidates
+  pub prepared : Prepared (triangle_total v.corners.now) (coordinates v.corners.now) v.shape.now v.offsets.now
   pub aligned : Aligned s
   pub border : FrameOf s frame
-  pub triangles : part f t stack ≡ triangles_meeting (corner_table corners) s
+  pub triangles : candidates ≡ triangles_meeting (corner_table v.corners.now) s

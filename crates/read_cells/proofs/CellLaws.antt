@@ -21,7 +21,7 @@ use Rattle.theory_orthtree.proofs.ChainLaws.{ChainFrom, end, start, chain-reflec
 use Rattle.theory_orthtree.proofs.ChainOrderLaws.{Before, before-end, chain-ordered, chain-keys-rise}
 use Rattle.theory_orthtree.proofs.ChainPartLaws.{ended_at, started_at, ended_by, started_by, chain-part, chain-part-some}
 use Rattle.read_cells.specs.Keys.{Rises, Passes}
-use Rattle.read_cells.proofs.HalvesLaws.{not-passed}
+use Rattle.read_cells.proofs.PassLaws.{not-passed}
 
 -- the entries of the cell that has the key k are those from place from up to place to, at least one, with one key
 pub record CellPart (arity depth k : ℕ) (es : List Entry) (d : Entry) (from to : ℕ) : Type 0 where

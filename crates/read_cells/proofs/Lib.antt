@@ -1,6 +1,6 @@
 pub mod Cases
 pub mod SpreadLaws
-pub mod HalvesLaws
+pub mod PassLaws
 pub mod CellLaws
 pub mod ListingLaws
 pub mod PointLaws

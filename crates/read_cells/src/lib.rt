@@ -21,25 +21,23 @@ pub struct Part {
 
 // Where in the items those of the last cell at or below Z(p) stand; 0 and 0 for the mark. Levels are not
 // needed, as a cell ends where the next key begins: in a chain it is the cell whose key range has Z(p).
+// Kept: 0 and 0, not an Option: the part that cell listing hands back is then empty and starts at place 0, as `CellPart.nothing` says.
 pub fn listed_part(keys: &[u32], items: &[u16], entries: usize, p: Point) -> Part
     requires { Listable keys.now items.now entries }
     ensures { CellPart keys.now entries (z_order p) items.now result.from result.to }
 {
     let cell = search::last_cell(keys, entries, morton::z_order(p));
-    let from = cell.from;
-    if items[from] == MARK {
+    if items[cell.from] == MARK {
         return Part { from: 0, to: 0 };
     }
-    Part { from, to: cell.to }
+    cell
 }
 
 // These items, as a part of the caller's own list.
-pub fn listing<'a, 'b>(keys: &'b [u32], items: &'a [u16], entries: usize, p: Point) -> &'a [u16]
+pub fn listing<'a>(keys: &[u32], items: &'a [u16], entries: usize, p: Point) -> &'a [u16]
     requires { Listable keys.now items.now entries }
     ensures { CellListed keys.now entries (z_order p) items.now result.now }
 {
     let part = listed_part(keys, items, entries, p);
-    let from = part.from;
-    let to = part.to;
-    &items[from..to]
+    &items[part.from..part.to]
 }

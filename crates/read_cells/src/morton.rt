@@ -12,9 +12,9 @@ fn spread(n: u32) -> u32
     requires { n < 256 }
     ensures { (result ≡ morton_key 8 (n ∷ 0 ∷ [])) × (result ≤ 21845) }
 {
-    let fours = (n | n << 4) & 3855;
-    let twos = (fours | fours << 2) & 13107;
-    (twos | twos << 1) & 21845
+    let fours = (n | n << 4) & 0x0F0F;
+    let twos = (fours | fours << 2) & 0x3333;
+    (twos | twos << 1) & 0x5555
 }
 
 // The key of two bytes.
@@ -29,7 +29,7 @@ fn interleaved(x: u32, y: u32) -> u32
 pub fn z_order(p: Point) -> u32
     ensures { result ≡ z_order p }
 {
-    let x = p.x as u32;
-    let y = p.y as u32;
+    let x = u32::from(p.x);
+    let y = u32::from(p.y);
     interleaved(x % 256, y % 256) + 65536 * interleaved(x / 256, y / 256)
 }

@@ -2,66 +2,27 @@
 
 #![tactic(auto)]
 
-ghost use Rattle.std.specs.Prelude.{◌≡◌};
-ghost use Rattle.replay.specs.Replay.{lent_chart, ReplayedLent};
+ghost use Rattle.spec_calls.specs.Lent.{viewed_mut, SameLists};
+ghost use Rattle.base_answers.specs.Outcomes.{left_pairs};
+ghost use Rattle.replay.specs.Replay.{Replayed};
 
 use base_answers::Overlaid;
-use replay_lists::{Counts, run_history};
-
-// The counts of both charts, and the overlay's answer.
-#[derive(Clone, Copy)]
-pub struct ReplayAnswer {
-    pub first: Counts,
-    pub second: Counts,
-    pub overlaid: Overlaid,
-}
-
-fn answer_of(first: Counts, second: Counts, overlaid: Overlaid) -> ReplayAnswer
-    ensures { result ≡ record { first = first; second = second; overlaid = overlaid } }
-{
-    ReplayAnswer {
-        first,
-        second,
-        overlaid,
-    }
-}
+use replay_lists::run_history;
+use spec_calls::ChartMut;
+use spec_charts::Refusal;
 
 // Begins both charts with a load of the empty table, makes the calls of the two lists on them, and lays the one over the other.
 pub fn replay(
     calls0: &[u16],
-    table0: &mut [u16],
-    keys0: &mut [u32],
-    levels0: &mut [u8],
-    items0: &mut [u16],
-    triangles0: usize,
-    entries0: usize,
+    first: &mut ChartMut,
     calls1: &[u16],
-    table1: &mut [u16],
-    keys1: &mut [u32],
-    levels1: &mut [u8],
-    items1: &mut [u16],
-    triangles1: usize,
-    entries1: usize,
+    second: &mut ChartMut,
     pairs: &mut [u16],
-) -> ReplayAnswer
-    ensures { ReplayedLent calls0 (lent_chart table0 keys0 levels0 items0) triangles0 entries0 calls1 (lent_chart table1 keys1 levels1 items1) triangles1 entries1 pairs result }
+) -> Result<Overlaid, Refusal>
+    ensures replayed { Replayed (viewed_mut first.old) (viewed_mut second.old) pairs.old calls0.now calls1.now (viewed_mut first.new) (viewed_mut second.new) (left_pairs pairs result) }
+    ensures same_lists { SameLists first.old first.new × SameLists second.old second.new }
 {
-    let first = run_history(calls0, table0, keys0, levels0, items0, triangles0, entries0);
-    let second = run_history(calls1, table1, keys1, levels1, items1, triangles1, entries1);
-    let overlaid = call_overlay::overlay(
-        table0,
-        keys0,
-        levels0,
-        items0,
-        first.triangles,
-        first.entries,
-        table1,
-        keys1,
-        levels1,
-        items1,
-        second.triangles,
-        second.entries,
-        pairs,
-    );
-    answer_of(first, second, overlaid)
+    run_history(calls0, first);
+    run_history(calls1, second);
+    call_overlay::overlay(first.view(), second.view(), pairs)
 }

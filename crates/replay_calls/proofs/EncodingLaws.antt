@@ -4,14 +4,13 @@ use mathlib.Core.Path.{◌≡◌, refl, sym, ◌∙◌, ap, subst}
 use mathlib.Core.Bool.{Bool, true, false, cond, ◌&&◌}
 use mathlib.Core.List.Memᴰ
 use mathlib.Core.List.{List, [], ◌∷◌, Memᴰ}
-use Prim.Native.Nat.{ℕ, zero, suc, ◌+◌, ◌-◌, ◌≤◌, ◌<◌}
-use native.Mathlib.Nat.{add-zero}
+use Prim.Native.Nat.{ℕ, zero, suc, ◌+◌, ◌≤◌, ◌<◌}
 use native.Mathlib.Omega.{arith}
 use native.Mathlib.Decide.{dec_le}
 use borrow.Author.Tests.{eq-eqb, ne_eqb, le-leb, lt-leb, eqb-true, eqb-false}
 use lib.Dec.{T, leb, eqb}
 use lib.ListN.{length, get_or, take, drop, length-drop, take-append-drop}
-use lib.Seq.{length-take-le, get_or-take, get_or-drop}
+use lib.Seq.{length-take-le, get_or-take}
 use Rattle.theory_lists.specs.Lists.{all}
 use Rattle.theory_lists.proofs.Reflects.{reflects-test}
 use Rattle.theory_lists.proofs.ListsLaws.{Every, every-cons, all-reflects, every-places}
@@ -72,6 +71,10 @@ module _ (ns : List ℕ) where
   unfolding whole_call
   whole-cut h = rw (lt-leb size (length ns) h)
 
+  -- what has no length is no call
+  pub whole_none : size ≡ 0 → whole_call ns ≡ 0
+  whole_none z = sym (whole-fits (omega arith)) ∙ z
+
   -- fewer than two numbers are no call
   pub whole-short : length ns < 2 → 0 ≡ whole_call ns
   whole-short h = elim (dec_le size (length ns)) [
@@ -104,17 +107,6 @@ module _ (ns : List ℕ) where
         }
     | no c ↦ absurd (omega (arith, whole-cut (omega arith)))
   ]
-
--- the same at a place of a longer list
-module _ (ns : List ℕ) (at : ℕ) {size : ℕ} (e : size ≡ call_length (get_or ns at 0) (get_or ns (at + 1) 0)) where
-  size-at : size ≡ call_length (get_or (drop at ns) 0 0) (get_or (drop at ns) 1 0)
-  size-at = rw (get_or-drop at ns 0 0, get_or-drop at ns 1 0, add-zero at) e
-
-  pub whole-at : size ≤ length ns - at → size ≡ whole_call (drop at ns)
-  whole-at h = size-at ∙ whole-fits (drop at ns) (omega (arith, size-at, length-drop at ns))
-
-  pub cut_at : length ns - at < size → 0 ≡ whole_call (drop at ns)
-  cut_at h = whole-cut (drop at ns) (omega (arith, size-at, length-drop at ns))
 
 -- ---- the events of a list
 

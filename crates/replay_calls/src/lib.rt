@@ -1,13 +1,12 @@
-// Lists of calls written as numbers: where a whole call stands, and how many numbers it takes.
+// Lists of calls written as numbers: whether a whole call stands at the start, and how many numbers it takes.
 
 #![tactic(auto)]
 
-ghost use Rattle.std.specs.Prelude.{◌≡◌, ◌≤◌, length, drop};
+ghost use Rattle.std.specs.Prelude.{◌≡◌, ◌<◌, MatchOption};
 ghost use Rattle.replay_calls.specs.Encoding.{call_length, whole_call};
 
-use base_geometry::numbers;
-
 // The commands.
+// Kept: they are numbers of the list itself, read and written (log_edits), and matched where a call is made: an enum would add two conversions.
 pub const LOAD: u16 = 2;
 
 pub const INSERT: u16 = 3;
@@ -16,31 +15,29 @@ pub const TAKE_OUT: u16 = 4;
 
 pub const FLIP: u16 = 5;
 
-// How many numbers a call takes with its command, by the command and the number after it; 0 where the command is another.
-fn call_length(command: u16, n: u16) -> usize
-    ensures { result ≡ call_length command n }
+// How many numbers a call takes with its command, by the command and the number after it.
+#[tactic(auto, using(std::proofs::lemmas::Bool::Decides::nat_tests), unfolding(crate::specs::Encoding::call_length))]
+fn call_length(command: u16, n: u16) -> Option<usize>
+    ensures { MatchOption result (call_length command n ≡ 0) (λ size. (0 < size) × (size ≡ call_length command n)) }
 {
-    if command == LOAD {
-        return numbers::index(n) + 2;
+    match command {
+        LOAD => Some(usize::from(n) + 2),
+        INSERT | TAKE_OUT | FLIP => Some(3),
+        _ => None,
     }
-    if (INSERT <= command) & (command <= FLIP) {
-        return 3;
-    }
-    0
 }
 
-// How many numbers the call at a place takes; 0 where no whole call stands there.
-pub fn whole_call(calls: &[u16], at: usize) -> usize
-    requires { at ≤ length calls.now }
-    ensures { result ≡ whole_call (drop at calls.now) }
+// How many numbers the call at the start of a list takes, where a whole call stands there.
+pub fn whole_call(calls: &[u16]) -> Option<usize>
+    ensures { MatchOption result (whole_call calls.now ≡ 0) (λ size. (0 < size) × (size ≡ whole_call calls.now)) }
 {
-    let left = calls.len() - at;
-    if left < 2 {
-        return 0;
+    let [command, n, ..] = calls else {
+        return None;
+    };
+    let size = call_length(*command, *n)?;
+    if size <= calls.len() {
+        Some(size)
+    } else {
+        None
     }
-    let size = call_length(calls[at], calls[at + 1]);
-    if size <= left {
-        return size;
-    }
-    0
 }

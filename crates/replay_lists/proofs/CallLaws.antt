@@ -4,9 +4,10 @@ use mathlib.Core.Path.{◌≡◌, sym, ◌∙◌}
 use mathlib.Core.List.{List}
 use Prim.Native.Nat.{ℕ, ◌-◌, ◌≤◌}
 use native.Mathlib.Omega.{arith}
-use borrow.Author.Tests.{eq-eqb, ne_eqb}
+use borrow.Author.Tests.{ne_eqb}
 use lib.ListN.{length, get_or, take, drop, length-drop}
 use lib.Seq.{take_all}
+use Rattle.spec_plane.specs.declared.Point.{Point}
 use Rattle.spec_charts.specs.Table.{point_at}
 use Rattle.spec_calls.specs.Buffers.{Chart}
 use Rattle.spec_calls.specs.Calls.{load_call, insert_call, take_out_call, flip_call}
@@ -35,18 +36,17 @@ module _ (ns : List ℕ) where
   module _ (c : Chart) where
     pub load-event : command ≡ 2 → load_call (take (length ns - 2) (drop 2 ns)) c ≡ event_call (call_event ns) c
     unfolding call_event event_call
-    load-event e =
-        rw (eq-eqb command 2 e, take_all (length ns - 2) (drop 2 ns) (omega (arith, length-drop 2 ns)))
+    load-event e = rw (e, take_all (length ns - 2) (drop 2 ns) (omega (arith, length-drop 2 ns)))
 
-    pub insert-event : command ≡ 3 → insert_call (record { x = get_or ns 1 0; y = get_or ns 2 0 }) c ≡ event_call (call_event ns) c
-    unfolding call_event event_call point_at
-    insert-event e = rw e
+    pub insert-event : {p : Point} → p ≡ point_at ns 1 → command ≡ 3 → insert_call p c ≡ event_call (call_event ns) c
+    unfolding call_event event_call
+    insert-event is e = rw (e, is)
 
-    pub take_out-event : command ≡ 4 → take_out_call (record { x = get_or ns 1 0; y = get_or ns 2 0 }) c ≡ event_call (call_event ns) c
-    unfolding call_event event_call point_at
-    take_out-event e = rw e
+    pub take_out-event : {p : Point} → p ≡ point_at ns 1 → command ≡ 4 → take_out_call p c ≡ event_call (call_event ns) c
+    unfolding call_event event_call
+    take_out-event is e = rw (e, is)
 
-    pub flip-event : {i j : ℕ} → (command ≡ 2 → ⊥) → (command ≡ 3 → ⊥) → (command ≡ 4 → ⊥) → i ≡ get_or ns 1 0 → j ≡ get_or ns 2 0
+    pub flip-event : {i j : ℕ} → i ≡ get_or ns 1 0 → j ≡ get_or ns 2 0 → (command ≡ 2 → ⊥) → (command ≡ 3 → ⊥) → (command ≡ 4 → ⊥)
         → flip_call i j c ≡ event_call (call_event ns) c
     unfolding call_event event_call
-    flip-event l n t i j = rw (ne_eqb command 2 l, ne_eqb command 3 n, ne_eqb command 4 t, i, j)
+    flip-event i j l n t = rw (ne_eqb command 2 l, ne_eqb command 3 n, ne_eqb command 4 t, i, j)

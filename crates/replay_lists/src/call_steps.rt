@@ -2,42 +2,35 @@
 
 ghost use Rattle.std.specs.Prelude.{◌≡◌};
 ghost use Rattle.spec_calls.specs.History.{event_call};
-ghost use Rattle.spec_calls.specs.Lent.{given};
-ghost use Rattle.base_answers.specs.Outcomes.{left};
+ghost use Rattle.spec_calls.specs.Lent.{viewed_mut, SameLists};
+ghost use Rattle.base_answers.specs.Outcomes.{answered};
 ghost use Rattle.replay_calls.specs.Encoding.{IsCall, call_event};
 
-use base_answers::Changed;
-use base_geometry::numbers;
-use spec_plane::Point;
+use base_tables::point_at;
+use replay_calls::{INSERT, LOAD, TAKE_OUT};
+use spec_calls::ChartMut;
+use spec_charts::Refusal;
 
 // Makes a call on a chart. The numbers are those of one whole call.
-pub fn run_call(
-    call: &[u16],
-    table: &mut [u16],
-    keys: &mut [u32],
-    levels: &mut [u8],
-    items: &mut [u16],
-    triangles: usize,
-    entries: usize,
-) -> Changed
+pub fn run_call(call: &[u16], chart: &mut ChartMut) -> Result<(), Refusal>
     requires { IsCall call.now }
-    ensures { left table keys levels items result ≡ event_call (call_event call.now) (given table keys levels items triangles entries) }
+    ensures called { answered result (viewed_mut chart.new) ≡ event_call (call_event call.now) (viewed_mut chart.old) }
+    ensures same_lists { SameLists chart.old chart.new }
 {
-    if call[0] == replay_calls::LOAD {
-        let words = &call[2..call.len()];
-        return call_load::load(words, table, keys, levels, items, triangles, entries);
+    match call[0] {
+        LOAD => call_load::load(&call[2..], chart),
+        INSERT => {
+            let p = point_at(call, 1);
+            call_edits::insert(chart, p)
+        }
+        TAKE_OUT => {
+            let p = point_at(call, 1);
+            call_edits::take_out(chart, p)
+        }
+        _ => {
+            let i = usize::from(call[1]);
+            let j = usize::from(call[2]);
+            call_edits::flip(chart, i, j)
+        }
     }
-    let p = Point {
-        x: call[1],
-        y: call[2],
-    };
-    if call[0] == replay_calls::INSERT {
-        return call_edits::insert(table, keys, levels, items, triangles, entries, p);
-    }
-    if call[0] == replay_calls::TAKE_OUT {
-        return call_edits::take_out(table, keys, levels, items, triangles, entries, p);
-    }
-    let i = numbers::index(call[1]);
-    let j = numbers::index(call[2]);
-    call_edits::flip(table, keys, levels, items, triangles, entries, i, j)
 }

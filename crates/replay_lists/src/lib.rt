@@ -7,61 +7,29 @@ pub mod call_steps;
 ghost use Rattle.std.specs.Prelude.{◌≡◌, [], ◌∷◌};
 ghost use Rattle.spec_charts.specs.Edits.{load as Edits·load};
 ghost use Rattle.spec_calls.specs.History.{chart_after};
-ghost use Rattle.spec_calls.specs.Lent.{given, left_chart};
+ghost use Rattle.spec_calls.specs.Lent.{viewed_mut, SameLists};
 ghost use Rattle.replay_calls.specs.Encoding.{decode};
 
-// The counts of a chart.
-#[derive(Clone, Copy)]
-pub struct Counts {
-    pub triangles: usize,
-    pub entries: usize,
-}
+use spec_calls::ChartMut;
 
-// Makes the calls of a list on a chart, one after another, and gives back the counts that it has then.
-fn run_calls(
-    calls: &[u16],
-    table: &mut [u16],
-    keys: &mut [u32],
-    levels: &mut [u8],
-    items: &mut [u16],
-    triangles: usize,
-    entries: usize,
-) -> Counts
-    ensures { left_chart table keys levels items result.triangles result.entries ≡ chart_after (decode calls.now) (given table keys levels items triangles entries) }
+// Makes the calls of a list on a chart, one after another.
+fn run_calls(calls: &[u16], chart: &mut ChartMut)
+    ensures ran { viewed_mut chart.new ≡ chart_after (decode calls.now) (viewed_mut chart.old) }
+    ensures same_lists { SameLists chart.old chart.new }
 {
-    let mut n = triangles;
-    let mut m = entries;
-    let mut at = 0;
-    let mut size = replay_calls::whole_call(calls, at);
-    while size > 0 {
-        let call = &calls[at..at + size];
-        let changed = call_steps::run_call(call, table, keys, levels, items, n, m);
-        n = changed.triangles;
-        m = changed.entries;
-        at += size;
-        size = replay_calls::whole_call(calls, at);
-    }
-    Counts {
-        triangles: n,
-        entries: m,
+    let mut left = calls;
+    while let Some(size) = replay_calls::whole_call(left) {
+        let (call, rest) = left.split_at(size);
+        let _answer = call_steps::run_call(call, chart);
+        left = rest;
     }
 }
 
-// Begins a chart with a load of the empty table, then makes the calls of a list on it, and gives back the counts that it has then.
-pub fn run_history(
-    calls: &[u16],
-    table: &mut [u16],
-    keys: &mut [u32],
-    levels: &mut [u8],
-    items: &mut [u16],
-    triangles: usize,
-    entries: usize,
-) -> Counts
-    ensures { left_chart table keys levels items result.triangles result.entries ≡ chart_after (Edits·load [] ∷ decode calls.now) (given table keys levels items triangles entries) }
+// Begins a chart with a load of the empty table, then makes the calls of a list on it.
+pub fn run_history(calls: &[u16], chart: &mut ChartMut)
+    ensures ran { viewed_mut chart.new ≡ chart_after (Edits·load [] ∷ decode calls.now) (viewed_mut chart.old) }
+    ensures same_lists { SameLists chart.old chart.new }
 {
-    let none = &calls[0..0];
-    let begun = call_load::load(none, table, keys, levels, items, triangles, entries);
-    let n = begun.triangles;
-    let m = begun.entries;
-    run_calls(calls, table, keys, levels, items, n, m)
+    let _begun = call_load::load(&[], chart);
+    run_calls(calls, chart);
 }

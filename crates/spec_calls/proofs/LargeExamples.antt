@@ -16,7 +16,7 @@ use Rattle.spec_charts.specs.Overlay.{pair}
 use Rattle.spec_calls.specs.Buffers.{Chart, chart_of, Roomy, padded, zip_entries, chart_table, chart_entries, table_rule, entry_count_fits, entries_rule, chain_rule, same_entries, chart_with}
 use Rattle.spec_calls.specs.Calls.{changed_by, edit_call, flip_call, area_call, overlaid_by}
 use Rattle.spec_calls.specs.History.{event_call}
-use Rattle.spec_calls.specs.Lent.{Held, HeldMut, held, held_mut}
+use Rattle.spec_calls.specs.Lent.{Held, HeldMut, held, held_mut, viewed, viewed_mut}
 use Rattle.spec_calls.proofs.Evaluate.{evaluate}
 
 -- Buffers
@@ -36,6 +36,14 @@ held-large table keys levels items = refl
 held_mut-large : (table keys levels items : HeldMut) → held_mut table keys levels items 5000000003 6000000005
     ≡ chart_of table.now keys.now levels.now items.now 5000000003 6000000005
 held_mut-large table keys levels items = refl
+
+viewed-large : (table keys levels items : Held) → viewed (record { table = table; keys = keys; levels = levels; items = items; triangles = 5000000003; entries = 6000000005 })
+    ≡ chart_of table.now keys.now levels.now items.now 5000000003 6000000005
+viewed-large table keys levels items = refl
+
+viewed_mut-large : (table keys levels items : HeldMut) → viewed_mut (record { table = table; keys = keys; levels = levels; items = items; triangles = 5000000003; entries = 6000000005 })
+    ≡ chart_of table.now keys.now levels.now items.now 5000000003 6000000005
+viewed_mut-large table keys levels items = refl
 
 roomy-large : Roomy 1 (replicate 512 0) (replicate 512 0) (replicate 512 0)
 roomy-large = record { for_keys = omega arith; for_levels = omega arith; for_items = omega arith }

@@ -1,9 +1,26 @@
 -- What a caller lends to a call: each list as it is at entry and at exit, so that a contract names a chart in a word.
 -- Assumes nothing.
-use Rattle.std.specs.Prelude.{List, ℕ}
+use Rattle.std.specs.Prelude.{◌≡◌, List, ℕ}
 use Rattle.std.specs.Borrow.{Bor, MutBor}
 use denote.Triple.Both.{Both}
 use Rattle.spec_calls.specs.Buffers.{Chart, chart_of}
+use Rattle.spec_calls.specs.declared.ChartView.{ChartView}
+use Rattle.spec_calls.specs.declared.ChartMut.{ChartMut}
+
+-- the chart that a view shows
+abbrev pub viewed : ChartView → Chart
+viewed v = chart_of v.table.now v.keys.now v.levels.now v.items.now v.triangles v.entries
+
+-- the chart that is lent to be written, as it stands
+abbrev pub viewed_mut : ChartMut → Chart
+viewed_mut c = chart_of c.table.now c.keys.now c.levels.now c.items.now c.triangles c.entries
+
+-- the lists of a chart lent to be written are the same four lists of the caller's before and after
+pub record SameLists (before after : ChartMut) : Type 0 where
+  pub table : after.table.ghost_name ≡ before.table.ghost_name
+  pub keys : after.keys.ghost_name ≡ before.keys.ghost_name
+  pub levels : after.levels.ghost_name ≡ before.levels.ghost_name
+  pub items : after.items.ghost_name ≡ before.items.ghost_name
 
 -- a list that a caller lends to be read, at one moment
 abbrev pub Held : Type 0

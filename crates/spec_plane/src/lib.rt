@@ -4,14 +4,14 @@
 #![tactic(auto)]
 
 // A grid point: x to the right, y downward.
-#[derive(Clone, Copy)]
+#[derive(Clone, Copy, PartialEq, Eq)]
 pub struct Point {
     pub x: u16,
     pub y: u16,
 }
 
 // Where a point lies by a triangle: "inside, on side 0, 1 or 2 (ab, bc, ca), at corner 0, 1 or 2, or outside".
-#[derive(Clone, Copy)]
+#[derive(Clone, Copy, PartialEq, Eq)]
 pub enum Position {
     Inside,
     OnAb,

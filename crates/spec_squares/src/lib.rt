@@ -2,8 +2,8 @@
 
 #![tactic(auto)]
 
-ghost use Rattle.std.specs.Prelude.{◌≡◌, suc, ◌≤◌, ◌<◌};
-ghost use Rattle.spec_squares.specs.Square.{side_at, whole_square, top_left, top_right, bottom_left, bottom_right};
+ghost use Rattle.std.specs.Prelude.{◌≡◌, suc, ◌%◌, ◌≤◌, ◌<◌, get_or};
+ghost use Rattle.spec_squares.specs.Square.{arity, side_at, whole_square, quarters};
 
 // A square by its top left corner and its level, 0 to 16; its side is 2^(16 - level).
 #[derive(Clone, Copy)]
@@ -43,47 +43,16 @@ impl Square {
         32768 >> self.level
     }
 
-    pub fn top_left(self) -> Square
-        requires { self.level < 16 }
-        ensures { result ≡ top_left self }
-    {
-        Square {
-            x: self.x,
-            y: self.y,
-            level: self.level + 1,
-        }
-    }
-
-    pub fn top_right(self) -> Square
-        requires { (self.level < 16) × (self.x ≤ 65536) }
-        ensures { result ≡ top_right self }
-    {
-        Square {
-            x: self.x + self.half(),
-            y: self.y,
-            level: self.level + 1,
-        }
-    }
-
-    pub fn bottom_left(self) -> Square
-        requires { (self.level < 16) × (self.y ≤ 65536) }
-        ensures { result ≡ bottom_left self }
-    {
-        Square {
-            x: self.x,
-            y: self.y + self.half(),
-            level: self.level + 1,
-        }
-    }
-
-    pub fn bottom_right(self) -> Square
-        requires { (self.level < 16) × ((self.x ≤ 65536) × (self.y ≤ 65536)) }
-        ensures { result ≡ bottom_right self }
+    // Quarter k, in their order: 1 and 3 are on the right, 2 and 3 at the bottom.
+    pub fn quarter(self, k: u32) -> Square
+        requires number { (self.level < 16) × (k < arity) }
+        requires room { (k % 2 ≡ 1 → self.x ≤ 65536) × (2 ≤ k → self.y ≤ 65536) }
+        ensures { result ≡ get_or (quarters self) k self }
     {
         let half = self.half();
         Square {
-            x: self.x + half,
-            y: self.y + half,
+            x: self.x + k % 2 * half,
+            y: self.y + k / 2 * half,
             level: self.level + 1,
         }
     }

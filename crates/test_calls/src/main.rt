@@ -11,145 +11,91 @@
 
 #![tactic(auto)]
 
-ghost use Rattle.std.specs.Prelude.{◌≤◌, length};
+mod steps;
 
 use std::io::Read;
-use test_support::{Lent, State};
+use steps::{Action, Place, Step};
+use test_support::charts::{self, Buffer, Buffers, Chart, Charts, Lent, Pairs, State, Which};
 
-// One step on the pairs.
-fn step_pairs(state: State, what: u8, a: usize, b: u32, pairs: &mut [u16]) -> State {
-    if what == 6 {
-        test_support::put_short(pairs, a, b);
-        return state;
+// Runs an action on the pairs.
+fn run_on_pairs(pairs: &mut Pairs, action: Action) {
+    match action {
+        Action::Put(place, x) => {
+            test_support::put(&mut pairs.list, place, test_support::low_half(x));
+        }
+        Action::Lend(n) => pairs.lent = n,
+        Action::Fill(x) => pairs.list.fill(test_support::low_half(x)),
+        _ => {}
     }
-    if what == 7 {
-        return test_support::with_pairs(state, a);
-    }
-    if what == 9 {
-        test_support::fill_pairs(pairs, b);
-    }
-    state
 }
 
-// One step on a chart, by its twelve bytes.
-fn step_chart(
+// Runs an action on a chart and a buffer of it.
+fn run_on_chart(
     rt: &impl Print,
     source: &mut impl Read,
-    l: Lent,
-    chart: usize,
-    s: &[u8],
-    table: &mut [u16],
-    keys: &mut [u32],
-    levels: &mut [u8],
-    items: &mut [u16],
-) -> Lent
-    requires { 12 ≤ length s.now }
-{
-    let what = s[0];
-    let buffer = s[1] % 4;
-    let a = test_support::short_at(s, 2) as usize;
-    let b = test_support::long_at(s, 4);
-    let c = test_support::long_at(s, 8);
-    if what == 1 {
-        let n = test_support::least(a, 3200);
-        return test_changes::run_load(rt, source, l, chart, n, table, keys, levels, items);
-    }
-    if what >= 10 {
-        let none = [0u16; 1];
-        return test_changes::say_change(
-            rt, l, chart, what, &none, b, c, table, keys, levels, items,
-        );
-    }
-    if what == 7 {
-        return test_support::lend(l, buffer, a);
-    }
-    if what == 8 {
-        return test_support::with_counts(l, b as usize, c as usize);
-    }
-    if what == 6 {
-        test_support::put(chart, buffer, a, b, table, keys, levels, items);
-    } else if what == 9 {
-        test_support::fill(chart, buffer, b, table, keys, levels, items);
-    } else {
-        let p = test_changes::point(b, c);
-        test_readers::say_answer(rt, l, chart, what, p, table, keys, levels, items);
-    }
-    l
-}
-
-// One step.
-fn step(
-    rt: &impl Print,
-    source: &mut impl Read,
-    state: State,
-    s: &[u8],
-    table: &mut [u16],
-    keys: &mut [u32],
-    levels: &mut [u8],
-    items: &mut [u16],
-    pairs: &mut [u16],
-) -> State
-    requires { 12 ≤ length s.now }
-{
-    let what = s[0];
-    let chart = (s[1] / 4 % 2) as usize;
-    let a = test_support::short_at(s, 2) as usize;
-    if s[1] >= 8 {
-        return step_pairs(state, what, a, test_support::long_at(s, 4), pairs);
-    }
-    if what == 13 {
-        test_readers::say_overlay(rt, state, chart, a % 2, table, keys, levels, items, pairs);
-        return state;
-    }
-    if what == 14 {
-        let b = test_support::long_at(s, 4);
-        let c = test_support::long_at(s, 8);
-        test_readers::say_window(rt, state, chart, b, c, table, keys, levels, items, pairs);
-        return state;
-    }
-    let l = test_support::chart_of(state, chart);
-    let after = step_chart(rt, source, l, chart, s, table, keys, levels, items);
-    test_support::with_chart(state, chart, after)
-}
-
-// All steps of the input.
-fn run(
-    rt: &impl Print,
-    source: &mut impl Read,
-    table: &mut [u16],
-    keys: &mut [u32],
-    levels: &mut [u8],
-    items: &mut [u16],
-    pairs: &mut [u16],
+    state: &mut State,
+    which: Which,
+    buffer: Buffer,
+    action: Action,
 ) {
-    let l = test_support::asked();
-    let mut state = State {
-        first: l,
-        second: l,
-        pairs: 8192,
-    };
-    let mut s = [0u8; 12];
-    let mut turns = u64::MAX;
-    while turns > 0 && test_support::read_full(source, &mut s) == 12 {
-        state = step(rt, source, state, &s, table, keys, levels, items, pairs);
-        turns -= 1;
+    let charts = &mut state.charts;
+    match action {
+        Action::Load(n) => test_changes::run_load(rt, source, charts.chart_mut(which), n),
+        Action::Read(reading) => test_readers::run_reading(rt, charts.chart(which), reading),
+        Action::Put(place, x) => charts.chart_mut(which).put(buffer, place, x),
+        Action::Lend(n) => charts.chart_mut(which).lend(buffer, n),
+        Action::Count(triangles, entries) => {
+            charts.chart_mut(which).set_counts(triangles, entries);
+        }
+        Action::Fill(x) => charts.chart_mut(which).fill(buffer, x),
+        Action::Edit(edit) => test_changes::run_edit(rt, charts.chart_mut(which), edit),
+        Action::Overlay(other) => test_readers::run_overlay(rt, state, which, other),
+        Action::Window(b, c) => test_readers::run_window(rt, state, which, b, c),
+    }
+}
+
+// Runs all steps of the input.
+fn run(rt: &impl Print, source: &mut impl Read, state: &mut State) {
+    for _ in 0..u64::MAX {
+        let Some(step) = Step::read(source) else {
+            break;
+        };
+        match step.place {
+            Place::Chart(which, buffer) => {
+                run_on_chart(rt, source, state, which, buffer, step.action);
+            }
+            Place::Pairs => run_on_pairs(&mut state.pairs, step.action),
+        }
     }
 }
 
 fn main(rt: HostRuntime) {
     let mut source = rt.reader();
-    let mut table = [0u16; 6200];
-    let mut keys = [0u32; 33000];
-    let mut levels = [0u8; 33000];
-    let mut items = [0u16; 33000];
-    let mut pairs = [0u16; 8300];
-    run(
-        &rt,
-        &mut source,
-        &mut table,
-        &mut keys,
-        &mut levels,
-        &mut items,
-        &mut pairs,
-    );
+    let mut state = State {
+        charts: Charts {
+            first: Chart {
+                buffers: Buffers {
+                    table: [0; charts::TABLE],
+                    keys: [0; charts::LIST],
+                    levels: [0; charts::LIST],
+                    items: [0; charts::LIST],
+                },
+                lent: Lent::asked(),
+            },
+            second: Chart {
+                buffers: Buffers {
+                    table: [0; charts::TABLE],
+                    keys: [0; charts::LIST],
+                    levels: [0; charts::LIST],
+                    items: [0; charts::LIST],
+                },
+                lent: Lent::asked(),
+            },
+        },
+        pairs: Pairs {
+            list: [0; charts::PAIRS],
+            lent: 8192,
+        },
+    };
+    run(&rt, &mut source, &mut state);
 }

@@ -1,101 +1,65 @@
-// What the test programs print: text, numbers, and each answer of a call. Where nobody takes it, it is lost.
+// What the test programs print of each answer of a call. Where nobody takes it, it is lost.
 
-use base_answers::{Area, Changed, Located, Overlaid, Soundness, Windowed};
+use base_answers::{Found, Overlaid};
+use spec_charts::Refusal;
 
-pub fn say(rt: &impl Print, text: &[u8]) {
-    let _ = rt.write_all(text);
-}
-
-// A space and a number.
-pub fn print(rt: &impl Print, n: u64) {
-    say(rt, b" ");
-    let _ = rt.print(n);
-}
-
-fn print_name(rt: &impl Print, what: u8) {
-    if what == 1 {
-        say(rt, b"load");
-        return;
-    }
-    if what == 10 {
-        say(rt, b"insert");
-        return;
-    }
-    if what == 11 {
-        say(rt, b"take_out");
-        return;
-    }
-    say(rt, b"flip");
-}
-
-pub fn print_changed(rt: &impl Print, what: u8, r: Changed) {
-    let verdict = r.verdict;
-    print_name(rt, what);
-    print(rt, base_answers::verdict_number(verdict) as u64);
-    print(rt, base_answers::verdict_value(verdict) as u64);
-    print(rt, r.triangles as u64);
-    print(rt, r.entries as u64);
-}
-
-pub fn print_located(rt: &impl Print, r: Located) {
-    print(rt, base_answers::located_number(r) as u64);
-    match r {
-        Located::At(i, _) => print(rt, i as u64),
-        _ => say(rt, b" nowhere"),
-    }
-    print(
-        rt,
-        base_positions::position_number(base_answers::located_position(r)) as u64,
-    );
-}
-
-pub fn print_soundness(rt: &impl Print, r: Soundness) {
-    print(rt, base_answers::soundness_number(r) as u64);
-    if base_answers::is_sound(r) {
-        say(rt, b" yes");
-        return;
-    }
-    say(rt, b" no");
-}
-
-pub fn print_area(rt: &impl Print, r: Area) {
-    print(rt, base_answers::area_number(r) as u64);
-    print(rt, base_answers::area_value(r));
-}
-
-pub fn print_overlaid(rt: &impl Print, r: Overlaid) {
-    let verdict = r.verdict;
-    say(rt, b"overlay");
-    print(rt, base_answers::verdict_number(verdict) as u64);
-    print(rt, r.pairs as u64);
-    print(rt, r.meetings as u64);
-}
-
-pub fn print_windowed(rt: &impl Print, r: Windowed) {
-    let verdict = r.verdict;
-    say(rt, b"window");
-    print(rt, base_answers::verdict_number(verdict) as u64);
-    print(rt, r.listed as u64);
-}
-
-pub fn print_list(rt: &impl Print, list: &[u16]) {
-    print(rt, list.len() as u64);
-    let mut k = 0;
-    while k < list.len() {
-        print(rt, list[k] as u64);
-        k += 1;
-    }
-}
-
-// The checksum of a chart ends a line.
-pub fn print_sum(
+// The answer of a load or an edit, and the counts of its chart.
+pub fn print_changed(
     rt: &impl Print,
-    chart: usize,
-    table: &[u16],
-    keys: &[u32],
-    levels: &[u8],
-    items: &[u16],
+    name: &str,
+    answer: Result<(), Refusal>,
+    triangles: usize,
+    entries: usize,
 ) {
-    print(rt, crate::sum_chart(chart, table, keys, levels, items, 0));
-    say(rt, b"\n");
+    let number = base_answers::number(answer);
+    let value = base_answers::value(answer);
+    let _ = print!(rt; "{name} {number} {value} {triangles} {entries}");
+}
+
+// The answer of a locate.
+pub fn print_located(rt: &impl Print, located: Result<Option<Found>, Refusal>) {
+    let number = base_answers::number(located);
+    let position = base_positions::position_number(base_answers::located_position(located));
+    let _ = match located {
+        Ok(Some(found)) => print!(rt; "locate {number} {} {position}", found.triangle),
+        _ => print!(rt; "locate {number} nowhere {position}"),
+    };
+}
+
+// The answer of a soundness.
+pub fn print_soundness(rt: &impl Print, sound: Result<bool, Refusal>) {
+    let number = base_answers::number(sound);
+    let word = if base_answers::done_or(sound, false) {
+        "yes"
+    } else {
+        "no"
+    };
+    let _ = print!(rt; "sound {number} {word}");
+}
+
+// The answer of a doubled area.
+pub fn print_area(rt: &impl Print, area: Result<u64, Refusal>) {
+    let number = base_answers::number(area);
+    let _ = print!(rt; "area {number} {}", base_answers::done_or(area, 0));
+}
+
+// The answer of an overlay.
+pub fn print_overlaid(rt: &impl Print, overlaid: Result<Overlaid, Refusal>) {
+    let number = base_answers::number(overlaid);
+    let counts = base_answers::overlay_counts(overlaid);
+    let _ = print!(rt; "overlay {number} {} {}", counts.pairs, counts.meetings);
+}
+
+// The answer of a window.
+pub fn print_windowed(rt: &impl Print, listed: Result<usize, Refusal>) {
+    let number = base_answers::number(listed);
+    let _ = print!(rt; "window {number} {}", base_answers::done_or(listed, 0));
+}
+
+// A cell listing.
+pub fn print_listing(rt: &impl Print, list: &[u16]) {
+    let _ = print!(rt; "listing {}", list.len());
+    for x in list {
+        let _ = print!(rt; " {x}");
+    }
 }

@@ -21,3 +21,4 @@ pub mod StoredLaws
 pub mod TestLaws
 pub mod CompactLaws
 pub mod MaskLaws
+pub mod CopyLaws

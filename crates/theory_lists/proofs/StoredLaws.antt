@@ -25,8 +25,8 @@ pub take_less : (k t : ℕ) (l l' : List ℕ) → k ≤ t → take t l' ≡ take
 take_less k t l l' h e = sym (take-take k t l' h) ∙ ap (take k) e ∙ take-take k t l h
 
 -- and so is each number there
-pub get_d_kept : (k t : ℕ) (l l' : List ℕ) → k < t → take t l' ≡ take t l → get_or l' k 0 ≡ get_or l k 0
-get_d_kept k t l l' h e = sym (get_or-take t l' k 0 h) ∙ ap (λ x. get_or x k 0) e ∙ get_or-take t l k 0 h
+pub get_or-kept : (k t : ℕ) (l l' : List ℕ) → k < t → take t l' ≡ take t l → get_or l' k 0 ≡ get_or l k 0
+get_or-kept k t l l' h e = sym (get_or-take t l' k 0 h) ∙ ap (λ x. get_or x k 0) e ∙ get_or-take t l k 0 h
 
 -- the part after f places of the first f + m
 drop-take : (f m : ℕ) (x : List ℕ) → drop f (take (f + m) x) ≡ take m (drop f x)

@@ -30,10 +30,10 @@ fn touches(key: u32, level: u8, w: Bounds) -> bool
 {
     let s = base_squares::square_of_key(key, level);
     let side = s.side();
-    !((s.x + side < w.left as u32)
-        | ((w.right as u32) < s.x)
-        | (s.y + side < w.top as u32)
-        | ((w.bottom as u32) < s.y))
+    !((s.x + side < u32::from(w.left))
+        | (u32::from(w.right) < s.x)
+        | (s.y + side < u32::from(w.top))
+        | (u32::from(w.bottom) < s.y))
 }
 
 // The entry at place k: its item is marked where its cell touches the window.
@@ -42,7 +42,7 @@ fn mark(keys: &[u32], levels: &[u8], items: &[u16], k: usize, w: Bounds, near: &
     ensures { near.new ≡ set near.old (place_of (get_or items.now k 0)) (get_or near.old (place_of (get_or items.now k 0)) false || cell_touches (bounds_box w) (entry_at keys.now levels.now items.now k)) }
 {
     let p = overlay_marks::place(items[k]);
-    near[p] = near[p] | touches(keys[k], levels[k], w);
+    near[p] |= touches(keys[k], levels[k], w);
 }
 
 // The entries from one place up to another.
@@ -59,24 +59,20 @@ fn mark_each(
     requires marked { Marked (bounds_box w) keys.now levels.now items.now from near.old }
     ensures { Marked (bounds_box w) keys.now levels.now items.now to near.new }
 {
-    let mut k = from;
-    while k < to {
+    for k in from..to {
         mark(keys, levels, items, k, w, near);
-        k += 1;
     }
 }
 
-// The entries in the lanes from place j on all lie beyond a side: no branch, so that they are compared side by side.
-fn lanes_beyond(keys: &[u32], levels: &[u8], j: usize, s: KeySides) -> bool
-    requires lanes_in_bounds { (j + lanes ≤ length keys.now) × (j + lanes ≤ length levels.now) }
-    requires by_index { (k : ℕ) → k < lanes → get_or levels.now (j + k) 0 ≤ depth }
-    ensures { result ≡ all (λ k. beyond s (get_or keys.now (j + k) 0) (get_or levels.now (j + k) 0)) (up_to lanes) }
+// The entries in the lanes all lie beyond a side: no branch, so that they are compared side by side.
+fn lanes_beyond(keys: &[u32], levels: &[u8], s: KeySides) -> bool
+    requires lanes_in_bounds { (lanes ≤ length keys.now) × (lanes ≤ length levels.now) }
+    requires by_index { (k : ℕ) → k < lanes → get_or levels.now k 0 ≤ depth }
+    ensures { result ≡ all (λ k. beyond s (get_or keys.now k 0) (get_or levels.now k 0)) (up_to lanes) }
 {
     let mut o = true;
-    let mut k = 0;
-    while k < LANES {
-        o = o & window_keys::is_beyond(keys[j + k], levels[j + k], s);
-        k += 1;
+    for k in 0..LANES {
+        o &= s.is_beyond(keys[k], levels[k]);
     }
     o
 }
@@ -95,10 +91,10 @@ fn mark_lanes(
     requires marked { Marked (bounds_box w) keys.now levels.now items.now j near.old }
     ensures { Marked (bounds_box w) keys.now levels.now items.now (j + lanes) near.new }
 {
-    if lanes_beyond(keys, levels, j, s) {
-        return;
+    let end = j + LANES;
+    if !lanes_beyond(&keys[j..end], &levels[j..end], s) {
+        mark_each(keys, levels, items, j, end, w, near);
     }
-    mark_each(keys, levels, items, j, j + LANES, w, near);
 }
 
 // The first n entries: so many as there are lanes at a time, then the few that are left.
@@ -107,11 +103,9 @@ pub fn mark_near(keys: &[u32], levels: &[u8], items: &[u16], n: usize, w: Bounds
     requires marked { Marked (bounds_box w) keys.now levels.now items.now 0 near.old }
     ensures { Marked (bounds_box w) keys.now levels.now items.now n near.new }
 {
-    let s = window_keys::key_sides(w);
-    let mut j = 0;
-    while LANES <= n - j {
-        mark_lanes(keys, levels, items, j, w, s, near);
-        j += LANES;
+    let s = KeySides::of(w);
+    for block in 0..n / LANES {
+        mark_lanes(keys, levels, items, LANES * block, w, s, near);
     }
-    mark_each(keys, levels, items, j, n, w, near);
+    mark_each(keys, levels, items, n - n % LANES, n, w, near);
 }

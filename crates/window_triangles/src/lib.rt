@@ -2,7 +2,7 @@
 
 #![tactic(auto)]
 
-ghost use Rattle.std.specs.Prelude.{◌≡◌, true, not, cond, ◌+◌, ◌≤◌, ◌<◌, leb, length, set};
+ghost use Rattle.std.specs.Prelude.{◌≡◌, true, not, cond, ◌+◌, ◌≤◌, ◌<◌, length, set};
 ghost use Rattle.spec_plane.specs.Triangle.{triangle_of, proper};
 ghost use Rattle.spec_plane.specs.Box.{Framed, all_outer, triangle_meets};
 ghost use Rattle.spec_charts.specs.Table.{max_triangles};
@@ -13,20 +13,13 @@ use base_geometry::bounds::Bounds;
 use base_geometry::{bounds, orientation};
 use spec_plane::Point;
 
-// The high one where v is at most u, otherwise the low one.
-fn choose(u: u16, v: u16, low: u16, high: u16) -> u16
-    ensures { result ≡ cond (leb v u) high low }
-{
-    if v <= u { high } else { low }
-}
-
 // All corners of the window lie on the outer side of p to q, since that one does at which D is largest.
 fn is_outer(p: Point, q: Point, w: Bounds) -> bool
     requires { Framed (bounds_box w) }
     ensures { result ≡ all_outer p q (bounds_box w) }
 {
-    let x = choose(p.y, q.y, w.left, w.right);
-    let y = choose(q.x, p.x, w.top, w.bottom);
+    let x = if q.y <= p.y { w.right } else { w.left };
+    let y = if p.x <= q.x { w.bottom } else { w.top };
     let d = orientation::orientation(p, q, Point { x, y });
     d.high < d.low
 }
@@ -53,10 +46,7 @@ fn meets(t: [Point; 3], w: Bounds) -> bool
     requires { Framed (bounds_box w) × (proper (triangle_of t) ≡ true) }
     ensures { result ≡ triangle_meets (triangle_of t) (bounds_box w) }
 {
-    if is_within(t[0], w) | is_within(t[1], w) | is_within(t[2], w) {
-        return true;
-    }
-    meets_box(t, w)
+    is_within(t[0], w) | is_within(t[1], w) | is_within(t[2], w) || meets_box(t, w)
 }
 
 // Triangle i, after the first c of the list, where it is marked and meets the window: it is stored in any case, and the number returned says
@@ -74,14 +64,8 @@ fn append_if_in(
     ensures value { result ≡ cond (not (is_in table.now (bounds_box w) near.now i)) c (c + 1) }
 {
     list[c] = i as u16;
-    if !near[i] {
-        return c;
-    }
-    if meets(base_tables::triangle_at(table, i), w) {
-        c + 1
-    } else {
-        c
-    }
+    let counts = near[i] && meets(base_tables::triangle_at(table, i), w);
+    c + usize::from(counts)
 }
 
 // Those of the first n triangles that are marked and meet the window, ascending, at the start of the list; how many they are.
@@ -90,10 +74,8 @@ pub fn list_window(table: &[u16], n: usize, w: Bounds, near: &[bool], list: &mut
     ensures { Listed (is_in table.now (bounds_box w) near.now) list.old list.new n result }
 {
     let mut c = 0;
-    let mut i = 0;
-    while i < n {
+    for i in 0..n {
         c = append_if_in(table, i, w, near, list, c);
-        i += 1;
     }
     c
 }

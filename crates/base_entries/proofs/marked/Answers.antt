@@ -1,9 +1,7 @@
-use mathlib.Core.Path.{refl}
 use borrow.Author.Rules.{rules}
 use Rattle.theory_orthtree.specs.Entries.{empty_mark}
 use Rattle.base_entries.proofs.marked.Goals as goal
 
 pub returns : goal.returns
 unfolding empty_mark
-returns c =
-    refl
+returns c = search rules

@@ -1,7 +1,6 @@
 use mathlib.Core.Path.{◌≡◌}
 use mathlib.Core.Bool.{Bool}
 use mathlib.Core.Logic.{◌↔◌}
-use borrow.Author.Rules.{rules}
 use lib.Dec.{T}
 use Rattle.spec_plane.specs.Triangle.{Triangle, proper}
 use Rattle.spec_plane.specs.Interior.{interiors_meet, CommonInterior}

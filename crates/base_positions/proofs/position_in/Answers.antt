@@ -1,7 +1,6 @@
 -- D is at least 0, and is 0, as its two sums compare.
 use mathlib.Core.Path.{◌∙◌, ap₂}
 use mathlib.Core.Bool.{◌&&◌}
-use borrow.Author.Rules.{rules}
 use Rattle.spec_plane.specs.Triangle.{holds, triangle_of, corner_at}
 use Rattle.spec_plane.specs.Position.{on_line, position_of, position}
 use Rattle.base_geometry.proofs.Sums.{sums-nonneg, sums-zero}

@@ -7,4 +7,4 @@ use Rattle.base_squares.proofs.square_of_key.Goals as goal
 pub returns : goal.returns
 unfolding square_of_key
 returns c =
-    (rw (c.gathered.ensures.0, c.gathered-2.ensures.0, coordinate-half 2 0 16 c.args.key), search rules)
+    (rw (c.gathered.ensures.0, c.gathered-2.ensures.0, c.from.ensures, coordinate-half 2 0 16 c.args.key), search rules)

@@ -1,4 +1,3 @@
-use mathlib.Core.Path.{refl}
 use Rattle.spec_charts.specs.Table.{point_at}
 use borrow.Author.Rules.{rules}
 use Rattle.base_tables.proofs.point_at.Goals as goal
@@ -6,4 +5,4 @@ use Rattle.base_tables.proofs.point_at.Goals as goal
 pub returns : goal.returns
 unfolding point_at
 returns c =
-    refl
+    search rules

@@ -1,29 +1,24 @@
+-- Where judging refuses, nothing is read; else the table is drawn.
 use mathlib.Core.Path.{◌∙◌}
+use Rattle.std.proofs.lemmas.Result.{err_from_is_err_and}
 use Rattle.spec_calls.specs.Buffers.{chart_table}
+use Rattle.spec_calls.specs.Lent.{viewed}
 use Rattle.laws_calls.proofs.BufferLaws.{rule-drawn}
 use Rattle.laws_calls.proofs.JudgeLaws.{chained-passed}
 use Rattle.laws_calls.proofs.ReaderLaws.{area-refused, area-done}
-use Rattle.spec_calls.specs.Lent.{held}
 use Rattle.call_area.proofs.doubled_area.Goals as goal
+
+pub returns-in_err-judge : goal.returns-in_err-judge
+returns-in_err-judge c =
+    let p = err_from_is_err_and c.from_residual.result c.from_residual.ensures.1 in rw (p.1, p.2) (area-refused (viewed c.args.chart) c.in_err-judge.ensures)
 
 pub sum-requires : goal.sum-requires
 sum-requires c =
-    let a = c.args in
-    let chart = held a.table a.keys a.levels a.items a.triangles a.entries in
-    let fine = chained-passed chart c.in-Accepted.ensures in
-    rule-drawn chart fine.0 fine.1
+    let fine = chained-passed (viewed c.args.chart) c.in_ok-judge.ensures in rule-drawn (viewed c.args.chart) fine.0 fine.1
 
-pub returns-in-Accepted : goal.returns-in-Accepted
+pub returns : goal.returns
 unfolding chart_table
-returns-in-Accepted c =
-    let a = c.args in
-    let chart = held a.table a.keys a.levels a.items a.triangles a.entries in
-    let fine = chained-passed chart c.in-Accepted.ensures in
+returns c =
+    let fine = chained-passed (viewed c.args.chart) c.in_ok-judge.ensures in
     let e = c.sum.ensures in
-    (λ i. record { number = 0; area = e i }) ∙ area-done chart fine.0 fine.1
-
-pub returns-in-Refused : goal.returns-in-Refused
-returns-in-Refused c =
-    let a = c.args in
-    let chart = held a.table a.keys a.levels a.items a.triangles a.entries in
-    area-refused chart c.in-Refused.ensures
+    (λ i. record { number = 0; area = e i }) ∙ area-done (viewed c.args.chart) fine.0 fine.1

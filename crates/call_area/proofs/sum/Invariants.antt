@@ -6,7 +6,4 @@ use Rattle.spec_charts.specs.Reading.{total_area}
 use Rattle.call_area.proofs.sum.Given as goal
 
 abbrev pub invariant-loop-i : goal.invariant-loop-i
-invariant-loop-i l = ((l.i ≤ l.n) × (l.s ≤ 17179869184 * l.i)) × (l.s ≡ total_area (table_of l.table l.i))
-
-abbrev pub decreases-loop-i : goal.decreases-loop-i
-decreases-loop-i l = l.n - l.i
+invariant-loop-i l = (l.s ≤ 17179869184 * l.i) × (l.s ≡ total_area (table_of l.table l.i))

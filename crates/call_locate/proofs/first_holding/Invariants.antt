@@ -1,7 +1,6 @@
--- No listed triangle before place k holds the point, so the first of the rest is the first of all.
+-- No listed triangle so far holds the point, so the first of the rest is the first of all.
 use mathlib.Core.Path.{◌≡◌}
-use Prim.Native.Nat.{◌-◌, ◌≤◌}
-use lib.ListN.{length, drop}
+use lib.ListN.{drop}
 use Rattle.theory_lists.specs.Lists.{first}
 use Rattle.spec_plane.specs.Triangle.{holds}
 use Rattle.spec_charts.specs.Table.{triangle_at}
@@ -9,7 +8,4 @@ use Rattle.call_locate.proofs.first_holding.Given as goal
 
 abbrev pub invariant-loop-k : goal.invariant-loop-k
 invariant-loop-k l =
-    (l.k ≤ length l.list) × (first (λ i. holds (triangle_at l.table i) l.p) l.list ≡ first (λ i. holds (triangle_at l.table i) l.p) (drop l.k l.list))
-
-abbrev pub decreases-loop-k : goal.decreases-loop-k
-decreases-loop-k l = length l.list - l.k
+    first (λ i. holds (triangle_at l.table i) l.p) l.list ≡ first (λ i. holds (triangle_at l.table i) l.p) (drop l.k l.list)

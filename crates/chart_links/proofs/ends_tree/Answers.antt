@@ -1,4 +1,4 @@
--- Less one each, the key and the keys of its square add up to the tree's last key.
+-- The last key of the square is the tree's last key.
 use Rattle.chart_links.proofs.LinkLaws.{last-ends}
 use Rattle.chart_links.proofs.ends_tree.Goals as goal
 

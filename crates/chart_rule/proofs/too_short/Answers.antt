@@ -4,5 +4,4 @@ use Rattle.chart_rule.proofs.too_short.Goals as goal
 
 pub returns : goal.returns
 unfolding too_short
-returns c =
-    λ count n. refl
+returns c = refl

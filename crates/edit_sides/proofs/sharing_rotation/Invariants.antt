@@ -1,5 +1,4 @@
 -- The invariant: the rotations before number k do not share the side.
-use Prim.Native.Nat.{◌-◌}
 use Rattle.spec_plane.specs.Triangle.{triangle_of}
 use Rattle.edit_sides.specs.Sharing.{first_sharing}
 use Rattle.edit_sides.proofs.RotationSteps.{RotationsSkipped}
@@ -7,6 +6,3 @@ use Rattle.edit_sides.proofs.sharing_rotation.Given as goal
 
 abbrev pub invariant-loop-k : goal.invariant-loop-k
 invariant-loop-k l = RotationsSkipped (first_sharing (triangle_of l.s)) l.u l.k
-
-abbrev pub decreases-loop-k : goal.decreases-loop-k
-decreases-loop-k l = 3 - l.k

@@ -1,10 +1,6 @@
 -- The invariant: from the first number on, no triangle before number i has the corner.
-use Prim.Native.Nat.{◌-◌}
 use Rattle.edit_star.proofs.AroundSteps.{RowsSkipped}
 use Rattle.edit_star.proofs.next_around.Given as goal
 
 abbrev pub invariant-loop-i : goal.invariant-loop-i
 invariant-loop-i l = RowsSkipped l.p l.table l.n l.first l.i
-
-abbrev pub decreases-loop-i : goal.decreases-loop-i
-decreases-loop-i l = l.n - l.i

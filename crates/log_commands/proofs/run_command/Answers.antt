@@ -1,64 +1,40 @@
 -- The command byte chooses; each command is a step of the program, and what it does not lend stays.
-use mathlib.Core.Path.{◌≡◌}
-use native.Mathlib.Omega.{arith}
-use lib.ListN.{get_or}
-use Rattle.log_commands.proofs.CommandLaws.{as-wait, as_load, as-edit, as-locate, as-overlay, both-bounds, no-bounds}
+use Rattle.std.proofs.Common.{◌≡◌, get_or, arith}
+use Rattle.log_commands.proofs.CommandLaws.{as-wait, as_load, as-edit, as-locate, as-overlay}
 use Rattle.log_commands.proofs.run_command.Goals as goal
 
-pub edit_command-p-requires : goal.edit_command-p-requires
-edit_command-p-requires c = (both-bounds (get_or c.args.held.now 0 0) c.if-b.true, omega (arith, c.requires.1.1.1))
-
-pub returns-then-b-eq1-clause-ran_lent : goal.returns-then-b-eq1-clause-ran_lent
-returns-then-b-eq1-clause-ran_lent c =
+pub returns-in-1-clause-ran : goal.returns-in-1-clause-ran
+returns-in-1-clause-ran c =
     let bytes = c.args.held.now in
-    let is : get_or bytes 0 0 ≡ 1 = omega arith in
-    rw c.done_of.ensures (λ s r. as-wait (get_or bytes 0 0) bytes s is c.wait_command-w.ensures r)
+    λ s r. as-wait (get_or bytes 0 0) bytes s c.in-1.is c.wait_command.ensures r
 
-pub returns-then-b-eq1-clause-at_in_bounds : goal.returns-then-b-eq1-clause-at_in_bounds
-returns-then-b-eq1-clause-at_in_bounds c =
-    let h = c.wait_command-w.ensures in rw c.done_of.ensures (h.room, h.whole)
-
-pub returns-then-b-eq2-clause-ran_lent : goal.returns-then-b-eq2-clause-ran_lent
-returns-then-b-eq2-clause-ran_lent c =
+pub returns-in-2-clause-ran : goal.returns-in-2-clause-ran
+returns-in-2-clause-ran c =
     let bytes = c.args.held.now in
-    let is : get_or bytes 0 0 ≡ 2 = omega arith in
-    let h = c.load_command-p.ensures.ran_load in
-    rw c.done_of-then-b-eq2.ensures (λ s r. as_load (get_or bytes 0 0) bytes s c.load_command-p.new.waiting is (h s r))
+    let h = c.load_command-at.ensures.ran_load in
+    λ s r. as_load (get_or bytes 0 0) bytes s c.load_command-at.new.waiting c.in-2.is (h s r)
 
-pub returns-then-b-eq2-clause-at_in_bounds : goal.returns-then-b-eq2-clause-at_in_bounds
-returns-then-b-eq2-clause-at_in_bounds c =
-    rw c.done_of-then-b-eq2.ensures (c.load_command-p.ensures.at_in_bounds, record { triangles = omega arith; few = omega arith })
-
-pub returns-then-b-clause-ran_lent : goal.returns-then-b-clause-ran_lent
-returns-then-b-clause-ran_lent c =
+pub returns-in-3-to-5-clause-ran : goal.returns-in-3-to-5-clause-ran
+returns-in-3-to-5-clause-ran c =
     let bytes = c.args.held.now in
-    let is = both-bounds (get_or bytes 0 0) c.if-b.true in
-    let h = c.edit_command-p.ensures.ran_edit in
-    rw c.done_of-then-b.ensures (λ s r. as-edit (get_or bytes 0 0) bytes s is.0 is.1 r.waits (h s r.charts))
+    let h = c.edit_command-at.ensures.ran_edit in
+    λ s r. as-edit (get_or bytes 0 0) bytes s (omega arith) (omega arith) r.waits (h s r.charts)
 
-pub returns-then-b-clause-at_in_bounds : goal.returns-then-b-clause-at_in_bounds
-returns-then-b-clause-at_in_bounds c = rw c.done_of-then-b.ensures (c.edit_command-p.ensures.at_in_bounds, c.requires.0)
-
-pub returns-then-b-eq6-clause-ran_lent : goal.returns-then-b-eq6-clause-ran_lent
-returns-then-b-eq6-clause-ran_lent c =
+pub returns-in-6-clause-ran : goal.returns-in-6-clause-ran
+returns-in-6-clause-ran c =
     let bytes = c.args.held.now in
-    let is : get_or bytes 0 0 ≡ 6 = omega arith in
-    let h = c.locate_command-next.ensures.prints in
-    rw c.done_of-then-b-eq6.ensures (λ s r. as-locate (get_or bytes 0 0) bytes s c.word.result c.word-then-b-eq6.result is c.word.ensures c.word-then-b-eq6.ensures (h s r.charts) r)
-
-pub returns-then-b-eq6-clause-at_in_bounds : goal.returns-then-b-eq6-clause-at_in_bounds
-returns-then-b-eq6-clause-at_in_bounds c = rw c.done_of-then-b-eq6.ensures (c.locate_command-next.ensures.upper_bound, c.requires.0)
+    let h = c.locate_command-at.ensures.prints in
+    λ s r. as-locate (get_or bytes 0 0) bytes s c.word.result c.word-in-6.result c.in-6.is c.word.ensures c.word-in-6.ensures (h s r.charts) r
 
 -- the last command is none of the others
-pub returns-clause-ran_lent : goal.returns-clause-ran_lent
-returns-clause-ran_lent c =
+pub returns-in_default-clause-ran : goal.returns-in_default-clause-ran
+returns-in_default-clause-ran c =
     let bytes = c.args.held.now in
     let not-1 : get_or bytes 0 0 ≡ 1 → ⊥ = omega arith in
     let not-2 : get_or bytes 0 0 ≡ 2 → ⊥ = omega arith in
+    let not-3 : get_or bytes 0 0 ≡ 3 → ⊥ = omega arith in
+    let not-4 : get_or bytes 0 0 ≡ 4 → ⊥ = omega arith in
+    let not-5 : get_or bytes 0 0 ≡ 5 → ⊥ = omega arith in
     let not-6 : get_or bytes 0 0 ≡ 6 → ⊥ = omega arith in
-    let n = no-bounds (get_or bytes 0 0) c.if-b.false in
-    let h = c.overlay_command-next.ensures.prints in
-    rw c.done_of-2.ensures (λ s r. as-overlay (get_or bytes 0 0) bytes s not-1 not-2 n.0 n.1.0 n.1.1 not-6 (h s r.charts) r)
-
-pub returns-clause-at_in_bounds : goal.returns-clause-at_in_bounds
-returns-clause-at_in_bounds c = rw c.done_of-2.ensures (c.overlay_command-next.ensures.upper_bound, c.requires.0)
+    let h = c.overlay_command-at.ensures.prints in
+    λ s r. as-overlay (get_or bytes 0 0) bytes s not-1 not-2 not-3 not-4 not-5 not-6 (h s r.charts) r

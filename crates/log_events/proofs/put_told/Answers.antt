@@ -1,35 +1,37 @@
 -- What is printed goes by the number of the call: 0, 5 or another.
-use mathlib.Core.Path.{refl, ap}
-use native.Mathlib.Omega.{arith}
+use Rattle.std.proofs.Common.{◌∙◌, refl, ap₂, arith}
 use Rattle.spec_charts.specs.Refusals.{outcome_value}
 use Rattle.spec_log.specs.Log.{line}
-use Rattle.base_answers.specs.Outcomes.{verdict_outcome}
+use Rattle.base_answers.specs.Outcomes.{outcome_of}
 use Rattle.log_lines.proofs.LineLaws.{wrote_as}
 use Rattle.log_events.proofs.EventLaws.{told-done, told-faulty, told-other, room-two, room-three}
 use Rattle.log_events.proofs.put_told.Goals as goal
 
 pub put_line-requires : goal.put_line-requires
 put_line-requires c =
-    omega (arith, room-three c.args.command c.verdict_number-number.result c.args.changed.entries (omega arith) (omega arith) (omega arith))
+    omega (arith, room-three c.from-first.result c.from-number.result c.args.entries (omega arith) (omega arith) (omega arith))
 
-pub returns-then-number-eq0 : goal.returns-then-number-eq0
-returns-then-number-eq0 c =
-    let v = outcome_value (verdict_outcome c.args.changed.verdict) in
-    wrote_as (ap (line c.args.command) (told-done v c.verdict_number-number.ensures (omega arith) refl)) c.put_line.ensures
+pub returns-in-0 : goal.returns-in-0
+returns-in-0 c =
+    let v = outcome_value (outcome_of c.args.answer) in
+    let number = c.from-number.ensures ∙ c.number.ensures in
+    wrote_as (ap₂ line c.from-first.ensures (told-done v number (omega (arith, c.in-0.is)) refl)) c.put_line.ensures
 
-pub put_line-requires-then-number-eq5 : goal.put_line-requires-then-number-eq5
-put_line-requires-then-number-eq5 c =
-    omega (arith, room-three c.args.command c.verdict_number-number.result c.verdict_value.result (omega arith) (omega arith) (omega arith))
+pub put_line-requires-in-5 : goal.put_line-requires-in-5
+put_line-requires-in-5 c =
+    omega (arith, room-three c.from-first.result c.from-number.result c.value-triangle.result (omega arith) (omega arith) (omega arith))
 
-pub returns-then-number-eq5 : goal.returns-then-number-eq5
-returns-then-number-eq5 c =
-    wrote_as (ap (line c.args.command) (told-faulty c.args.changed.entries c.verdict_number-number.ensures (omega arith) c.verdict_value.ensures)) c.put_line-then-number-eq5.ensures
+pub returns-in-5 : goal.returns-in-5
+returns-in-5 c =
+    let number = c.from-number.ensures ∙ c.number.ensures in
+    wrote_as (ap₂ line c.from-first.ensures (told-faulty c.args.entries number (omega (arith, c.in-5.is)) c.value-triangle.ensures)) c.put_line-in-5.ensures
 
-pub put_line-requires-2 : goal.put_line-requires-2
-put_line-requires-2 c =
-    omega (arith, room-two c.args.command c.verdict_number-number.result (omega arith) (omega arith))
+pub put_line-requires-in_default : goal.put_line-requires-in_default
+put_line-requires-in_default c =
+    omega (arith, room-two c.from-first.result c.from-number.result (omega arith) (omega arith))
 
-pub returns : goal.returns
-returns c =
-    let v = outcome_value (verdict_outcome c.args.changed.verdict) in
-    wrote_as (ap (line c.args.command) (told-other v c.args.changed.entries c.verdict_number-number.ensures (omega arith) (omega arith))) c.put_line-2.ensures
+pub returns-in_default : goal.returns-in_default
+returns-in_default c =
+    let v = outcome_value (outcome_of c.args.answer) in
+    let number = c.from-number.ensures ∙ c.number.ensures in
+    wrote_as (ap₂ line c.from-first.ensures (told-other v c.args.entries number (omega arith) (omega arith))) c.put_line-in_default.ensures

@@ -1,11 +1,8 @@
 -- After k pairs their lines stand in the output, of at most twelve bytes each.
-use Prim.Native.Nat.{◌+◌, ◌*◌, ◌-◌, ◌≤◌}
+use Rattle.std.proofs.Common.{◌+◌, ◌*◌, ◌≤◌}
 use Rattle.log_lines.specs.Bytes.{Wrote, pair_lines, pair_bytes}
 use Rattle.log_lines.proofs.put_pairs.Given as goal
 
 abbrev pub invariant-loop-k : goal.invariant-loop-k
 invariant-loop-k l =
-    ((l.k ≤ l.n) × (l.next ≤ l.at + pair_bytes * l.k)) × Wrote (pair_lines l.pairs l.k) l.at l.next l.initial.out l.out
-
-abbrev pub decreases-loop-k : goal.decreases-loop-k
-decreases-loop-k l = l.n - l.k
+    (l.next ≤ l.at + pair_bytes * l.k) × Wrote (pair_lines l.pairs l.k) l.at l.next l.initial.out l.out

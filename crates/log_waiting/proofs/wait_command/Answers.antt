@@ -7,8 +7,8 @@ use Rattle.log_bytes.proofs.WordLaws.{words-length}
 use Rattle.log_waiting.proofs.WaitLaws.{wait-more, wait-full}
 use Rattle.log_waiting.proofs.wait_command.Goals as goal
 
-pub returns-then-waits-lt-TABLE_LENGTH : goal.returns-then-waits-lt-TABLE_LENGTH
-returns-then-waits-lt-TABLE_LENGTH c =
+pub returns-then-waits-lt-TABLE_NUMBERS : goal.returns-then-waits-lt-TABLE_NUMBERS
+returns-then-waits-lt-TABLE_NUMBERS c =
     let a = c.args in
     let ws = words_of 6 (drop 1 a.held.now) in
     wait-more ws a.waits a.at a.out.now a.waiting.now c.requires.0 c.requires.1.0 (omega arith) (words-length 6 (drop 1 a.held.now))

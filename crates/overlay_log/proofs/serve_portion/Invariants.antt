@@ -1,14 +1,13 @@
--- After `from` bytes the reader can go on; each turn reads something.
-use Rattle.std.proofs.Common.{length, ◌-◌, ◌+◌, ◌≤◌}
+-- After each part that was read the reader can go on; each turn reads something.
+use Rattle.std.proofs.Common.{length, ◌+◌, ◌≤◌}
 use Rattle.log_reader.specs.Reader.{Ready}
 use Rattle.overlay_log.proofs.serve_portion.Given as goal
 
-abbrev pub invariant-loop-from : goal.invariant-loop-from
-invariant-loop-from g l = record {
+abbrev pub invariant-loop-left : goal.invariant-loop-left
+invariant-loop-left g l = record {
   ready : Ready l.kept;
-  within : l.from ≤ length l.input;
-  grown : l.kept.offset + l.kept.count ≤ l.initial.kept.offset + l.initial.kept.count + l.from;
+  grown : l.kept.offset + l.kept.count + length l.left ≤ l.initial.kept.offset + l.initial.kept.count + length l.input;
 }
 
-abbrev pub decreases-loop-from : goal.decreases-loop-from
-decreases-loop-from g l = length l.input - l.from
+abbrev pub decreases-loop-left : goal.decreases-loop-left
+decreases-loop-left g l = length l.left

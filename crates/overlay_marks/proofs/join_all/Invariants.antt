@@ -1,10 +1,7 @@
--- The rows of the items before place i have the set's bits.
-use Prim.Native.Nat.{◌-◌}
-use Rattle.overlay_marks.proofs.SetLaws.{Joining}
+-- The rows of the items before that place have the set's bits.
+use lib.ListN.{take}
+use Rattle.overlay_marks.specs.PairMarks.{SetJoined}
 use Rattle.overlay_marks.proofs.join_all.Given as goal
 
-abbrev pub invariant-loop-i : goal.invariant-loop-i
-invariant-loop-i l = Joining l.initial.rows l.items l.from l.to l.i l.set l.rows
-
-abbrev pub decreases-loop-i : goal.decreases-loop-i
-decreases-loop-i l = l.to - l.i
+abbrev pub invariant-loop-item : goal.invariant-loop-item
+invariant-loop-item l = SetJoined l.initial.rows (take l.item-index l.items) l.set l.rows

@@ -10,13 +10,13 @@ returns c =
     let s = c.run_end-s.ensures in
     let t = c.run_end-t.ensures in
     record {
-      end = c.larger_end-end.result;
+      end = c.max-end.result;
       ends = record {
         p = p.result;
         q = q.result;
         first = p.ensures;
         second = q.ensures;
-        end = c.larger_end-end.ensures ∙ ap₂ max c.key_from.ensures c.key_from-2.ensures;
+        end = c.max-end.ensures ∙ ap₂ max c.key_from-first_end.ensures c.key_from-second_end.ensures;
       };
       first = s.ends;
       second = t.ends;

@@ -9,11 +9,11 @@ use Rattle.read_cells.specs.Keys.{LastCell}
 use Rattle.read_cells.specs.Place.{cell_items, cell_places}
 use Rattle.read_cells.proofs.listed_part.Goals as goal
 
-pub returns-then-items-from : goal.returns-then-items-from
+pub returns-then-items-cell : goal.returns-then-items-cell
 unfolding cell_items cell_places empty_mark count_from
-returns-then-items-from c =
+returns-then-items-cell c =
     let r = c.last_cell-cell.result in
-    let mark = eq-eqb (get_or c.args.items.now r.from 0) 65535 c.if-items-from.true in
+    let mark = eq-eqb (get_or c.args.items.now r.from 0) 65535 c.if-items-cell.true in
     record {
       from = r.from;
       to = r.to;
@@ -29,7 +29,7 @@ pub returns : goal.returns
 unfolding cell_items cell_places empty_mark
 returns c =
     let r = c.last_cell-cell.result in
-    let no = ne_eqb (get_or c.args.items.now r.from 0) 65535 c.if-items-from.false in
+    let no = ne_eqb (get_or c.args.items.now r.from 0) 65535 c.if-items-cell.false in
     let l = subst (λ k. LastCell c.args.keys.now c.args.entries k r.from r.to) c.z_order.ensures c.last_cell-cell.ensures in
     record {
       from = r.from;

@@ -1,28 +1,36 @@
-use mathlib.Core.Path.{◌∙◌, ap}
-use native.Mathlib.Omega.{arith}
-use Rattle.replay_lists.proofs.RunLaws.{ran-end, ran-all, ran_call, ran-next}
+use Rattle.std.proofs.Common.{sym, ◌∙◌, ap}
+use Rattle.spec_calls.specs.Lent.{viewed_mut}
+use Rattle.replay_lists.proofs.RunLaws.{run-within, run-call, run-rest, run-none}
 use Rattle.replay_lists.proofs.run_calls.Goals as goal
 
-pub overflow_add-call : goal.overflow_add-call
-overflow_add-call c = omega (arith, ran-end c.loop-size.invariant.ran)
+pub split_at-requires : goal.split_at-requires
+split_at-requires c =
+    let is = c.in-Some.ensures in run-within c.loop-size.left.now is.0 is.1
 
-pub slice_bounds-call-end : goal.slice_bounds-call-end
-slice_bounds-call-end c = ran-end c.loop-size.invariant.ran
-
-pub run_call-changed-requires : goal.run_call-changed-requires
-run_call-changed-requires c = ran_call c.loop-size.invariant.ran c.loop-size-test.true
+pub run_call-answer-requires : goal.run_call-answer-requires
+run_call-answer-requires c =
+    let is = c.in-Some.ensures in rw c.split_at.ensures.front (run-call c.loop-size.left.now is.0 is.1)
 
 pub loop-size-preserved : goal.loop-size-preserved
 loop-size-preserved c =
-    let inv = c.loop-size.invariant in
-    let same = c.run_call-changed.auto in
+    let l = c.loop-size in
+    let is = c.in-Some.ensures in
+    let called = c.run_call-answer.ensures.called in
+    let here = c.run_call-answer.ensures.same_lists in
+    let before = l.invariant.same_lists in
     record {
-      ran = ran-next inv.ran c.loop-size-test.true (ap (λ d. d.chart) c.run_call-changed.ensures) c.whole_call-size-in-loop-size.ensures;
-      table = same.table ∙ inv.table;
-      keys = same.keys ∙ inv.keys;
-      levels = same.levels ∙ inv.levels;
-      items = same.items ∙ inv.items;
+      ran =
+          rw c.split_at.ensures.back
+          (run-rest l.left.now is.0 is.1 (viewed_mut l.chart) (rw c.split_at.ensures.front at (ap (λ d. d.chart) called)) ∙ l.invariant.ran);
+      same_lists = record {
+        table = here.table ∙ before.table;
+        keys = here.keys ∙ before.keys;
+        levels = here.levels ∙ before.levels;
+        items = here.items ∙ before.items;
+      };
     }
 
-pub returns : goal.returns
-returns c = ran-all c.loop-size.invariant.ran (omega (arith, c.loop-size-test.false))
+pub returns-clause-ran : goal.returns-clause-ran
+returns-clause-ran c =
+    let l = c.loop-size in
+    sym (run-none l.left.now (viewed_mut l.chart) c.in_default.ensures) ∙ l.invariant.ran

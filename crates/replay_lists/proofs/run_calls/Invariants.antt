@@ -1,13 +1,15 @@
--- Call after call: the chart is the one after the calls before the place, and the rest of the list gives the events to come.
-use Prim.Native.Nat.{◌-◌}
-use lib.ListN.{length}
-use Rattle.spec_calls.specs.Buffers.{chart_of}
-use Rattle.replay_lists.proofs.RunLaws.{Running}
+-- Call after call: what is left of the list makes of the chart what the whole list makes of the chart at first.
+use Rattle.std.proofs.Common.{◌≡◌, length}
+use Rattle.spec_calls.specs.Lent.{viewed_mut, SameLists}
+use Rattle.spec_calls.specs.History.{chart_after}
+use Rattle.replay_calls.specs.Encoding.{decode}
 use Rattle.replay_lists.proofs.run_calls.Given as goal
 
 abbrev pub invariant-loop-size : goal.invariant-loop-size
-invariant-loop-size l =
-    Running l.calls (chart_of l.initial.table l.initial.keys l.initial.levels l.initial.items l.triangles l.entries) (chart_of l.table l.keys l.levels l.items l.n l.m) l.at l.size
+invariant-loop-size l = record {
+  ran : chart_after (decode l.left) (viewed_mut l.chart) ≡ chart_after (decode l.calls) (viewed_mut l.initial.chart);
+  same_lists : SameLists l.initial.chart l.chart;
+}
 
 abbrev pub decreases-loop-size : goal.decreases-loop-size
-decreases-loop-size l = length l.calls - l.at
+decreases-loop-size l = length l.left

@@ -7,7 +7,5 @@ use Rattle.window_cells.proofs.mark_each.Goals as goal
 pub loop-k-preserved : goal.loop-k-preserved
 loop-k-preserved c =
     let a = c.args in
-    let l = c.loop-k in (
-      omega arith,
-      marked_more (bounds_box a.w) a.keys.now a.levels.now a.items.now l.k a.to (omega arith) c.requires.markable.0.room l.near _ c.mark.ensures l.invariant.1,
-    )
+    let l = c.loop-k in
+    marked_more (bounds_box a.w) a.keys.now a.levels.now a.items.now l.k a.to (omega arith) c.requires.markable.0.room l.near _ c.mark.ensures l.invariant

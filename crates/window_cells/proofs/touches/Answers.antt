@@ -14,4 +14,4 @@ side-side-requires c =
 pub returns : goal.returns
 unfolding cell_touches entry_square square_box apart
 returns c =
-    λ item. rw (c.side-side.ensures.0, c.square_of_key-s.ensures.0)
+    λ item. rw (c.side-side.ensures.0, c.square_of_key-s.ensures.0, c.from.ensures, c.from-2.ensures, c.from-3.ensures, c.from-4.ensures)

@@ -9,5 +9,6 @@ use Rattle.window_triangles.proofs.meets.Goals as goal
 pub returns-then-is_within : goal.returns-then-is_within
 unfolding triangle_of corner_at
 returns-then-is_within c =
-    sym (corner-meets (triangle_of c.args.t) (rw c.requires.1 tt) (bounds_box c.args.w)
+    c.if-is_within.true
+    ∙ sym (corner-meets (triangle_of c.args.t) (rw c.requires.1 tt) (bounds_box c.args.w)
     (sym (ap₂ ◌||◌ (ap₂ ◌||◌ c.is_within.ensures c.is_within-2.ensures) c.is_within-3.ensures) ∙ c.if-is_within.true))

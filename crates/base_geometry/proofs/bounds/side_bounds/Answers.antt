@@ -5,9 +5,4 @@ use Rattle.base_geometry.proofs.bounds.side_bounds.Goals as goal
 pub returns : goal.returns
 unfolding side_box
 returns c =
-    λ i. record {
-      left = c.smaller.ensures i;
-      top = c.smaller-2.ensures i;
-      right = c.larger.ensures i;
-      bottom = c.larger-2.ensures i;
-    }
+    search rules

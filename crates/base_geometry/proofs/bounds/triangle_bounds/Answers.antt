@@ -6,9 +6,4 @@ use Rattle.base_geometry.proofs.bounds.triangle_bounds.Goals as goal
 pub returns : goal.returns
 unfolding triangle_box triangle_of corner_at
 returns c =
-    λ i. record {
-      left = c.smallest.ensures i;
-      top = c.smallest-2.ensures i;
-      right = c.largest.ensures i;
-      bottom = c.largest-2.ensures i;
-    }
+    search rules

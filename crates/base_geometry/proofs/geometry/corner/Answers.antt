@@ -1,4 +1,3 @@
-use mathlib.Core.Path.{refl}
 use Rattle.spec_plane.specs.Triangle.{corner_at}
 use borrow.Author.Rules.{rules}
 use Rattle.base_geometry.proofs.geometry.corner.Goals as goal
@@ -6,4 +5,4 @@ use Rattle.base_geometry.proofs.geometry.corner.Goals as goal
 pub returns : goal.returns
 unfolding corner_at
 returns c =
-    refl
+    search rules

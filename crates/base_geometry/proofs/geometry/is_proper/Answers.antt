@@ -5,4 +5,4 @@ use Rattle.base_geometry.proofs.geometry.is_proper.Goals as goal
 pub returns : goal.returns
 unfolding proper triangle_of corner_at
 returns c =
-    c.is_inner.ensures
+    search rules

@@ -1,6 +1,5 @@
 use Rattle.spec_plane.specs.Triangle.{rotated, corner_at}
 use Rattle.base_geometry.proofs.Widths.{mod-add}
-use borrow.Author.Rules.{rules}
 use Rattle.base_geometry.proofs.geometry.rotated.Goals as goal
 
 pub returns : goal.returns

@@ -1,7 +1,6 @@
 use mathlib.Core.Path.{ap₂}
 use Prim.Native.Nat.{◌+◌}
 use Rattle.base_geometry.proofs.Sums.{sums-orient}
-use borrow.Author.Rules.{rules}
 use Rattle.base_geometry.proofs.orientation.orientation.Goals as goal
 
 pub returns-clause-low_value : goal.returns-clause-low_value

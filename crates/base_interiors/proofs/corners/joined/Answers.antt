@@ -1,6 +1,5 @@
 use mathlib.Core.Path.{refl}
 use lib.Bits.{or_lt}
-use borrow.Author.Rules.{rules}
 use Rattle.base_interiors.proofs.corners.joined.Goals as goal
 
 pub returns : goal.returns

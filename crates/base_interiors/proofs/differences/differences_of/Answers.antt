@@ -1,5 +1,4 @@
 use native.Mathlib.Omega.{arith}
-use borrow.Author.Rules.{rules}
 use Rattle.spec_plane.specs.Triangle.{triangle_of, corner_at}
 use Rattle.base_interiors.proofs.RaisedLaws.{offset-from, raised-from-start, area-raised}
 use Rattle.base_interiors.proofs.differences.differences_of.Goals as goal

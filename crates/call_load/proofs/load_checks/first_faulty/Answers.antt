@@ -11,23 +11,18 @@ unfolding triangle_of corner_at
 returns-then-not-is_proper c =
     let a = c.args in
     let l = c.loop-i in
-    faulty-found a.table.now a.n l.i l.invariant.0 l.invariant.1 (λ h.
-    sym (c.is_proper.ensures ∙ ap (λ t. proper (triangle_of t)) c.triangle_at.ensures)
-    ∙ c.if-not-is_proper.true)
+    let flat = sym (c.is_proper.ensures ∙ ap (λ t. proper (triangle_of t)) c.triangle_at.ensures) ∙ c.if-not-is_proper.true in
+    (faulty-found a.table.now a.n l.i (omega arith) l.invariant (λ h. flat), omega arith)
 
 pub loop-i-preserved : goal.loop-i-preserved
 unfolding triangle_of corner_at
 loop-i-preserved c =
     let l = c.loop-i in
-    let here =
-    sym (c.is_proper.ensures ∙ ap (λ t. proper (triangle_of t)) c.triangle_at.ensures)
-    ∙ c.if-not-is_proper.false
-    in
-    (omega arith, below_more _ l.i l.invariant.1 here)
+    below_more _ l.i l.invariant (sym (c.is_proper.ensures ∙ ap (λ t. proper (triangle_of t)) c.triangle_at.ensures) ∙ c.if-not-is_proper.false)
 
 pub returns : goal.returns
 returns c =
     let a = c.args in
     let l = c.loop-i in
     let e : a.n ≡ l.i = omega arith in
-    e ∙ faulty-found a.table.now a.n l.i l.invariant.0 l.invariant.1 (λ h. absurd (omega arith))
+    omega (arith, e, faulty-found a.table.now a.n l.i (omega arith) l.invariant (λ h. absurd (omega arith)))

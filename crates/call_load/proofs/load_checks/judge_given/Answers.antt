@@ -1,5 +1,4 @@
 use mathlib.Core.Path.{sym, ◌∙◌, ap}
-use mathlib.Core.Bool.{Bool, true}
 use native.Mathlib.Omega.{arith}
 use Rattle.spec_charts.specs.declared.Refusal.TheVariants.{FaultyTriangle}
 use Rattle.spec_charts.specs.Refusals.{Outcome, refused, done, and_then}
@@ -9,23 +8,20 @@ use Rattle.call_load.proofs.GivenLaws.{given-length, given-faulty, given-done}
 use Rattle.call_load.proofs.load_checks.judge_given.Goals as goal
 
 -- what a load makes of the numbers, by itself
-abbrev judged : Outcome Table → Outcome Bool
-judged o = and_then o (λ t. done true)
+abbrev judged : Outcome Table → Outcome (Unit {0})
+judged o = and_then o (λ t. done tt)
 
 pub returns-then-numbers : goal.returns-then-numbers
 unfolding and_then
 returns-then-numbers c =
     sym (ap judged (given-length c.args.numbers.now c.if-numbers.true))
 
-pub returns-then-faulty-n : goal.returns-then-faulty-n
+pub returns-in-Some : goal.returns-in-Some
 unfolding and_then given_table
-returns-then-faulty-n c =
-    let e = c.first_faulty-faulty.ensures in
-    ap (λ i. refused (FaultyTriangle i)) e
-    ∙ sym (ap judged (given-faulty c.args.numbers.now c.if-numbers.false (omega (arith, e, c.if-faulty-n.true))))
+returns-in-Some c =
+    let e = c.in-Some.ensures in
+    ap (λ i. refused (FaultyTriangle i)) e.0 ∙ sym (ap judged (given-faulty c.args.numbers.now c.if-numbers.false (omega (arith, e.0, e.1))))
 
-pub returns : goal.returns
+pub returns-in-None : goal.returns-in-None
 unfolding and_then given_table
-returns c =
-    let e = c.first_faulty-faulty.ensures in
-    sym (ap judged (given-done c.args.numbers.now c.if-numbers.false (omega (arith, e, c.if-faulty-n.false))))
+returns-in-None c = sym (ap judged (given-done c.args.numbers.now c.if-numbers.false c.in-None.ensures))

@@ -11,7 +11,7 @@ use Rattle.call_soundness.proofs.disjoint.each_disjoint.Goals as goal
 pub loop-k-init : goal.loop-k-init
 loop-k-init c =
     let a = c.args in
-    ((omega arith, all-below-none (λ n. triangles_disjoint a.table.now a.i n)), handed-corners (triangle_at a.table.now a.i) c.triangle_at.ensures c.differences_of-sides.ensures)
+    (all-below-none (λ n. triangles_disjoint a.table.now a.i n), handed-corners (triangle_at a.table.now a.i) c.triangle_at.ensures c.differences_of-sides.ensures)
 
 pub returns-then-interiors_meet : goal.returns-then-interiors_meet
 returns-then-interiors_meet c =
@@ -28,10 +28,5 @@ loop-k-preserved c =
     let l = c.loop-k in
     let s = triangle_at a.table.now a.i in
     let t = triangle_at a.table.now l.k in
-    let meet = told-corners s t c.triangle_at-in-loop-k.ensures (c.interiors_meet.ensures.value s l.invariant.1.0) in (
-      (
-        omega arith,
-        all-below-passes (λ n. triangles_disjoint a.table.now a.i n) l.k l.invariant.0.1 (ap not (sym meet ∙ c.if-interiors_meet.false)),
-      ),
-      l.invariant.1,
-    )
+    let meet = told-corners s t c.triangle_at-in-loop-k.ensures (c.interiors_meet.ensures.value s l.invariant.1.0) in
+    (all-below-passes (λ n. triangles_disjoint a.table.now a.i n) l.k l.invariant.0 (ap not (sym meet ∙ c.if-interiors_meet.false)), l.invariant.1)

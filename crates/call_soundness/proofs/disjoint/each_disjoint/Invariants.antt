@@ -1,7 +1,6 @@
 -- Triangle i has a common interior point with none of the first k.
 use mathlib.Core.Path.{◌≡◌}
 use mathlib.Core.Bool.{true}
-use Prim.Native.Nat.{◌≤◌, ◌-◌}
 use Rattle.theory_lists.specs.Lists.{all, up_to}
 use Rattle.spec_charts.specs.Table.{triangle_at}
 use Rattle.base_interiors.specs.Differences.{Handed}
@@ -10,7 +9,4 @@ use Rattle.call_soundness.proofs.disjoint.each_disjoint.Given as goal
 
 abbrev pub invariant-loop-k : goal.invariant-loop-k
 invariant-loop-k l =
-    ((l.k ≤ l.i) × (all (λ n. triangles_disjoint l.table l.i n) (up_to l.k) ≡ true)) × Handed (triangle_at l.table l.i) l.sides
-
-abbrev pub decreases-loop-k : goal.decreases-loop-k
-decreases-loop-k l = l.i - l.k
+    (all (λ n. triangles_disjoint l.table l.i n) (up_to l.k) ≡ true) × Handed (triangle_at l.table l.i) l.sides

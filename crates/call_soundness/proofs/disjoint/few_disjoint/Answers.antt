@@ -8,7 +8,7 @@ use Rattle.call_soundness.proofs.disjoint.few_disjoint.Goals as goal
 
 pub loop-i-init : goal.loop-i-init
 loop-i-init c =
-    let table = c.args.table.now in (omega arith, all-below-none (λ i. all (λ j. triangles_disjoint table i j) (up_to i)))
+    let table = c.args.table.now in all-below-none (λ i. all (λ j. triangles_disjoint table i j) (up_to i))
 
 pub returns-then-not-each_disjoint : goal.returns-then-not-each_disjoint
 returns-then-not-each_disjoint c =
@@ -22,16 +22,12 @@ returns-then-not-each_disjoint c =
 pub loop-i-preserved : goal.loop-i-preserved
 loop-i-preserved c =
     let table = c.args.table.now in
-    let l = c.loop-i in
-    let call = c.each_disjoint in (
-      omega arith,
-      all-below-passes (λ i. all (λ j. triangles_disjoint table i j) (up_to i)) l.i l.invariant.1
-          (sym call.ensures ∙ c.if-not-each_disjoint.false),
-    )
+    all-below-passes (λ i. all (λ j. triangles_disjoint table i j) (up_to i)) c.loop-i.i c.loop-i.invariant
+    (sym c.each_disjoint.ensures ∙ c.if-not-each_disjoint.false)
 
 pub returns : goal.returns
 returns c =
     let a = c.args in
     let table = a.table.now in
-    sym c.loop-i.invariant.1 ∙ ap (λ k. all (λ i. all (λ j. triangles_disjoint table i j) (up_to i)) (up_to k)) (omega arith)
+    sym c.loop-i.invariant ∙ ap (λ k. all (λ i. all (λ j. triangles_disjoint table i j) (up_to i)) (up_to k)) (omega arith)
     ∙ sound-below table a.n

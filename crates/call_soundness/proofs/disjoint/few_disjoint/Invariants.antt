@@ -1,14 +1,9 @@
 -- The first i triangles are disjoint from those before them.
 use mathlib.Core.Path.{◌≡◌}
 use mathlib.Core.Bool.{true}
-use Prim.Native.Nat.{◌≤◌, ◌-◌}
 use Rattle.theory_lists.specs.Lists.{all, up_to}
 use Rattle.laws_charts.proofs.SoundLaws.{triangles_disjoint}
 use Rattle.call_soundness.proofs.disjoint.few_disjoint.Given as goal
 
 abbrev pub invariant-loop-i : goal.invariant-loop-i
-invariant-loop-i l =
-    (l.i ≤ l.n) × (all (λ k. all (λ j. triangles_disjoint l.table k j) (up_to k)) (up_to l.i) ≡ true)
-
-abbrev pub decreases-loop-i : goal.decreases-loop-i
-decreases-loop-i l = l.n - l.i
+invariant-loop-i l = all (λ k. all (λ j. triangles_disjoint l.table k j) (up_to k)) (up_to l.i) ≡ true

@@ -10,18 +10,12 @@ pub near_disjoint-requires : goal.near_disjoint-requires
 near_disjoint-requires c =
     let a = c.args in
     let call = c.collect_before-c in
-    let listed : c.collect_before-c.result ≤ length c.collect_before-c.new.near = omega (arith, c.collect_before-c.ensures.near.few, c.collect_before-c.ensures.same, c.requires.1) in
-    record {
-      row = c.requires.0.rows;
-      room = listed;
-      below = near_before _ a.table.now a.lefts.now a.tops.now a.rights.now a.bottoms.now _ a.i call.result call.ensures.near listed;
-    }
+    let listed : call.result ≤ length call.new.near = omega (arith, call.ensures.near.few, call.ensures.same, c.requires.1) in
+    record { row = c.requires.0.rows; below = near_before _ a.table.now a.boxes.now _ a.i call.result call.ensures.near listed }
 
 pub returns-clause-value : goal.returns-clause-value
 returns-clause-value c =
     let a = c.args in
     let call = c.collect_before-c in
-    let listed : c.collect_before-c.result ≤ length c.collect_before-c.new.near = omega (arith, c.collect_before-c.ensures.near.few, c.collect_before-c.ensures.same, c.requires.1) in
-    c.near_disjoint.ensures
-    ∙ near-sound _ a.table.now a.lefts.now a.tops.now a.rights.now a.bottoms.now _ a.i call.result call.ensures.near
-    listed c.requires.0 c.triangle_box-b.ensures
+    let listed : call.result ≤ length call.new.near = omega (arith, call.ensures.near.few, call.ensures.same, c.requires.1) in
+    c.near_disjoint.ensures ∙ near-sound _ a.table.now a.boxes.now _ a.i call.result call.ensures.near listed c.requires.0 c.triangle_box-b.ensures

@@ -11,14 +11,14 @@ use Rattle.call_soundness.proofs.disjoint.pairs_disjoint.Goals as goal
 pub loop-i-init : goal.loop-i-init
 loop-i-init c =
     let table = c.args.table.now in
-    ((omega arith, refl), all-below-none (λ i. all (λ j. triangles_disjoint table i j) (up_to i)))
+    (refl, all-below-none (λ i. all (λ j. triangles_disjoint table i j) (up_to i)))
 
 pub is_disjoint-requires : goal.is_disjoint-requires
 is_disjoint-requires c =
     let a = c.args in
     let l = c.loop-i in (
-      boxed-fewer a.table.now a.lefts.now a.tops.now a.rights.now a.bottoms.now (l.i + 1) a.n (omega arith) c.requires.0,
-      omega (arith, l.invariant.0.1, c.requires.1),
+      boxed-fewer a.table.now a.boxes.now (l.i + 1) a.n (omega arith) c.requires.0,
+      omega (arith, l.invariant.0, c.requires.1),
     )
 
 pub returns-then-not-is_disjoint : goal.returns-then-not-is_disjoint
@@ -35,7 +35,7 @@ loop-i-preserved c =
     let table = c.args.table.now in
     let l = c.loop-i in
     let call = c.is_disjoint in (
-      (omega arith, call.ensures.near_len_unchanged ∙ l.invariant.0.1),
+      call.ensures.near_len_unchanged ∙ l.invariant.0,
       all-below-passes (λ i. all (λ j. triangles_disjoint table i j) (up_to i)) l.i l.invariant.1
           (sym call.ensures.value ∙ c.if-not-is_disjoint.false),
     )

@@ -9,7 +9,7 @@ use Rattle.edit_take_out.proofs.triangle_merge.put_merged.Goals as goal
 pub returns : goal.returns
 returns c =
     let a = c.args in
-    let places : Ascending a.i a.j a.k a.n = search rules in
-    merged-rows a.table.now a.scratch.now _ _ _ a.n a.i a.j a.k (triangle_of a.merged) places (omega arith)
+    let places : Ascending a.at.first a.at.second a.at.third a.n = search rules in
+    merged-rows a.table.now a.scratch.now _ _ _ a.n a.at.first a.at.second a.at.third (triangle_of a.merged) places (omega arith)
     c.append_rows.ensures c.append_rows-2.ensures c.append_rows-3.ensures
     c.put_triangle.ensures

@@ -4,5 +4,4 @@ use Rattle.overlay_marks.proofs.BitLaws.{joined-more}
 use Rattle.overlay_marks.proofs.bitsets.join.Goals as goal
 
 pub loop-i-preserved : goal.loop-i-preserved
-loop-i-preserved c =
-    let l = c.loop-i in record { within = omega arith; joined = joined-more l.invariant.joined (omega arith) }
+loop-i-preserved c = joined-more c.loop-i.invariant (omega arith)

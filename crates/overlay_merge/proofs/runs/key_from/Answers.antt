@@ -1,18 +1,12 @@
 use borrow.Author.Tests.{lt-ltb, le-ltb}
+use lib.ListN.{length}
 use Rattle.theory_orthtree.specs.KeyCells.{key_from}
 use Rattle.overlay_merge.proofs.runs.key_from.Goals as goal
 
--- TODO no goal for overflow-cast-result
--- cast-result : tie.Need-overflow-cast-result
--- cast-result c =
---     omega (arith, c.shared_slice_known-1.given c.args.i)
-
-pub returns-then-i-entries : goal.returns-then-i-entries
+pub returns-then-i-keys : goal.returns-then-i-keys
 unfolding key_from
-returns-then-i-entries c =
-    rw (lt-ltb c.args.i c.args.entries c.if-i-entries.true)
+returns-then-i-keys c = rw (lt-ltb c.args.i (length c.args.keys.now) c.if-i-keys.true) c.from.ensures
 
-pub returns-else-i-entries : goal.returns-else-i-entries
+pub returns-else-i-keys : goal.returns-else-i-keys
 unfolding key_from
-returns-else-i-entries c =
-    rw (le-ltb c.args.i c.args.entries c.if-i-entries.false)
+returns-else-i-keys c = rw (le-ltb c.args.i (length c.args.keys.now) c.if-i-keys.false)

@@ -1,19 +1,20 @@
 -- Keys are passed as long as they are below the end, and each that differs from the one before it starts a cell.
+use mathlib.Core.Path.{◌∙◌}
+use Prim.Native.Nat.{◌-◌}
 use native.Mathlib.Omega.{arith}
-use Rattle.overlay_merge.proofs.WalkLaws.{run-start, run_more}
+use lib.Dec.{eqb}
+use lib.ListN.{length, get_or}
+use Rattle.overlay_merge.proofs.WalkLaws.{run-start, run_more, change-counted}
 use Rattle.overlay_merge.proofs.runs.run_end.Goals as goal
 
 pub loop-r-init : goal.loop-r-init
 loop-r-init c =
     let a = c.args in
-    run-start a.keys.now a.entries a.p a.end c.requires.within c.requires.room
-
--- TODO no goal for overflow-cast-if1
--- cast-if1 : tie.Need-overflow-cast-if1
--- cast-if1 c =
---     omega (arith, c.shared_slice_known-in-loop-r-1.given c.loop-r.r)
+    run-start a.keys.now (length a.keys.now) a.p a.end c.requires.1 (omega arith)
 
 pub loop-r-preserved : goal.loop-r-preserved
 loop-r-preserved c =
     let a = c.args in
-    run_more a.keys.now a.entries a.p a.end c.loop-r.invariant c.loop-r-test.true c.requires.room (omega (arith, c.if-end-keys.false)) c.cell_step-cells.ensures
+    let r = c.loop-r.r in
+    let step = c.from-cells.ensures ∙ change-counted (eqb (get_or a.keys.now (r - 1) 0) (get_or a.keys.now r 0)) in
+    run_more a.keys.now (length a.keys.now) a.p a.end c.loop-r.invariant c.loop-r-test.true (omega arith) (omega (arith, c.from.ensures, c.if-end-from.false)) step

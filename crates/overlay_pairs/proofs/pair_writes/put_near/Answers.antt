@@ -1,40 +1,36 @@
 -- Candidate after candidate: the pairs with those before it are written.
-use mathlib.Core.Path.{◌≡◌, subst}
 use native.Mathlib.Omega.{arith}
-use lib.ListN.{get_or, take}
+use lib.ListN.{get_or}
 use Rattle.spec_charts.specs.Table.{triangle_at}
 use Rattle.base_interiors.proofs.InteriorsLaws.{handed-corners, told-corners}
-use Rattle.overlay_pairs.specs.Pairs.{near_pairs, Wrote}
-use Rattle.overlay_pairs.proofs.PairLaws.{pairs-none, pairs-more}
+use Rattle.overlay_pairs.proofs.PairLaws.{pairs-none, pairs-more, pairs-over}
 use Rattle.overlay_pairs.proofs.pair_writes.put_near.Goals as goal
 
-pub loop-k-init : goal.loop-k-init
-loop-k-init c =
+pub loop-j-init : goal.loop-j-init
+loop-j-init c =
     let a = c.args in
     record {
-      within = omega arith;
       handed = handed-corners (triangle_at a.first.now a.i) c.triangle_at.ensures c.differences_of-sides.ensures;
       wrote = pairs-none a.first.now a.second.now a.i a.near.now a.found a.pairs.now c.requires.pairs_room.few;
     }
 
-pub loop-k-preserved : goal.loop-k-preserved
-loop-k-preserved c =
+pub loop-j-preserved : goal.loop-j-preserved
+loop-j-preserved c =
     let a = c.args in
-    let l = c.loop-k in
+    let l = c.loop-j in
     let s = triangle_at a.first.now a.i in
-    let t = triangle_at a.second.now (get_or a.near.now l.k 0) in
-    let meet = told-corners s t c.triangle_at-in-loop-k.ensures (c.interiors_meet-meet.ensures.value s l.invariant.handed.0) in
+    let t = triangle_at a.second.now (get_or a.near.now l.j-index 0) in
+    let meet = told-corners s t c.triangle_at-in-loop-j.ensures (c.interiors_meet-meet.ensures.value s l.invariant.handed.0) in
     record {
-      within = omega arith;
       handed = l.invariant.handed;
-      wrote =
-          pairs-more a.first.now a.second.now a.i a.near.now l.k (omega (arith, c.requires.triangle_in.1.room)) meet l.invariant.wrote
-          c.put_pair-c.ensures;
+      wrote = pairs-more a.first.now a.second.now a.i a.near.now l.j-index (omega arith) meet l.invariant.wrote c.in_ok-c.ensures;
     }
 
-pub returns : goal.returns
-returns c =
+pub returns-in_err-c : goal.returns-in_err-c
+returns-in_err-c c =
     let a = c.args in
-    let l = c.loop-k in
-    let e : l.k ≡ a.d = omega (arith, l.invariant.within) in
-    subst (λ k. Wrote (near_pairs a.first.now a.second.now a.i (take k a.near.now)) a.found l.c a.pairs.now l.pairs) e l.invariant.wrote
+    let l = c.loop-j in
+    let s = triangle_at a.first.now a.i in
+    let t = triangle_at a.second.now (get_or a.near.now l.j-index 0) in
+    let meet = told-corners s t c.triangle_at-in-loop-j.ensures (c.interiors_meet-meet.ensures.value s l.invariant.handed.0) in
+    rw c.from_residual.ensures (pairs-over a.first.now a.second.now a.i a.near.now l.j-index (omega arith) meet l.invariant.wrote c.in_err-c.ensures)

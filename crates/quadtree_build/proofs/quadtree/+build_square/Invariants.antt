@@ -2,6 +2,7 @@
 use mathlib.Core.List.{flat_map}
 use Prim.Native.Nat.{◌-◌}
 use lib.ListN.{take}
+use Rattle.std.proofs.Common.{Some}
 use Rattle.spec_squares.specs.Square.{depth, quarters}
 use Rattle.spec_charts.specs.Cells.{entries_in}
 use Rattle.quadtree_stopping.specs.Stopping.{corner_table}
@@ -13,4 +14,4 @@ decreases-build_square l = depth - l.s.square.level
 
 abbrev pub invariant-loop-k : goal.invariant-loop-k
 invariant-loop-k l =
-    Built (flat_map (λ x. entries_in (corner_table l.corners) x) (take l.k (quarters l.s.square))) l.most l.at l.next l.top l.initial.out l.out l.initial.stack l.stack
+    Built (flat_map (λ x. entries_in (corner_table l.shapes.corners.now) x) (take l.k (quarters l.s.square))) l.most l.at (Some l.next) l.top l.initial.out l.out l.initial.stack l.stack

@@ -1,10 +1,8 @@
 -- The numbers below i are stored.
 use mathlib.Core.Path.{refl, sym, ◌∙◌, ap}
 use mathlib.Core.List.{[], ◌∷◌}
-use native.Mathlib.Nat.{zero-add}
 use native.Mathlib.Numerals.{add-one}
 use native.Mathlib.Omega.{arith}
-use lib.ListN.{length}
 use lib.Seq.{sets}
 use Rattle.theory_lists.specs.Lists.{up_to, count_from}
 use Rattle.theory_lists.proofs.ListsLaws.{sets-join}
@@ -13,16 +11,12 @@ use Rattle.quadtree_cells.proofs.candidates.put_numbers.Goals as goal
 
 pub loop-i-init : goal.loop-i-init
 unfolding up_to count_from
-loop-i-init c =
-    (omega arith, refl)
+loop-i-init c = refl
 
 pub loop-i-preserved : goal.loop-i-preserved
 loop-i-preserved c =
     let l = c.args.stack.now in
-    let i = c.loop-i.i in (
-      omega arith,
-      ap (λ x. sets x i (i ∷ [])) c.loop-i.invariant.1
-          ∙ sets-join l 0 i (up_to i) (i ∷ []) (sym (zero-add (length (up_to i)) ∙ up_to-length i))
-          ∙ ap (sets l 0) (sym (up_to-suc i))
-          ∙ ap (λ m. sets l 0 (up_to m)) (sym (add-one i)),
-    )
+    let i = c.loop-i.i in
+    ap (λ x. sets x i (i ∷ [])) c.loop-i.invariant
+    ∙ sets-join l 0 i (up_to i) (i ∷ []) (omega (arith, up_to-length i))
+    ∙ ap (sets l 0) (sym (up_to-suc i) ∙ ap up_to (sym (add-one i)))

@@ -1,12 +1,8 @@
 -- The numbers below i are stored.
 use mathlib.Core.Path.{◌≡◌}
-use Prim.Native.Nat.{◌-◌, ◌≤◌}
 use lib.Seq.{sets}
 use Rattle.theory_lists.specs.Lists.{up_to}
 use Rattle.quadtree_cells.proofs.candidates.put_numbers.Given as goal
 
 abbrev pub invariant-loop-i : goal.invariant-loop-i
-invariant-loop-i l = (l.i ≤ l.n) × (l.stack ≡ sets l.initial.stack 0 (up_to l.i))
-
-abbrev pub decreases-loop-i : goal.decreases-loop-i
-decreases-loop-i l = l.n - l.i
+invariant-loop-i l = l.stack ≡ sets l.initial.stack 0 (up_to l.i)

@@ -1,27 +1,24 @@
-use mathlib.Core.Path.{refl, ap}
+use mathlib.Core.Path.{◌≡◌, refl, ap}
 use Prim.Native.Nat.{◌<◌}
 use native.Mathlib.Omega.{arith}
+use lib.ListN.{length, set}
 use borrow.Author.Rules.{rules}
-use lib.ListN.{set}
-use Rattle.quadtree_cells.proofs.LeafLaws.{cell-length, cell-empty, cell-items}
+use Rattle.quadtree_cells.proofs.LeafLaws.{mark-none, mark-some, mark-length}
 use Rattle.quadtree_cells.proofs.leaves.put_cell.Goals as goal
 
 pub bounds-out-at : goal.bounds-out-at
-bounds-out-at c =
-    omega (arith, cell-length c.args.from c.args.to c.args.stack.now (search rules))
+bounds-out-at c = omega (arith, mark-length c.args.items.now)
 
-pub returns-then-from-to : goal.returns-then-from-to
-returns-then-from-to c =
+pub returns-then-is_empty : goal.returns-then-is_empty
+returns-then-is_empty c =
     let a = c.args in
-    let m = cell-empty a.from a.to a.stack.now (search rules) c.if-from-to.true in
-    (rw m refl, rw m (ap (set a.out.now a.at) c.marked.ensures))
+    let none : length a.items.now ≡ 0 = search rules in
+    rw (mark-none a.items.now none) (refl, ap (set a.out.now a.at) c.marked.ensures)
 
 pub put_candidates-requires : goal.put_candidates-requires
-put_candidates-requires c =
-    omega (arith, cell-length c.args.from c.args.to c.args.stack.now (search rules))
+put_candidates-requires c = omega (arith, mark-length c.args.items.now)
 
 pub returns : goal.returns
 returns c =
-    let a = c.args in
-    let some : a.from < a.to = omega arith in
-    (omega (arith, cell-length c.args.from c.args.to c.args.stack.now (search rules)), rw (cell-items a.from a.to a.stack.now (search rules) some) c.put_candidates.ensures)
+    let some : 0 < length c.args.items.now = search rules in
+    rw (mark-some c.args.items.now some) (refl, c.put_candidates.ensures)

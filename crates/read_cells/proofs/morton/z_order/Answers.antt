@@ -4,5 +4,5 @@ use Rattle.read_cells.proofs.morton.z_order.Goals as goal
 
 pub returns : goal.returns
 returns c =
-    rw (c.interleaved.ensures.0, c.interleaved-2.ensures.0)
+    rw (c.interleaved.ensures.0, c.interleaved-2.ensures.0, c.from-x.ensures, c.from-y.ensures)
     (z_order-bytes c.args.p)

@@ -1,2 +1,0 @@
-pub mod ZeroLaws
-pub mod CopyLaws

@@ -1,6 +1,0 @@
-use Rattle.quadtree_stopping.proofs.CoordinateLaws.{triangle-kept}
-use Rattle.quadtree_stopping.proofs.corners_at.Goals as goal
-
-pub returns : goal.returns
-returns c =
-    triangle-kept c.args.corners.now c.args.i
