@@ -17,9 +17,12 @@ that does not fit can also come from a proof that no longer fits its code, so be
 keywords and types of the code, each as often as before, and changes operands alone: constants, variables, fields, enum variants. A
 comparison may become strict or not strict (< and <=, > and >=). It may become another comparison where a goal is open that the
 prover decides by numbers (`omega`, `search`). An edit with other operators says with what operands its crate is proved: a line
-`# proved with: TEXT` for its last `new:` text, with the same operators."""
+`# proved with: TEXT` for its last `new:` text, with the same operators.
+
+Sums: src/ has no `wrapping_` and no `overflowing_`, since no sum of the code may wrap."""
 
 import collections
+import glob
 import os
 import re
 import sys
@@ -213,8 +216,16 @@ def judge_edits(text):
     return len(labels)
 
 
+def judge_sums():
+    """No sum of the code may wrap, nor tell that it did: the library's words for that stand nowhere in src/."""
+    for path in glob.glob(os.path.join(ROOT, "crates", "*", "src", "**", "*.rt"), recursive=True):
+        for word in re.findall(r"\b(?:wrapping|overflowing)_\w+", read(path)):
+            faults.append(f"{os.path.relpath(path, ROOT)}: {word}, by which a sum may wrap; checked_ or saturating_ say what is meant")
+
+
 def main():
     text = read(sys.argv[1])
+    judge_sums()
     proved, tried = judge_crates(text), judge_edits(text)
     if not proved or not tried:
         faults.append(f"{proved} crates, {tried} must-fail edits")

@@ -10,7 +10,7 @@ use Rattle.spec_charts.specs.Refusals.{refused, done}
 use Rattle.spec_charts.proofs.RefusalsExamples.{rows}
 use Rattle.spec_calls.specs.Buffers.{chart_of}
 use Rattle.spec_calls.specs.Calls as Calls
-use Rattle.base_answers.specs.Outcomes.{outcome_of, answered, located_outcome, located_position, located_of, found_number, is_found, soundness_of, area_of, windowed_of, overlaid_of}
+use Rattle.base_answers.specs.Outcomes.{outcome_of, answered, located_outcome, located_position, located_of, found_number, is_found, soundness_of, area_of, windowed_row, windowed_of, overlaid_row, overlaid_of}
 use Rattle.std.specs.Prelude.{Bool, ℕ, Result, Ok, Err, Some, None}
 use Rattle.std.specs.Prelude.{Option as Std·Option}
 use Rattle.spec_charts.specs.declared.Refusal.{Refusal}
@@ -123,23 +123,41 @@ area-example = refl
 
 -- Window
 
--- the number, how many are listed and the list, each in its place; nothing is listed at a refusal
+-- the number, how many are listed and the list, each in its place
 windowed-example :
+    map (λ o. windowed_row {A = ℕ} o 3 (1 ∷ 2 ∷ [])) (done 3 ∷ refused BrokenChain ∷ refused EmptyWindow ∷ [])
+    ≡ record { number = 0; listed = 3; list = 1 ∷ 2 ∷ [] }
+    ∷ record { number = 2; listed = 3; list = 1 ∷ 2 ∷ [] }
+    ∷ record { number = 15; listed = 3; list = 1 ∷ 2 ∷ [] }
+    ∷ []
+windowed-example = refl
+
+-- and of an answer: nothing is listed at a refusal
+windowed-answer-example :
     map (λ v. windowed_of v (1 ∷ 2 ∷ [])) (Ok 3 ∷ Err BrokenChain ∷ Err EmptyWindow ∷ [])
     ≡ record { number = 0; listed = 3; list = 1 ∷ 2 ∷ [] }
     ∷ record { number = 2; listed = 0; list = 1 ∷ 2 ∷ [] }
     ∷ record { number = 15; listed = 0; list = 1 ∷ 2 ∷ [] }
     ∷ []
-windowed-example = refl
+windowed-answer-example = refl
 
 -- Overlay
 
--- the number, the counts and the list, each in its place; the counts are 0 at a refusal
+-- the number, the counts and the list, each in its place
 overlaid-example :
+    map (λ o. overlaid_row {A = ℕ} o (record { pairs = 3; meetings = 8 }) (1 ∷ 2 ∷ [])) (done 3 ∷ refused BrokenChain ∷ refused TooManyPairs ∷ [])
+    ≡ record { number = 0; pair_count = 3; meets = 8; pairs = 1 ∷ 2 ∷ [] }
+    ∷ record { number = 2; pair_count = 3; meets = 8; pairs = 1 ∷ 2 ∷ [] }
+    ∷ record { number = 12; pair_count = 3; meets = 8; pairs = 1 ∷ 2 ∷ [] }
+    ∷ []
+overlaid-example = refl
+
+-- and of an answer: the counts are 0 at a refusal
+overlaid-answer-example :
     map (λ v. overlaid_of v (1 ∷ 2 ∷ []))
     (Ok (record { pairs = 3; meetings = 8 }) ∷ Err BrokenChain ∷ Err TooManyPairs ∷ [])
     ≡ record { number = 0; pair_count = 3; meets = 8; pairs = 1 ∷ 2 ∷ [] }
     ∷ record { number = 2; pair_count = 0; meets = 0; pairs = 1 ∷ 2 ∷ [] }
     ∷ record { number = 12; pair_count = 0; meets = 0; pairs = 1 ∷ 2 ∷ [] }
     ∷ []
-overlaid-example = refl
+overlaid-answer-example = refl

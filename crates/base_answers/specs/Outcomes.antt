@@ -56,9 +56,13 @@ soundness_of r = record { number = outcome_number (outcome_of r); is_sound = don
 abbrev pub area_of : Result ℕ Refusal → Calls.Area
 area_of r = record { number = outcome_number (outcome_of r); area = done_or 0 (outcome_of r) }
 
--- all that a window gives back: number, how many are listed, and the list
+-- all that a window gives back, each in its place: number, how many are listed, and the list
+abbrev pub windowed_row : {A : Type 0} → Outcome A → ℕ → List ℕ → Calls.Windowed
+windowed_row o listed list = record { number = outcome_number o; listed = listed; list = list }
+
+-- the same of an answer: none is listed at a refusal
 abbrev pub windowed_of : Result ℕ Refusal → List ℕ → Calls.Windowed
-windowed_of r list = record { number = outcome_number (outcome_of r); listed = done_or 0 (outcome_of r); list = list }
+windowed_of r list = windowed_row (outcome_of r) (done_or 0 (outcome_of r)) list
 
 -- the same of the list that was lent, as the window leaves it
 abbrev pub left_list : Lent → Result ℕ Refusal → Calls.Windowed
@@ -68,14 +72,18 @@ left_list list r = windowed_of r list.exit.now
 abbrev pub overlay_counts : Result Overlaid Refusal → Overlaid
 overlay_counts r = done_or (record { pairs = 0; meetings = 0 }) (outcome_of r)
 
--- all that an overlay gives back: number, counts and pairs
-abbrev pub overlaid_of : Result Overlaid Refusal → List ℕ → Calls.Overlaid
-overlaid_of r pairs = record {
-  number = outcome_number (outcome_of r);
-  pair_count = (overlay_counts r).pairs;
-  meets = (overlay_counts r).meetings;
+-- all that an overlay gives back, each in its place: number, counts and pairs
+abbrev pub overlaid_row : {A : Type 0} → Outcome A → Overlaid → List ℕ → Calls.Overlaid
+overlaid_row o counts pairs = record {
+  number = outcome_number o;
+  pair_count = counts.pairs;
+  meets = counts.meetings;
   pairs = pairs;
 }
+
+-- the same of an answer
+abbrev pub overlaid_of : Result Overlaid Refusal → List ℕ → Calls.Overlaid
+overlaid_of r pairs = overlaid_row (outcome_of r) (overlay_counts r) pairs
 
 -- the same of the pairs list that was lent, as the overlay leaves it
 abbrev pub left_pairs : Lent → Result Overlaid Refusal → Calls.Overlaid

@@ -17,7 +17,7 @@ use Rattle.laws_separation.proofs.BoxLaws.{Separate, separate-disjoint}
 use Rattle.spec_charts.specs.Table.{triangle_at}
 use Rattle.laws_charts.proofs.ProperLaws.{proper-at, proper-fewer}
 use Rattle.base_boxes.specs.declared.boxes.BoxTable.{BoxTable}
-use Rattle.base_boxes.specs.Boxes.{separate, box_at, Stored, Boxes, BoxedTable}
+use Rattle.base_boxes.specs.Boxes.{separate, box_at, Places, Stored, Boxes, BoxedTable}
 
 -- what the test of two boxes decides
 separate-reflects : (b d : Box) → Reflects (separate b d) (Separate b d)
@@ -26,6 +26,15 @@ separate-reflects b d =
     (reflects-or (reflects-or (reflects-leb b.right d.left) (reflects-leb d.right b.left))
     (reflects-leb b.bottom d.top))
     (reflects-leb d.bottom b.top)
+
+-- lists with n places have fewer
+pub places-fewer : (ls ts rs bs : List ℕ) (m n : ℕ) → m ≤ n → Places ls ts rs bs n → Places ls ts rs bs m
+places-fewer ls ts rs bs m n h p = record {
+  left = omega (arith, p.left);
+  top = omega (arith, p.top);
+  right = omega (arith, p.right);
+  bottom = omega (arith, p.bottom);
+}
 
 -- what holds of the first n triangles holds of fewer
 pub boxed-fewer : (table : List ℕ) (held : BoxTable) (m n : ℕ) → m ≤ n → BoxedTable table held n → BoxedTable table held m
@@ -58,6 +67,10 @@ stored held d i p q r s = record {
   here = rw (get_or-set_same held.lefts i d.left 0 p, get_or-set_same held.tops i d.top 0 q, get_or-set_same held.rights i d.right 0 r, get_or-set_same held.bottoms i d.bottom 0 s) refl;
   others = λ k n. rw (get_or-set_other held.lefts i k d.left 0 n, get_or-set_other held.tops i k d.top 0 n, get_or-set_other held.rights i k d.right 0 n, get_or-set_other held.bottoms i k d.bottom 0 n) refl;
 }
+
+-- before the first box
+pub boxes-none : (table : List ℕ) (held : BoxTable) → Boxes table held 0
+boxes-none table held k h = absurd (omega arith)
 
 -- one box more
 pub boxes-more : (table : List ℕ) (i : ℕ) {before after : BoxTable} → Boxes table before i → Stored (triangle_box (triangle_at table i)) i before after

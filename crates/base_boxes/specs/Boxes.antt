@@ -1,6 +1,8 @@
 -- Bounding boxes, one place for each triangle of a table, and when two boxes are separate.
 -- Assumes nothing.
 use Rattle.std.specs.Prelude.{◌≡◌, Bool, true, not, ◌||◌, List, ℕ, ◌*◌, ◌≤◌, ◌<◌, leb, length, get_or}
+use Rattle.std.specs.Borrow.{Bor}
+use denote.Triple.Both.{Both}
 use Rattle.theory_lists.specs.Lists.{all}
 use Rattle.spec_plane.specs.Triangle.{proper}
 use Rattle.spec_plane.specs.Box.{Box, triangle_box}
@@ -11,6 +13,26 @@ use Rattle.base_boxes.specs.declared.boxes.BoxTable.{BoxTable}
 abbrev pub separate : Box → Box → Bool
 separate b d =
     leb b.right d.left || leb d.right b.left || leb b.bottom d.top || leb d.bottom b.top
+
+-- the box at place i of four lists
+abbrev pub box_of : List ℕ → List ℕ → List ℕ → List ℕ → ℕ → Box
+box_of lefts tops rights bottoms i =
+    record { left = get_or lefts i 0; top = get_or tops i 0; right = get_or rights i 0; bottom = get_or bottoms i 0 }
+
+-- the boxes of four lists that a caller lends, at one moment
+abbrev pub boxes_held : Bor (List ℕ) → Bor (List ℕ) → Bor (List ℕ) → Bor (List ℕ) → ℕ → Box
+boxes_held lefts tops rights bottoms = box_of lefts.now tops.now rights.now bottoms.now
+
+-- and at entry
+abbrev pub boxes_given : Both (Bor (List ℕ)) (Bor (List ℕ)) → Both (Bor (List ℕ)) (Bor (List ℕ)) → Both (Bor (List ℕ)) (Bor (List ℕ)) → Both (Bor (List ℕ)) (Bor (List ℕ)) → ℕ → Box
+boxes_given lefts tops rights bottoms = boxes_held lefts.entry tops.entry rights.entry bottoms.entry
+
+-- four lists have at least n places
+pub record Places (lefts tops rights bottoms : List ℕ) (n : ℕ) : Type 0 where
+  pub left : n ≤ length lefts
+  pub top : n ≤ length tops
+  pub right : n ≤ length rights
+  pub bottom : n ≤ length bottoms
 
 -- the box at place i
 abbrev pub box_at : BoxTable → ℕ → Box

@@ -5,7 +5,7 @@ ghost use Rattle.std.specs.Prelude.{◌≡◌, ◌||◌, cond, ◌+◌, ◌*◌,
 ghost use Rattle.spec_plane.specs.Box.{triangle_box};
 ghost use Rattle.spec_charts.specs.Table.{numbers_per_triangle, max_triangles, triangle_at};
 ghost use Rattle.base_geometry.specs.Bounds.{bounds_box};
-ghost use Rattle.base_boxes.specs.Boxes.{separate, box_at, Boxable, Stored, Boxes};
+ghost use Rattle.base_boxes.specs.Boxes.{separate, box_at, boxes_given, Places, Boxable, Stored, Boxes};
 
 use base_geometry::bounds;
 use base_geometry::bounds::Bounds;
@@ -26,6 +26,21 @@ pub fn triangle_box(table: &[u16], i: usize) -> Bounds
     ensures { bounds_box result ≡ triangle_box (triangle_at table.now i) }
 {
     bounds::triangle_bounds(base_tables::triangle_at(table, i))
+}
+
+// A box and the one at place j of four lists have no more than a border in common.
+pub fn is_separate(
+    b: Bounds,
+    lefts: &[u16],
+    tops: &[u16],
+    rights: &[u16],
+    bottoms: &[u16],
+    j: usize,
+) -> bool
+    requires { Places lefts.now tops.now rights.now bottoms.now (j + 1) }
+    ensures { result ≡ separate (bounds_box b) (boxes_given lefts tops rights bottoms j) }
+{
+    (b.right <= lefts[j]) | (rights[j] <= b.left) | (b.bottom <= tops[j]) | (bottoms[j] <= b.top)
 }
 
 impl BoxTable {
@@ -64,10 +79,7 @@ impl BoxTable {
         requires { j < max_triangles }
         ensures { result ≡ separate (bounds_box b) (box_at self.now j) }
     {
-        (b.right <= self.lefts[j])
-            | (self.rights[j] <= b.left)
-            | (b.bottom <= self.tops[j])
-            | (self.bottoms[j] <= b.top)
+        is_separate(b, &self.lefts, &self.tops, &self.rights, &self.bottoms, j)
     }
 
     // Place j, appended to the first c of the list where j is below m and the box there overlaps b: it is stored in any case, so that there

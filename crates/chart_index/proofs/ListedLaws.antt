@@ -1,6 +1,6 @@
 -- What building a table leaves in the three lists, by the limit that it had.
 -- Assumes nothing.
-use mathlib.Core.Path.{◌≡◌, ◌∙◌, ap}
+use mathlib.Core.Path.{◌≡◌, ◌∙◌, ap, subst}
 use mathlib.Core.List.{List, map}
 use Prim.Native.Nat.{ℕ, ◌≤◌, ◌<◌}
 use native.Mathlib.Omega.{arith}
@@ -10,7 +10,7 @@ use Rattle.theory_orthtree.specs.Entries.{Entry}
 use Rattle.spec_charts.specs.Cells.{max_entries}
 use Rattle.spec_calls.specs.Buffers.{padded}
 use Rattle.base_entries.specs.Packed.{key_of, level_of, item_of}
-use Rattle.std.proofs.Common.{Some, None}
+use Rattle.std.proofs.Common.{Option, Some, None}
 use Rattle.chart_lists.specs.Columns.{Columns, unpacked, Filled}
 use Rattle.chart_index.specs.Lists.{ListedWithin}
 use Rattle.base_entries.proofs.PackLaws.{Packable, keys-packed, levels-packed, items-packed}
@@ -44,3 +44,29 @@ listed-count l = count-given l.fits l.over
 -- and do not where none is
 pub listed-many : {most : ℕ} {es : List Entry} {ks ks' ls ls' is is' : List ℕ} → ListedWithin most es None ks ks' ls ls' is is' → most < length es
 listed-many l = none-given l.fits
+
+-- entries within a limit are within a larger one
+pub listed_more : {most more : ℕ} {es : List Entry} {m : ℕ} {ks ks' ls ls' is is' : List ℕ} → most ≤ more
+    → ListedWithin most es (Some m) ks ks' ls ls' is is' → ListedWithin more es (Some m) ks ks' ls ls' is is'
+listed_more {most} {more} {es} h l =
+    let few = (listed-count l).0 in
+    let no : more < length es → ⊥ = λ o. omega arith in
+    record {
+      fits = λ g. l.fits few;
+      fits_keys = λ g. l.fits_keys few;
+      fits_levels = λ g. l.fits_levels few;
+      fits_items = λ g. l.fits_items few;
+      over = λ o. absurd (no o);
+      over_keys = λ o. absurd (no o);
+      over_levels = λ o. absurd (no o);
+      over_items = λ o. absurd (no o);
+    }
+
+-- too many entries leave the lists as they were, so another building starts from these
+pub listed-again : {most more : ℕ} {es : List Entry} {r : Option ℕ} {ks ks' ks'' ls ls' ls'' is is' is'' : List ℕ}
+    → ListedWithin most es None ks ks' ls ls' is is' → ListedWithin more es r ks' ks'' ls' ls'' is' is'' → ListedWithin more es r ks ks'' ls ls'' is is''
+listed-again {most} {more} {es} {r} {ks} {ks'} {ks''} {ls} {ls'} {ls''} {is} {is'} {is''} l n =
+    let many = listed-many l in
+    subst (λ x. ListedWithin more es r x ks'' ls ls'' is is'') (l.over_keys many)
+    (subst (λ x. ListedWithin more es r ks' ks'' x ls'' is is'') (l.over_levels many)
+    (subst (λ x. ListedWithin more es r ks' ks'' ls' ls'' x is'') (l.over_items many) n))

@@ -3,11 +3,12 @@
 -- Assumes nothing.
 use mathlib.Core.Path.{◌≡◌, sym, ◌∙◌, ap, subst}
 use Prim.Native.Nat.{ℕ, ◌+◌, ◌-◌, ◌*◌, ◌%◌, ◌^◌, ◌≤◌, ◌<◌}
+use native.Mathlib.Nat.{mod_self}
 use native.Mathlib.Decide.{dec_le}
 use native.Mathlib.Omega.{arith}
 use Rattle.std.proofs.Common.{Option, Some, None, SomeIff}
 use Rattle.std.specs.Option.{unwrap_or}
-use lib.Bits.{bit_and, bit_or, and_mask, or_disjoint}
+use lib.Bits.{bit_and, bit_or, bit_xor, and_mask, or_disjoint, xor_add_and}
 use lib.Dec.{T, eqb}
 use Rattle.theory_lists.specs.Lists.{all, count_from, up_to}
 use Rattle.theory_lists.proofs.Reflects.{reflects-eqb}
@@ -25,22 +26,29 @@ span-power l h =
     (reflects-eqb (span arity depth l) (2 ^ (2 * (16 - l)))).to
     ((all-below-reflects (λ i. eqb (span arity depth i) (2 ^ (2 * (16 - i)))) 17).to every-span l (omega arith))
 
--- the span of a level below the first, as code gets it by a shift, is less than 2^32
-every-shift : T (all (λ k. eqb (((1 * 2 ^ (32 - 2 * (k + 1))) % 2 ^ 32 + 4294967295) % 4294967296 + 1) (span arity depth (k + 1))) (up_to 16))
+-- the ones above the mask of a level but the first, as code gets them by a shift
+every-shift : T (all (λ k. eqb (4294967295 - (4294967295 * 2 ^ (32 - 2 * (k + 1))) % 2 ^ 32 + 1) (span arity depth (k + 1))) (up_to 16))
 unfolding all up_to count_from span
 every-shift = tt
 
--- one less than it, where a span of 2^32 counts as 0
-pub span-less : (l : ℕ) (o : Option ℕ) → l ≤ depth → SomeIff o (32 - 2 * l < 32) ((1 * 2 ^ (32 - 2 * l)) % 2 ^ 32)
-    → (unwrap_or o 0 + 4294967295) % 4294967296 + 1 ≡ span arity depth l
+-- what is not among them is the mask, at the first level too, where the shift gives nothing
+pub span-less : (l : ℕ) (o : Option ℕ) → l ≤ depth → SomeIff o (32 - 2 * l < 32) ((4294967295 * 2 ^ (32 - 2 * l)) % 2 ^ 32)
+    → 4294967295 - unwrap_or o 0 + 1 ≡ span arity depth l
 span-less l None h n =
     let z : 0 ≡ l = elim (dec_le l 0) [ yes g ↦ omega arith | no g ↦ absurd (n (omega arith)) ] in
     subst (λ k. 4294967296 ≡ span arity depth k) z (sym (span-power 0 (omega arith)))
 span-less l (Some x) h s =
     let q : l - 1 + 1 ≡ l = omega (arith, s.0) in
-    let e = (reflects-eqb _ _).to ((all-below-reflects (λ k. eqb (((1 * 2 ^ (32 - 2 * (k + 1))) % 2 ^ 32 + 4294967295) % 4294967296 + 1) (span arity depth (k + 1))) 16).to every-shift (l - 1) (omega arith)) in
-    ap (λ y. (y + 4294967295) % 4294967296 + 1) s.1
-    ∙ subst (λ k. ((1 * 2 ^ (32 - 2 * k)) % 2 ^ 32 + 4294967295) % 4294967296 + 1 ≡ span arity depth k) q e
+    let e = (reflects-eqb _ _).to ((all-below-reflects (λ k. eqb (4294967295 - (4294967295 * 2 ^ (32 - 2 * (k + 1))) % 2 ^ 32 + 1) (span arity depth (k + 1))) 16).to every-shift (l - 1) (omega arith)) in
+    ap (λ y. 4294967295 - y + 1) s.1
+    ∙ subst (λ k. 4294967295 - (4294967295 * 2 ^ (32 - 2 * k)) % 2 ^ 32 + 1 ≡ span arity depth k) q e
+
+-- "xor" of a power of two and one less is one less than the next power
+pub xor_below : (h k : ℕ) → 1 ≤ h → h ≡ 2 ^ k → bit_xor h (h - 1) + 1 ≡ h + h
+xor_below h k p e =
+    let z : bit_and h (h - 1) ≡ 0 = ap (λ s. bit_and h (s - 1)) e ∙ and_mask h k ∙ ap (λ s. h % s) (sym e) ∙ mod_self h in
+    let x = xor_add_and h (h - 1) in
+    omega arith
 
 -- "and" with the mask is the remainder
 pub and-span : (k l m : ℕ) → l ≤ depth → m + 1 ≡ span arity depth l → bit_and k m ≡ k % span arity depth l

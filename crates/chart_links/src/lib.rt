@@ -13,17 +13,15 @@ use base_entries::MARK;
 pub fn count_for(item: u16) -> u16
     ensures { (count : ℕ) → leb result count ≡ item_fits count item }
 {
-    item.wrapping_add(1)
+    item.checked_add(1).unwrap_or(0)
 }
 
-// The keys that a square of this level covers, less one: ones in the bits that its own key does not use. A u32 has no room for the 2^32 keys
-// of level 0, which count as 0 here.
+// The keys that a square of this level covers, less one: ones in the bits that its own key does not use, which are none at level 16.
 pub fn low_bits(level: u8) -> u32
     requires { level ≤ depth }
     ensures { result + 1 ≡ span arity depth level }
 {
-    let span = 1u32.checked_shl(32 - 2 * u32::from(level)).unwrap_or(0);
-    span.wrapping_sub(1)
+    !u32::MAX.checked_shl(32 - 2 * u32::from(level)).unwrap_or(0)
 }
 
 // An entry with this key and level is aligned, and its square is the last.

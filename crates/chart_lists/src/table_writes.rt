@@ -9,6 +9,8 @@ pub fn put_table(given: &[u16], n: usize, table: &mut [u16])
     requires { (n ≤ length given.now) × ((n ≤ table_length) × (table_length ≤ length table.old)) }
     ensures { table.new ≡ padded table_length (take n given.now) table.old }
 {
-    table[..n].copy_from_slice(&given[..n]);
+    for (i, x) in given[..n].iter().enumerate() {
+        table[i] = *x;
+    }
     table[n..base_tables::TABLE_NUMBERS].fill(0);
 }

@@ -4,6 +4,7 @@ use mathlib.Core.Path.{◌≡◌, refl, sym, ◌∙◌, ap, ap₂, subst}
 use mathlib.Core.Bool.{Bool, true, false}
 use mathlib.Core.List.{List, [], ◌∷◌, ◌++◌, append-nil, flat_map}
 use Prim.Native.Nat.{ℕ, zero, suc, ◌+◌, ◌-◌, ◌*◌, ◌/◌, ◌%◌, ◌^◌, ◌≤◌, ◌<◌}
+use native.Mathlib.Nat.{pow-suc}
 use native.Mathlib.Numerals.{add-one}
 use native.Mathlib.Omega.{arith}
 use borrow.Rule.Slice.PartMut.{put_mid}
@@ -12,7 +13,7 @@ use lib.Dec.{ltb}
 use lib.ListN.{length, get_or, take, drop, set, length-set, length-append, take-append-drop, get_or-append}
 use lib.Seq.{sets, length-sets, take-suc, take_all, take-length}
 use Rattle.std.specs.Fmt.{decimal as Fmt·decimal}
-use Rattle.std.proofs.lemmas.Fmt.{decimal_by_steps, length-decimal-le}
+use Rattle.std.proofs.lemmas.Fmt.{decimal_by_steps}
 use Rattle.std.proofs.lemmas.List.Edits.{sets-eq}
 use Rattle.std.proofs.lemmas.Slice.{put_mid-paste}
 use Rattle.theory_lists.proofs.ListsLaws.{Every, every-uncons, get_or-stride, sets-join}
@@ -44,11 +45,11 @@ digits-fuel (suc k) (suc m) n h l = go (digits-fuel k m (n / 10)) (ltb n 10) ref
         let g = ltb-false n 10 e in
         digits_more k n g ∙ ap (λ d. d ++ ((48 + n % 10) ∷ [])) (same (omega arith) (omega arith)) ∙ sym (digits_more m n g)
 
-decimal-one : (n : ℕ) → n < 10 → decimal n ≡ (48 + n) ∷ []
+pub decimal-one : (n : ℕ) → n < 10 → decimal n ≡ (48 + n) ∷ []
 unfolding decimal
 decimal-one n h = digits-one n n h
 
-decimal-more : (n : ℕ) → 10 ≤ n → decimal n ≡ decimal (n / 10) ++ ((48 + n % 10) ∷ [])
+pub decimal-more : (n : ℕ) → 10 ≤ n → decimal n ≡ decimal (n / 10) ++ ((48 + n % 10) ∷ [])
 unfolding decimal
 decimal-more zero h = absurd (omega arith)
 decimal-more (suc n) h =
@@ -66,8 +67,15 @@ pub text-decimal : {n : ℕ} {text bytes : List ℕ} → n < 2 ^ 64 → text ≡
 text-decimal {n} h e f = f ∙ e ∙ decimal-same n h
 
 -- below 10 ^ k there are at most k digits
-decimal-short : (k n : ℕ) → n < 10 ^ suc k → n < 2 ^ 64 → length (decimal n) ≤ suc k
-decimal-short k n h l = subst (λ d. length d ≤ suc k) (decimal-same n l) (length-decimal-le (suc k) n (omega arith) h l)
+pub decimal-short : (k n : ℕ) → n < 10 ^ suc k → length (decimal n) ≤ suc k
+decimal-short zero n h = rw (decimal-one n (omega arith)) (omega arith)
+decimal-short (suc k) n h = go (decimal-short k (n / 10)) (ltb n 10) refl
+  where
+    go : (n / 10 < 10 ^ suc k → length (decimal (n / 10)) ≤ suc k) → (b : Bool) → ltb n 10 ≡ b → length (decimal n) ≤ suc (suc k)
+    go shorter true e = rw (decimal-one n (ltb-true n 10 e)) (omega arith)
+    go shorter false e =
+        let l = shorter (omega (arith, pow-suc 10 (suc k))) in
+        rw (decimal-more n (ltb-false n 10 e)) (omega (arith, length-append (decimal (n / 10)) ((48 + n % 10) ∷ [])))
 
 -- ---- bytes
 
@@ -160,18 +168,18 @@ spaced-short : (l : List ℕ) → Every (λ n. n < 2 ^ 64) l → length (spaced 
 unfolding spaced flat_map
 spaced-short [] h = omega arith
 spaced-short (n ∷ l) h =
-    let d = decimal-short 19 n (omega (arith, (every-uncons h).0)) (omega (arith, (every-uncons h).0)) in
+    let d = decimal-short 19 n (omega (arith, (every-uncons h).0)) in
     omega (arith, length-append (32 ∷ decimal n) (flat_map (λ n. 32 ∷ decimal n) l), spaced-short l (every-uncons h).1)
 
 pub line-short : (n : ℕ) (l : List ℕ) → n < 2 ^ 64 → Every (λ m. m < 2 ^ 64) l → length (line n l) ≤ 21 + 21 * length l
-line-short n l h s = omega (arith, line-length n l, decimal-short 19 n (omega arith) h, spaced-short l s)
+line-short n l h s = omega (arith, line-length n l, decimal-short 19 n (omega arith), spaced-short l s)
 
 -- the line of two 16-bit numbers has at most twelve bytes
 pub pair-short : (i j : ℕ) → i < 65536 → j < 65536 → length (line i (j ∷ [])) ≤ pair_bytes
 unfolding spaced flat_map
 pair-short i j h k =
     let one : length (spaced (j ∷ [])) ≡ suc (length (decimal j)) = ap length (append-nil (32 ∷ decimal j)) in
-    omega (arith, line-length i (j ∷ []), decimal-short 4 i (omega arith) (omega arith), decimal-short 4 j (omega arith) (omega arith), one)
+    omega (arith, line-length i (j ∷ []), decimal-short 4 i (omega arith), decimal-short 4 j (omega arith), one)
 
 -- the heading is this byte string
 pub heading-is : 111 ∷ 118 ∷ 101 ∷ 114 ∷ 108 ∷ 97 ∷ 121 ∷ 32 ∷ 108 ∷ 111 ∷ 103 ∷ 10 ∷ [] ≡ heading
@@ -189,7 +197,7 @@ unfolding bad_line
 bad-length n = omega (arith, length-append (decimal n) (10 ∷ []))
 
 pub bad-short : (n : ℕ) → n < 2 ^ 64 → length (bad_line n) ≤ 25
-bad-short n h = omega (arith, bad-length n, decimal-short 19 n (omega arith) h)
+bad-short n h = omega (arith, bad-length n, decimal-short 19 n (omega arith))
 
 -- ---- the lines of pairs
 

@@ -27,6 +27,10 @@ pub wrote_none : (at : ℕ) (l : List ℕ) → at ≤ max_pairs → Wrote [] at 
 unfolding pair_numbers flat_map
 wrote_none at l h = record { count = (omega arith, h); stored = λ g. refl; beyond = refl; kept = refl }
 
+-- too many already
+pub wrote-already : (ps : List Pair) (at : ℕ) (l : List ℕ) → max_pairs < at → Wrote ps at None l l
+wrote-already ps at l h = record { count = omega arith; stored = λ g. absurd (omega arith); beyond = refl; kept = refl }
+
 -- one pair
 pub wrote_one : (p : Pair) (at : ℕ) (l : List ℕ) → at < max_pairs → Wrote (p ∷ []) at (Some (at + 1)) l (set (set l (2 * at) p.i) (2 * at + 1) p.j)
 unfolding pair_numbers flat_map

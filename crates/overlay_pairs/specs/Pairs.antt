@@ -51,9 +51,9 @@ pub record TriangleIn (table : List ℕ) (i : ℕ) : Type 0 where
 abbrev pub NearTriangles : List ℕ → List ℕ → Type 0
 NearTriangles table near = (k : ℕ) → k < length near → TriangleIn table (get_or near k 0)
 
--- a list has room for all pairs, and those found so far are no more than may be
+-- a list has room for all pairs, and those found so far are at most one more than may be
 pub record PairsRoom (found : ℕ) (pairs : List ℕ) : Type 0 where
-  pub few : found ≤ max_pairs
+  pub few : found ≤ max_pairs + 1
   pub room : pairs_length ≤ length pairs
 
 -- the triangles of the second table with their boxes, and where candidates are found and listed

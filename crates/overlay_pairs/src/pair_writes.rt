@@ -1,5 +1,8 @@
 // Pairs of triangles written into a list, while there is room: one pair, and those of a triangle with its candidates.
 
+ghost use Rattle.std.specs.Prelude.{◌≤◌, length};
+ghost use Rattle.spec_charts.specs.Overlay.{max_pairs};
+ghost use Rattle.spec_calls.specs.Buffers.{pairs_length};
 ghost use Rattle.overlay_pairs.specs.Pairs.{pair_if, near_pairs, Wrote, TriangleIn, NearTriangles, PairsRoom};
 
 use base_interiors::differences;
@@ -10,7 +13,7 @@ pub const MOST_PAIRS: usize = 4096;
 // Pair (i, j) after those found, if their triangles meet: how many there are then, or none where they are too many.
 // Kept: the count beside the list, which has room past the pairs found.
 fn put_pair(meet: bool, i: u16, j: u16, pairs: &mut [u16], found: usize) -> Option<usize>
-    requires { PairsRoom found pairs.old }
+    requires { (found ≤ max_pairs) × (pairs_length ≤ length pairs.old) }
     ensures { Wrote (pair_if meet i j) found result pairs.old pairs.new }
 {
     if !meet {
@@ -24,7 +27,8 @@ fn put_pair(meet: bool, i: u16, j: u16, pairs: &mut [u16], found: usize) -> Opti
     Some(found + 1)
 }
 
-// The pairs of triangle i with the triangles of a list, where they have a common interior point, after those found.
+// The pairs of triangle i with the triangles of a list, where they have a common interior point, after those found: none where these
+// are too many already.
 pub fn put_near(
     first: &[u16],
     i: usize,
@@ -37,6 +41,9 @@ pub fn put_near(
     requires pairs_room { PairsRoom found pairs.old }
     ensures { Wrote (near_pairs first.now second.now i near.now) found result pairs.old pairs.new }
 {
+    if found > MOST_PAIRS {
+        return None;
+    }
     let sides = differences::differences_of(base_tables::triangle_at(first, i));
     let mut c = found;
     for j in near {

@@ -9,7 +9,7 @@ use native.Mathlib.Omega.{arith}
 use lib.ListN.{length, get_or, length-append}
 use lib.Seq.{sets}
 use Rattle.theory_lists.specs.Lists.{filter, only, part}
-use Rattle.theory_lists.proofs.ListsLaws.{sets-join}
+use Rattle.theory_lists.proofs.ListsLaws.{sets-join, sets-length}
 use Rattle.theory_lists.proofs.FilterLaws.{filter-snoc, filter-length}
 use Rattle.theory_lists.proofs.PartLaws.{part_length, part_none, part-snoc}
 use Rattle.theory_lists.proofs.StoredLaws.{get_or-before}
@@ -29,6 +29,10 @@ module _ {m : ℕ → Bool} {l : List ℕ} {f t : ℕ} (within : t ≤ length l)
   -- what is still to be read stands as before
   pub narrowing-read : {l' : List ℕ} {k top : ℕ} → Narrowing m l l' f t k top → k < t → get_or l' k 0 ≡ get_or l k 0
   narrowing-read {k = k} n h = ap (λ x. get_or x k 0) n.stored ∙ get_or-before l t (filter m (part f k l)) k h
+
+  -- the stack is as long as before
+  pub narrowing-length : {l' : List ℕ} {k top : ℕ} → Narrowing m l l' f t k top → length l' ≡ length l
+  narrowing-length {k = k} n = sets-length l t (filter m (part f k l)) n.stored
 
   -- no more are stored than are read
   pub narrowing-room : {l' : List ℕ} {k top : ℕ} → Narrowing m l l' f t k top → top ≤ t + (k - f)

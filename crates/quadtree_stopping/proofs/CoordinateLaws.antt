@@ -9,6 +9,7 @@ use Rattle.spec_plane.specs.declared.Point.{Point}
 use Rattle.spec_charts.specs.Table.{numbers_per_triangle, point_at, triangle_at}
 use Rattle.quadtree_shapes.specs.Shape.{triangle_corners, coordinates}
 use Rattle.quadtree_shapes.specs.Masks.{unpacked, unpacked_triangle}
+use Rattle.quadtree_cells.specs.Stack.{Rows, Ready}
 
 -- ---- coordinates
 
@@ -17,6 +18,10 @@ pub coordinates-length : (ps : List ℕ) → length (coordinates ps) ≡ 2 * len
 unfolding coordinates
 coordinates-length [] = refl
 coordinates-length (p ∷ ps) = ap (λ n. suc (suc n)) (coordinates-length ps) ∙ omega arith
+
+-- the corners of the candidates are there
+pub ready-rows : {n f t : ℕ} {shape offsets l : List ℕ} (cs : List ℕ) → Ready n f t (coordinates cs) shape offsets l → Rows triangle_corners f t cs l
+ready-rows cs r = λ k a b. let h = r.held k a b in omega (arith, r.tables, coordinates-length cs)
 
 -- x of point j
 x-at : (ps : List ℕ) (j : ℕ) → get_or (coordinates ps) (2 * j) 0 ≡ get_or ps j 0 % 65536

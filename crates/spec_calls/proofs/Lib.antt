@@ -3,3 +3,4 @@ pub mod BufferExamples
 pub mod CallExamples
 pub mod LargeExamples
 pub mod WholeNumbers
+pub mod SameListsLaws

@@ -1,6 +1,6 @@
 -- What a caller lends to a call: each list as it is at entry and at exit, so that a contract names a chart in a word.
 -- Assumes nothing.
-use Rattle.std.specs.Prelude.{◌≡◌, List, ℕ}
+use Rattle.std.specs.Prelude.{◌≡◌, List, ℕ, length}
 use Rattle.std.specs.Borrow.{Bor, MutBor}
 use denote.Triple.Both.{Both}
 use Rattle.spec_calls.specs.Buffers.{Chart, chart_of}
@@ -15,12 +15,16 @@ viewed v = chart_of v.table.now v.keys.now v.levels.now v.items.now v.triangles 
 abbrev pub viewed_mut : ChartMut → Chart
 viewed_mut c = chart_of c.table.now c.keys.now c.levels.now c.items.now c.triangles c.entries
 
--- the lists of a chart lent to be written are the same four lists of the caller's before and after
+-- the lists of a chart lent to be written are the same four lists of the caller's before and after, and as long as before
 pub record SameLists (before after : ChartMut) : Type 0 where
   pub table : after.table.ghost_name ≡ before.table.ghost_name
   pub keys : after.keys.ghost_name ≡ before.keys.ghost_name
   pub levels : after.levels.ghost_name ≡ before.levels.ghost_name
   pub items : after.items.ghost_name ≡ before.items.ghost_name
+  pub table_length : length after.table.now ≡ length before.table.now
+  pub keys_length : length after.keys.now ≡ length before.keys.now
+  pub levels_length : length after.levels.now ≡ length before.levels.now
+  pub items_length : length after.items.now ≡ length before.items.now
 
 -- a list that a caller lends to be read, at one moment
 abbrev pub Held : Type 0

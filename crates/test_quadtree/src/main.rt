@@ -6,8 +6,25 @@
 
 #![tactic(auto)]
 
+ghost use Rattle.std.specs.Prelude.{◌≤◌};
+ghost use Rattle.spec_charts.specs.Cells.{max_entries};
+
 use base_tables::{MOST_ENTRIES, MOST_TRIANGLES, TABLE_NUMBERS, TRIANGLE_NUMBERS};
 use std::io::Read;
+
+// Writes the line of an entry, as the log writes its lines. Kept from println!, by which a run of full tables takes half as many
+// instructions again (docs/LOOK-BACK.md).
+fn print_entry(rt: &impl Print, key: u32, level: u8, item: u16) {
+    let mut line = [0u8; 64];
+    let parts = [u64::from(level), u64::from(item)];
+    let end = log_lines::put_line(u64::from(key), &parts, &mut line, 0);
+    let _ = rt.write_all(&line[..end]);
+}
+
+// All places of a list hold 0. Kept from `all`, which ends at the first that doesn't, and so looks at one place at a time.
+fn is_zero<T: Copy + Into<u32>>(list: &[T]) -> bool {
+    list.iter().fold(0u32, |bits, x| bits | (*x).into()) == 0
+}
 
 // The lists of the entries.
 #[derive(Drop)]
@@ -22,15 +39,15 @@ impl Entries {
     fn print(&self, rt: &impl Print, n: usize) {
         let lists = self.keys.iter().zip(&self.levels).zip(&self.items);
         for ((key, level), item) in lists.take(n) {
-            let _ = println!(rt; "{key} {level} {item}");
+            print_entry(rt, *key, *level, *item);
         }
     }
 
     // The places from n on hold 0.
-    fn is_zero_from(&self, n: usize) -> bool {
-        self.keys.iter().skip(n).all(|x| *x == 0)
-            & self.levels.iter().skip(n).all(|x| *x == 0)
-            & self.items.iter().skip(n).all(|x| *x == 0)
+    fn is_zero_from(&self, n: usize) -> bool
+        requires { n ≤ max_entries }
+    {
+        is_zero(&self.keys[n..]) & is_zero(&self.levels[n..]) & is_zero(&self.items[n..])
     }
 
     // Builds the entries of a table and writes them.

@@ -3,7 +3,7 @@
 use spec_calls::{ChartMut, ChartView};
 
 // The buffers of a chart.
-#[derive(Drop)]
+#[derive(Clone, Copy)]
 pub struct Buffers<const TABLE: usize, const LIST: usize> {
     pub table: [u16; TABLE],
     pub keys: [u32; LIST],
@@ -61,7 +61,7 @@ pub const LIST: usize = 16500;
 pub const PAIRS: usize = 8300;
 
 // A chart, and what is lent of it.
-#[derive(Drop)]
+#[derive(Clone, Copy)]
 pub struct Chart {
     pub buffers: Buffers<TABLE, LIST>,
     pub lent: Lent,
@@ -147,7 +147,7 @@ pub enum Which {
 }
 
 // Two charts.
-#[derive(Drop)]
+#[derive(Clone, Copy)]
 pub struct Charts {
     pub first: Chart,
     pub second: Chart,
@@ -172,7 +172,7 @@ impl Charts {
 }
 
 // The pairs, and how many places of them are lent.
-#[derive(Drop)]
+#[derive(Clone, Copy)]
 pub struct Pairs {
     pub list: [u16; PAIRS],
     pub lent: usize,
@@ -187,7 +187,7 @@ impl Pairs {
 }
 
 // The two charts and the pairs.
-#[derive(Drop)]
+#[derive(Clone, Copy)]
 pub struct State {
     pub charts: Charts,
     pub pairs: Pairs,

@@ -1,17 +1,12 @@
-use mathlib.Core.Path.{◌∙◌}
 use borrow.Author.Rules.{rules}
 use Rattle.log_events.specs.declared.BothCharts.{BothCharts}
 use Rattle.log_events.specs.Both.{SameBoth}
-use Rattle.spec_calls.specs.declared.ChartMut.{ChartMut}
-use Rattle.spec_calls.specs.Lent.{SameLists}
+use Rattle.spec_calls.proofs.SameListsLaws.{same-lists}
 use Rattle.log_reader.proofs.ReadLaws.{read_none, read_more}
 use Rattle.log_reader.proofs.read_portion.Goals as goal
 
-same-lists : {a b c : ChartMut} → SameLists b c → SameLists a b → SameLists a c
-same-lists h k = record { table = h.table ∙ k.table; keys = h.keys ∙ k.keys; levels = h.levels ∙ k.levels; items = h.items ∙ k.items }
-
 same-both : {a b c : BothCharts} → SameBoth b c → SameBoth a b → SameBoth a c
-same-both h k = record { first = same-lists h.first k.first; second = same-lists h.second k.second }
+same-both h k = record { first = same-lists k.first h.first; second = same-lists k.second h.second }
 
 pub loop-used-init : goal.loop-used-init
 loop-used-init c = record { read = read_none _ _ _ _ _ _ c.requires.ready.0; same_lists = search rules }

@@ -1,5 +1,6 @@
 use Rattle.std.proofs.Common.{sym, ◌∙◌, ap}
 use Rattle.spec_calls.specs.Lent.{viewed_mut}
+use Rattle.spec_calls.proofs.SameListsLaws.{same-lists}
 use Rattle.replay_lists.proofs.RunLaws.{run-within, run-call, run-rest, run-none}
 use Rattle.replay_lists.proofs.run_calls.Goals as goal
 
@@ -16,18 +17,11 @@ loop-size-preserved c =
     let l = c.loop-size in
     let is = c.in-Some.ensures in
     let called = c.run_call-answer.ensures.called in
-    let here = c.run_call-answer.ensures.same_lists in
-    let before = l.invariant.same_lists in
     record {
       ran =
           rw c.split_at.ensures.back
           (run-rest l.left.now is.0 is.1 (viewed_mut l.chart) (rw c.split_at.ensures.front at (ap (λ d. d.chart) called)) ∙ l.invariant.ran);
-      same_lists = record {
-        table = here.table ∙ before.table;
-        keys = here.keys ∙ before.keys;
-        levels = here.levels ∙ before.levels;
-        items = here.items ∙ before.items;
-      };
+      same_lists = same-lists l.invariant.same_lists c.run_call-answer.ensures.same_lists;
     }
 
 pub returns-clause-ran : goal.returns-clause-ran

@@ -3,6 +3,8 @@ use native.Mathlib.Omega.{arith}
 use lib.ListN.{get_or}
 use Rattle.spec_charts.specs.Table.{triangle_at}
 use Rattle.base_interiors.proofs.InteriorsLaws.{handed-corners, told-corners}
+use Rattle.overlay_pairs.specs.Pairs.{near_pairs}
+use Rattle.overlay_pairs.proofs.WroteLaws.{wrote-already}
 use Rattle.overlay_pairs.proofs.PairLaws.{pairs-none, pairs-more, pairs-over}
 use Rattle.overlay_pairs.proofs.pair_writes.put_near.Goals as goal
 
@@ -11,7 +13,7 @@ loop-j-init c =
     let a = c.args in
     record {
       handed = handed-corners (triangle_at a.first.now a.i) c.triangle_at.ensures c.differences_of-sides.ensures;
-      wrote = pairs-none a.first.now a.second.now a.i a.near.now a.found a.pairs.now c.requires.pairs_room.few;
+      wrote = pairs-none a.first.now a.second.now a.i a.near.now a.found a.pairs.now (omega arith);
     }
 
 pub loop-j-preserved : goal.loop-j-preserved
@@ -34,3 +36,6 @@ returns-in_err-c c =
     let t = triangle_at a.second.now (get_or a.near.now l.j-index 0) in
     let meet = told-corners s t c.triangle_at-in-loop-j.ensures (c.interiors_meet-meet.ensures.value s l.invariant.handed.0) in
     rw c.from_residual.ensures (pairs-over a.first.now a.second.now a.i a.near.now l.j-index (omega arith) meet l.invariant.wrote c.in_err-c.ensures)
+
+pub returns-then-found-gt-MOST_PAIRS : goal.returns-then-found-gt-MOST_PAIRS
+returns-then-found-gt-MOST_PAIRS c = let a = c.args in wrote-already (near_pairs a.first.now a.second.now a.i a.near.now) a.found a.pairs.now (omega arith)

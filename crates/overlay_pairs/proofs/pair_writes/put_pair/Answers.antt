@@ -4,7 +4,7 @@ use Rattle.overlay_pairs.proofs.WroteLaws.{wrote_none, wrote_one}
 use Rattle.overlay_pairs.proofs.pair_writes.put_pair.Goals as goal
 
 pub returns-then-not-meet : goal.returns-then-not-meet
-returns-then-not-meet c = let a = c.args in rw c.if-not-meet.true (wrote_none a.found a.pairs.now c.requires.few)
+returns-then-not-meet c = let a = c.args in rw c.if-not-meet.true (wrote_none a.found a.pairs.now c.requires.0)
 
 pub returns : goal.returns
 returns c =
