@@ -12,8 +12,8 @@ ghost use Rattle.spec_charts.specs.Cells.{max_entries};
 use base_tables::{MOST_ENTRIES, MOST_TRIANGLES, TABLE_NUMBERS, TRIANGLE_NUMBERS};
 use std::io::Read;
 
-// Writes the line of an entry, as the log writes its lines. Kept from println!, by which a run of full tables takes half as many
-// instructions again (docs/LOOK-BACK.md).
+// Writes the line of an entry, as the log writes its lines. Kept from println!, by which a run of full tables takes three quarters as
+// many instructions again (docs/LOOK-BACK.md).
 fn print_entry(rt: &impl Print, key: u32, level: u8, item: u16) {
     let mut line = [0u8; 64];
     let parts = [u64::from(level), u64::from(item)];
